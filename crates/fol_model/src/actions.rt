@@ -1,0 +1,142 @@
+//! What a task does.
+
+ghost use Rattle.std.specs.Prelude.{◌≡◌, IfOk};
+
+use crate::{BlockPos, ChunkPos, Entity};
+use std::alloc::{AllocError, Global};
+use std::marker::Model;
+
+/// What a task does in a tick.
+#[derive(Drop)]
+#[cycle(action)]
+pub enum Action {
+    /// Gives a block a number, where its chunk is recorded.
+    Set {
+        at: BlockPos,
+        id: u16,
+    },
+    /// Gives the block `to` the number that `at` has now, where both chunks are recorded.
+    Copy {
+        at: BlockPos,
+        to: BlockPos,
+    },
+    /// Adds a ticket to a chunk, at once.
+    Load(ChunkPos),
+    /// Takes a ticket from a chunk, at once.
+    Unload(ChunkPos),
+    /// Asks for a task, which is accepted at the end of the tick.
+    Post {
+        chunk: ChunkPos,
+        delay: u32,
+        action: Nested,
+    },
+    /// Sends an entity to a block, where it stands in a recorded chunk.
+    Send {
+        entity: u32,
+        to: BlockPos,
+    },
+    /// The entity that was sent arrives. Made by `Send` alone.
+    Arrive(Entity),
+    /// Does the inner action, and asks for itself again after `period` ticks where `left` is 2 or more.
+    Every {
+        period: u32,
+        left: u32,
+        action: Nested,
+    },
+}
+
+/// An action inside another. Contracts see its deed: what stands round it, from the outside in, and what it does.
+#[derive(Drop)]
+#[cycle(action)]
+pub struct Nested {
+    boxed: Box<Action>,
+}
+
+impl Model for Nested {
+    ghost use Rattle.std.specs.Prelude.{length};
+    ghost use Rattle.fol_model.specs.Deed.{Deed};
+
+    ghost Value = { Deed };
+
+    ghost use Rattle.fol_model.specs.Nesting.{deed_of};
+
+    ghost view = { λ a. deed_of a.boxed.value };
+
+    ghost size = { λ d. length d.wraps };
+
+    ghost use Rattle.std.proofs.Common.{arith};
+
+    ghost size_decreases = { λ a h. Prim.grind (arith) };
+}
+
+impl Nested {
+    ghost use Rattle.std.specs.Prelude.{◌≡◌, IfOk};
+    ghost use Rattle.fol_model.specs.Nesting.{deed_of};
+
+    /// Puts an action inside another.
+    pub fn new(alloc: Global, action: Action) -> Result<Nested, AllocError>
+        ensures { IfOk result (λ n. n ≡ deed_of action) }
+    {
+        Ok(Nested {
+            boxed: Box::new(alloc, action)?,
+        })
+    }
+
+    /// The action.
+    pub fn get(&self) -> &Action
+        ensures { deed_of result.now ≡ self.now }
+    {
+        &*self.boxed
+    }
+
+    /// The action, taken out.
+    pub fn into_action(self) -> Action
+        ensures { deed_of result ≡ self }
+    {
+        let Nested { boxed } = self;
+        Box::into_inner(boxed)
+    }
+}
+
+impl Action {
+    /// An equal action. Answers want of memory alone.
+    pub fn copy(&self, alloc: Global) -> Result<Action, AllocError>
+        ensures { IfOk result (λ a. a ≡ self.now) }
+    {
+        Ok(match self {
+            Action::Set { at, id } => Action::Set { at: *at, id: *id },
+            Action::Copy { at, to } => Action::Copy { at: *at, to: *to },
+            Action::Load(chunk) => Action::Load(*chunk),
+            Action::Unload(chunk) => Action::Unload(*chunk),
+            Action::Post {
+                chunk,
+                delay,
+                action,
+            } => {
+                let inner = action.get().copy(alloc)?;
+                Action::Post {
+                    chunk: *chunk,
+                    delay: *delay,
+                    action: Nested::new(alloc, inner)?,
+                }
+            }
+            Action::Send { entity, to } => Action::Send {
+                entity: *entity,
+                to: *to,
+            },
+            Action::Arrive(entity) => Action::Arrive(*entity),
+            Action::Every {
+                period,
+                left,
+                action,
+            } => {
+                let inner = action.get().copy(alloc)?;
+                Action::Every {
+                    period: *period,
+                    left: *left,
+                    action: Nested::new(alloc, inner)?,
+                }
+            }
+        })
+    }
+}

@@ -1,0 +1,23 @@
+//! Entities and where they are.
+
+use crate::BlockPos;
+
+/// An entity that stands at a block and moves by its speed in each tick of the region that has it.
+///
+/// Within the limits `id` is 1 to 1,000,000,000 and each speed is -16 to 16.
+#[derive(Clone, Copy, Debug, PartialEq, Eq)]
+pub struct Entity {
+    pub id: u32,
+    pub at: BlockPos,
+    pub vx: i32,
+    pub vz: i32,
+}
+
+/// Where an entity is.
+#[derive(Clone, Copy, Debug, PartialEq, Eq)]
+pub enum Place {
+    /// It stands at this block.
+    At(BlockPos),
+    /// It is on its way: the task with this number is its arrival.
+    Transit(u64),
+}

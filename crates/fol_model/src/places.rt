@@ -1,0 +1,95 @@
+//! Places of chunks, sections and blocks.
+
+ghost use Rattle.std.specs.Prelude.{◌≡◌, pos, nat_abs, nat_le, int_le, ◌&&◌};
+ghost use Rattle.fol_model.specs.Geometry.{distance as distance_between, is_block, is_chunk, is_section, chunk_of as chunk_around};
+
+/// The place of a chunk: a column of 16 by 16 blocks.
+///
+/// Within the limits each coordinate is -1,000,000 to 1,000,000.
+#[derive(Clone, Copy, Debug, PartialEq, Eq)]
+pub struct ChunkPos {
+    pub x: i32,
+    pub z: i32,
+}
+
+/// The place of a section: a square of `2^shift` by `2^shift` chunks.
+///
+/// Within the limits each coordinate is -1,000,008 to 1,000,008, so that the margin of every chunk within its limits is within them.
+#[derive(Clone, Copy, Debug, PartialEq, Eq)]
+pub struct SectionPos {
+    pub x: i32,
+    pub z: i32,
+}
+
+/// The place of a block.
+///
+/// Within the limits `x` and `z` are -16,000,000 to 16,000,015 and `y` is 0 to 255.
+#[derive(Clone, Copy, Debug, PartialEq, Eq)]
+pub struct BlockPos {
+    pub x: i32,
+    pub y: i32,
+    pub z: i32,
+}
+
+impl ChunkPos {
+    /// Whether the place is within the limits.
+    #[tactic(auto, unfolding(crate::specs::Geometry::is_chunk))]
+    pub fn in_range(self) -> bool
+        ensures { result ≡ is_chunk self }
+    {
+        is_near(self.x, 1_000_000) && is_near(self.z, 1_000_000)
+    }
+}
+
+impl SectionPos {
+    /// Whether the place is within the limits.
+    #[tactic(auto, unfolding(crate::specs::Geometry::is_section))]
+    pub fn in_range(self) -> bool
+        ensures { result ≡ is_section self }
+    {
+        is_near(self.x, 1_000_008) && is_near(self.z, 1_000_008)
+    }
+}
+
+impl BlockPos {
+    /// Whether the place is within the limits.
+    #[tactic(auto, unfolding(crate::specs::Geometry::is_block))]
+    pub fn in_range(self) -> bool
+        ensures { result ≡ is_block self }
+    {
+        chunk_of(self).in_range() && is_height(self.y)
+    }
+}
+
+/// The chunk that the block is in.
+#[tactic(auto, unfolding(crate::specs::Geometry::chunk_of))]
+pub fn chunk_of(b: BlockPos) -> ChunkPos
+    ensures { result ≡ chunk_around b }
+{
+    ChunkPos {
+        x: b.x.div_euclid(16),
+        z: b.z.div_euclid(16),
+    }
+}
+
+/// The greater of the two coordinate differences.
+#[tactic(auto, unfolding(crate::specs::Geometry::distance))]
+pub fn distance(a: SectionPos, b: SectionPos) -> u32
+    ensures { result ≡ distance_between a b }
+{
+    a.x.abs_diff(b.x).max(a.z.abs_diff(b.z))
+}
+
+/// Whether a coordinate is at most `limit` away from 0.
+fn is_near(coordinate: i32, limit: u32) -> bool
+    ensures { result ≡ nat_le (nat_abs coordinate) limit }
+{
+    coordinate.unsigned_abs() <= limit
+}
+
+/// Whether a height is one of a block.
+fn is_height(y: i32) -> bool
+    ensures { result ≡ (int_le (pos 0) y && int_le y (pos 255)) }
+{
+    0 <= y && y <= 255
+}
