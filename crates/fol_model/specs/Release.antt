@@ -92,3 +92,7 @@ cleaned g t = record g {
 
 unfoldable pub release : GridState → ℕ → GridState
 release g t = if must_wait g t then held g t else (if cleans g t then cleaned g t else rested g t)
+
+-- this release makes several parts, and r is the id of one of them
+abbrev pub is_new_part : GridState → ℕ → ℕ → Bool
+is_new_part g t r = (not (must_wait g t) && cleans g t) && is_part_id g t r
