@@ -1,0 +1,18 @@
+//! A place that each tick passes.
+
+/// Is called once between the begin and the release of each tick, outside the lock.
+///
+/// It says nothing of content, and nothing that a run promises depends on it: a test holds ticks at a gate
+/// of its own, to see several of them at one moment.
+pub trait Gate {
+    /// The worker of this number, from 1, has begun a tick of the region and has not released it.
+    fn passed(&self, worker: u32, region: u64);
+}
+
+/// A gate that does nothing.
+#[derive(Clone, Copy, Debug, Default)]
+pub struct QuietGate;
+
+impl Gate for QuietGate {
+    fn passed(&self, _worker: u32, _region: u64) {}
+}
