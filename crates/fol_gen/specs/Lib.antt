@@ -1,0 +1,2 @@
+pub mod MadeScript
+pub mod MadeTexts

@@ -1,0 +1,5 @@
+use Rattle.fol_laws.proofs.DetachedLaws.{tick_changes_its_chunks}
+use Rattle.fol_laws.proofs.detached.tick_changes_its_chunks.Goals as goal
+
+pub returns : goal.returns
+returns c = tick_changes_its_chunks

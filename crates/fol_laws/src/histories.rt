@@ -1,0 +1,10 @@
+//! What a history is read for.
+//!
+//! The world after a history is a function of the opening and the history, `world` of `fol_model`, so there is exactly one.
+
+ghost use Rattle.fol_laws.specs.ByUnread.{ByIsNotRead};
+
+/// Two histories that differ only in who recorded the entries lead to one world, and one is a run where the other is.
+pub fn by_is_not_read()
+    ensures { ByIsNotRead }
+{}
