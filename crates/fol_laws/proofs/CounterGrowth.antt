@@ -23,15 +23,15 @@ use Rattle.fol_model.specs.declared.events.Event.TheVariants.{Load, Unload, Post
 use Rattle.fol_model.specs.declared.events.Entry.{Entry}
 use Rattle.fol_laws.proofs.FunctionsChanged.{at_here, at_other}
 
-tick_loaded : (w : World) (c : ChunkPos) → (loaded w c).tick ≡ w.tick
+pub tick_loaded : (w : World) (c : ChunkPos) → (loaded w c).tick ≡ w.tick
 unfolding loaded
 tick_loaded w c = elim (cases_Bool (is_full w.grid c)) [ inl f ↦ rw f refl | inr f ↦ rw f refl ]
 
-tick_unloaded : (w : World) (c : ChunkPos) → (unloaded w c).tick ≡ w.tick
+pub tick_unloaded : (w : World) (c : ChunkPos) → (unloaded w c).tick ≡ w.tick
 unfolding unloaded
 tick_unloaded w c = elim (cases_Bool (nat_eq (w.tickets c) 0)) [ inl f ↦ rw f refl | inr f ↦ rw f refl ]
 
-tick_posted : (w : World) (c : ChunkPos) (d : ℕ) (a : Action) → (posted w c d a).tick ≡ w.tick
+pub tick_posted : (w : World) (c : ChunkPos) (d : ℕ) (a : Action) → (posted w c d a).tick ≡ w.tick
 unfolding posted
 tick_posted w c d a = elim (cases_Bool (is_full w.grid c)) [ inl f ↦ rw f refl | inr f ↦ rw f refl ]
 
@@ -46,7 +46,7 @@ tick_put_back w (action.Arrive e) None = refl
 tick_put_back w (action.Arrive e) (Some b) = refl
 tick_put_back w (action.Every p l inner) b = refl
 
-tick_accepted : (w : World) (x : Wish) → (accepted w x).tick ≡ w.tick
+pub tick_accepted : (w : World) (x : Wish) → (accepted w x).tick ≡ w.tick
 unfolding accepted
 tick_accepted w x = elim (cases_Bool (is_full w.grid x.chunk)) [ inl f ↦ rw f (tick_put_back w x.action x.back) | inr f ↦ rw f (tick_posted w x.chunk x.delay x.action) ]
 
@@ -54,11 +54,11 @@ tick_all : (w : World) (xs : List Wish) → (all_accepted w xs).tick ≡ w.tick
 tick_all w [] = refl
 tick_all w (x ∷ xs) = tick_all (accepted w x) xs ∙ tick_accepted w x
 
-tick_begun : (w : World) (worker r : ℕ) → (begun w worker r).tick ≡ w.tick
+pub tick_begun : (w : World) (worker r : ℕ) → (begun w worker r).tick ≡ w.tick
 unfolding begun
 tick_begun w worker r = refl
 
-tick_down : (w : World) (r : ℕ) (ran : List Ran) → (run_down w r ran).tick ≡ at_id w.tick r (w.tick r + 1)
+pub tick_down : (w : World) (r : ℕ) (ran : List Ran) → (run_down w r ran).tick ≡ at_id w.tick r (w.tick r + 1)
 unfolding dropped
 tick_down w r ran = refl
 

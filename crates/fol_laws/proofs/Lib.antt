@@ -53,6 +53,7 @@ pub mod PlaceOfEntity
 -- all of it, at every point
 pub mod CounterGrowth
 pub mod NumberGrowth
+pub mod NewCounters
 pub mod WholeRuns
 -- ownership and the detached tick
 pub mod UnseenTicks

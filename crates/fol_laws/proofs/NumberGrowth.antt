@@ -46,7 +46,7 @@ add_next g c = elim (cases_Bool (is_full g c)) [
 ]
 
 module _ (g : GridState) (t : ℕ) (free : must_wait g t ≡ false) (cleaning : cleans g t ≡ true) (several : nat_le 2 (parts g t) ≡ true) where
-  next_is : (release g t).next ≡ g.next + parts g t
+  pub next_is : (release g t).next ≡ g.next + parts g t
   unfolding release
   next_is = rw (free, cleaning, several) refl
 

@@ -1,5 +1,5 @@
 -- How far the numbers of a world can have grown.
-use Rattle.std.specs.Prelude.{ℕ, ◌+◌, ◌*◌, ◌≤◌, List, [], ◌∷◌, ◌++◌, length}
+use Rattle.std.specs.Prelude.{ℕ, ◌≡◌, ◌+◌, ◌*◌, ◌≤◌, List, [], ◌∷◌, ◌++◌, length}
 use Rattle.fol_model.specs.declared.openings.Opening.{Opening}
 use Rattle.fol_model.specs.declared.events.Event.{Event}
 use Rattle.fol_model.specs.declared.events.Event.TheVariants.{End}
@@ -7,6 +7,7 @@ use Rattle.fol_model.specs.declared.events.Entry.{Entry}
 use Rattle.fol_model.specs.GridNumbers.{IsGrid}
 use Rattle.fol_model.specs.World.{World}
 use Rattle.fol_model.specs.Run.{Run, world}
+use Rattle.fol_laws.specs.Points.{AtEveryPoint}
 
 abbrev pub ends_in : Event → ℕ
 ends_in (End worker r tick ran accepts) = 1
@@ -41,3 +42,10 @@ TaskNumbersGrow = (o : Opening) (es rest : List Entry) → IsGrid o.grid → Run
 -- the next region id is at most 1, and one more for each entry and each answer, and 1,820 more for each End
 abbrev pub RegionIdsGrow : Type 0
 RegionIdsGrow = (o : Opening) (es rest : List Entry) → IsGrid o.grid → Run o (es ++ rest) → (world o es).grid.next ≤ 1 + length es + answered es + 1820 * ends es
+
+-- a region that was not given out yet has counter 0, so a new one that is no part of a split begins with it
+abbrev pub NewCountersAreZero : World → Type 0
+NewCountersAreZero w = (r : ℕ) → w.grid.next ≤ r → w.tick r ≡ 0
+
+abbrev pub NewRegionsBeginAtZero : Type 0
+NewRegionsBeginAtZero = AtEveryPoint (λ o w. NewCountersAreZero w)

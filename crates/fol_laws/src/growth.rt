@@ -1,7 +1,7 @@
 //! How far the numbers of a world grow.
 
 ghost use Rattle.fol_laws.specs.Tasks.{EachTaskIsWithinLimits, EachTaskIsBelowNext};
-ghost use Rattle.fol_laws.specs.Growth.{CountersCountEnds, TaskNumbersGrow, RegionIdsGrow};
+ghost use Rattle.fol_laws.specs.Growth.{CountersCountEnds, NewRegionsBeginAtZero, TaskNumbersGrow, RegionIdsGrow};
 
 /// Each task is within its limits: a queued one has a rest of 1 to 1,000,000, and a taken one belongs to a Ticking region.
 pub fn each_task_is_within_limits()
@@ -26,4 +26,9 @@ pub fn task_numbers_grow()
 /// The next region id is at most 1, one more for each entry and for each answer that an End lists, and 1,820 more for each End.
 pub fn region_ids_grow()
     ensures { RegionIdsGrow }
+{}
+
+/// A region that was not given out yet has counter 0.
+pub fn new_regions_begin_at_zero()
+    ensures { NewRegionsBeginAtZero }
 {}
