@@ -1,0 +1,22 @@
+-- Words one after another are the line of these words.
+use Rattle.std.proofs.Common.{◌≡◌, refl, sym, ap, List, [], ◌++◌, ◌∷◌}
+use Rattle.std.proofs.lemmas.List.{append-nil}
+use Rattle.std.proofs.lemmas.List.Concat.{flat_map-append}
+use Rattle.fol_model.specs.LineWords.{Word, lines_of}
+use Rattle.fol_model.specs.TextLines.{line_of}
+use Rattle.fol_report.specs.Spaced.{spaced, joined, joined_lines}
+
+pub spaced_append : (xs ys : List Word) → spaced (xs ++ ys) ≡ spaced xs ++ spaced ys
+spaced_append xs ys = flat_map-append (λ w. 32 ∷ w) xs ys
+
+after_first : (w : Word) (ws : List Word) → line_of (w ∷ ws) ≡ w ++ spaced ws
+after_first w [] = sym (append-nil w)
+after_first w (v ∷ vs) = ap (λ t. w ++ 32 ∷ t) (after_first v vs)
+
+pub line_of_joined : (ws : List Word) → line_of ws ≡ joined ws
+line_of_joined [] = refl
+line_of_joined (w ∷ ws) = after_first w ws
+
+pub joined_lines_of : {R : Type 0} (words : R → List Word) (rows : List R) → joined_lines words rows ≡ lines_of words rows
+joined_lines_of words [] = refl
+joined_lines_of words (r ∷ rows) = let e = line_of_joined (words r) in let k = joined_lines_of words rows in rw (e, k) refl

@@ -1,0 +1,5 @@
+pub mod Joined
+pub mod JsonText
+pub mod NoFloat
+pub mod PlainBytes
+pub mod PlainWords

@@ -1,0 +1,3 @@
+pub mod JsonData
+pub mod Spaced
+pub mod Tallies

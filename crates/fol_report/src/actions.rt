@@ -1,0 +1,66 @@
+//! The words of an action.
+
+ghost use Rattle.std.specs.Prelude.{◌≡◌, ◌++◌, IfOk, string_bytes};
+ghost use Rattle.fol_model.specs.ReportWords.{action_words};
+ghost use Rattle.fol_report.specs.Spaced.{spaced};
+
+use crate::words::{put_block, put_chunk, put_number, put_word};
+use fol_model::Action;
+use std::alloc::AllocError;
+
+/// Puts the words of an action, from the outside in.
+#[tactic(auto, unfolding(fol_model::specs::ReportWords::action_words))]
+pub fn put_action(out: &mut String, action: &Action) -> Result<(), AllocError>
+    ensures { IfOk result (λ _. string_bytes out.new ≡ string_bytes out.old ++ spaced (action_words action.now)) }
+{
+    match action {
+        Action::Set { at, id } => {
+            put_word(out, "set")?;
+            put_block(out, *at)?;
+            put_number(out, *id)
+        }
+        Action::Copy { at, to } => {
+            put_word(out, "copy")?;
+            put_block(out, *at)?;
+            put_block(out, *to)
+        }
+        Action::Load(chunk) => {
+            put_word(out, "load")?;
+            put_chunk(out, *chunk)
+        }
+        Action::Unload(chunk) => {
+            put_word(out, "unload")?;
+            put_chunk(out, *chunk)
+        }
+        Action::Post {
+            chunk,
+            delay,
+            action,
+        } => {
+            put_word(out, "post")?;
+            put_chunk(out, *chunk)?;
+            put_number(out, *delay)?;
+            put_action(out, action.get())
+        }
+        Action::Send { entity, to } => {
+            put_word(out, "send")?;
+            put_number(out, *entity)?;
+            put_block(out, *to)
+        }
+        Action::Arrive(entity) => {
+            put_word(out, "arrive")?;
+            put_number(out, entity.id)?;
+            put_block(out, entity.at)
+        }
+        Action::Every {
+            period,
+            left,
+            action,
+        } => {
+            put_word(out, "every")?;
+            put_number(out, *period)?;
+            put_number(out, *left)?;
+            put_action(out, action.get())
+        }
+    }
+}

@@ -1,0 +1,87 @@
+//! The words of answers: what a load, an unload, a post and a task came to.
+
+ghost use Rattle.std.specs.Prelude.{◌≡◌, ◌++◌, ◌∷◌, flat_map, IfOk, string_bytes};
+ghost use Rattle.fol_model.specs.ReportWords.{accept_words, full_words, loaded_words, outcome_word, ran_words, unloaded_words};
+ghost use Rattle.fol_report.specs.Spaced.{spaced};
+
+use crate::words::{put_number, put_word};
+use fol_model::{Accept, Loaded, Outcome, Ran, Unloaded};
+use std::alloc::AllocError;
+
+/// Puts the answer that too many sections would be present.
+fn put_full(out: &mut String, present: u32, wanted: u32) -> Result<(), AllocError>
+    ensures { IfOk result (λ _. string_bytes out.new ≡ string_bytes out.old ++ spaced (full_words present wanted)) }
+{
+    put_word(out, "full")?;
+    put_number(out, present)?;
+    put_number(out, wanted)
+}
+
+/// Puts what a load came to.
+pub fn put_loaded(out: &mut String, answer: Loaded) -> Result<(), AllocError>
+    ensures { IfOk result (λ _. string_bytes out.new ≡ string_bytes out.old ++ spaced (loaded_words answer)) }
+{
+    match answer {
+        Loaded::Counted => put_word(out, "counted"),
+        Loaded::Full { present, wanted } => put_full(out, present, wanted),
+        Loaded::Over => put_word(out, "over"),
+    }
+}
+
+/// Puts what an unload came to.
+pub fn put_unloaded(out: &mut String, answer: Unloaded) -> Result<(), AllocError>
+    ensures { IfOk result (λ _. string_bytes out.new ≡ string_bytes out.old ++ spaced (unloaded_words answer)) }
+{
+    match answer {
+        Unloaded::Lowered => put_word(out, "lowered"),
+        Unloaded::NoTicket => put_word(out, "noticket"),
+        Unloaded::Over => put_word(out, "over"),
+    }
+}
+
+/// Puts what became of a task that was asked for.
+pub fn put_accept(out: &mut String, answer: Accept) -> Result<(), AllocError>
+    ensures { IfOk result (λ _. string_bytes out.new ≡ string_bytes out.old ++ spaced (accept_words answer)) }
+{
+    match answer {
+        Accept::Posted(number) => {
+            put_word(out, "posted")?;
+            put_number(out, number)
+        }
+        Accept::Full { present, wanted } => put_full(out, present, wanted),
+    }
+}
+
+/// Puts what became of each task that a tick asked for.
+pub fn put_all_accepts(out: &mut String, answers: &[Accept]) -> Result<(), AllocError>
+    ensures { IfOk result (λ _. string_bytes out.new ≡ string_bytes out.old ++ spaced (flat_map accept_words answers.now)) }
+{
+    for answer in answers {
+        put_accept(out, *answer)?;
+    }
+    Ok(())
+}
+
+/// Puts what a task came to.
+fn put_outcome(out: &mut String, outcome: Outcome) -> Result<(), AllocError>
+    ensures { IfOk result (λ _. string_bytes out.new ≡ string_bytes out.old ++ 32 ∷ outcome_word outcome) }
+{
+    match outcome {
+        Outcome::Done => put_word(out, "done"),
+        Outcome::Foreign => put_word(out, "foreign"),
+        Outcome::Absent => put_word(out, "absent"),
+        Outcome::Full => put_word(out, "full"),
+        Outcome::NoTicket => put_word(out, "noticket"),
+    }
+}
+
+/// Puts the number and the outcome of each task that ran.
+pub fn put_all_ran(out: &mut String, ran: &[Ran]) -> Result<(), AllocError>
+    ensures { IfOk result (λ _. string_bytes out.new ≡ string_bytes out.old ++ spaced (flat_map ran_words ran.now)) }
+{
+    for task in ran {
+        put_number(out, task.number)?;
+        put_outcome(out, task.outcome)?;
+    }
+    Ok(())
+}

@@ -1,0 +1,129 @@
+//! The line of an event. The seat that recorded it is not written.
+
+ghost use Rattle.std.specs.Prelude.{◌≡◌, [], ◌∷◌, ◌++◌, codes, decimal, flat_map, length, IfOk, string_bytes};
+ghost use Rattle.fol_model.specs.ReportWords.{accept_words, end_words, entry_words, event_words, ran_words};
+ghost use Rattle.fol_report.specs.Spaced.{joined, spaced};
+
+use crate::actions::put_action;
+use crate::answers::{put_accept, put_all_accepts, put_all_ran, put_loaded, put_unloaded};
+use crate::lines::Line;
+use crate::words::{put_chunk, put_number};
+use fol_model::{Accept, Entry, Event, Ran};
+use std::alloc::AllocError;
+
+/// Puts the line of a begin: one of the two most frequent lines.
+fn put_begin(out: &mut String, worker: u32, region: u64) -> Result<(), AllocError>
+    ensures { IfOk result (λ _. string_bytes out.new ≡ string_bytes out.old ++ joined (codes "begin" ∷ decimal worker ∷ decimal region ∷ [])) }
+{
+    out.push_str("begin")?;
+    put_number(out, worker)?;
+    put_number(out, region)
+}
+
+/// Puts the tasks that ran, after their count.
+fn put_ran(out: &mut String, ran: &[Ran]) -> Result<(), AllocError>
+    ensures { IfOk result (λ _. string_bytes out.new ≡ string_bytes out.old ++ spaced (codes "ran" ∷ decimal (length ran.now) ∷ flat_map ran_words ran.now)) }
+{
+    out.push_str(" ran")?;
+    put_number(out, ran.len())?;
+    put_all_ran(out, ran)
+}
+
+/// Puts what became of the tasks that a tick asked for, after their count.
+fn put_accepted(out: &mut String, accepts: &[Accept]) -> Result<(), AllocError>
+    ensures { IfOk result (λ _. string_bytes out.new ≡ string_bytes out.old ++ spaced (codes "accepted" ∷ decimal (length accepts.now) ∷ flat_map accept_words accepts.now)) }
+{
+    out.push_str(" accepted")?;
+    put_number(out, accepts.len())?;
+    put_all_accepts(out, accepts)
+}
+
+/// Puts what the line of an end begins with: which tick it ends.
+fn put_ended(out: &mut String, worker: u32, region: u64, tick: u64) -> Result<(), AllocError>
+    ensures { IfOk result (λ _. string_bytes out.new ≡ string_bytes out.old ++ joined (codes "end" ∷ decimal worker ∷ decimal region ∷ codes "tick" ∷ decimal tick ∷ [])) }
+{
+    out.push_str("end")?;
+    put_number(out, worker)?;
+    put_number(out, region)?;
+    out.push_str(" tick")?;
+    put_number(out, tick)
+}
+
+/// Puts the line of an end: the other of the two most frequent lines.
+#[tactic(auto, using(crate::proofs::Joined::spaced_append))]
+fn put_end(
+    out: &mut String,
+    worker: u32,
+    region: u64,
+    tick: u64,
+    ran: &[Ran],
+    accepts: &[Accept],
+) -> Result<(), AllocError>
+    ensures { IfOk result (λ _. string_bytes out.new ≡ string_bytes out.old ++ joined (end_words worker region tick ran.now accepts.now)) }
+{
+    put_ended(out, worker, region, tick)?;
+    put_ran(out, ran)?;
+    put_accepted(out, accepts)
+}
+
+/// Puts the line of an event without its end.
+fn put_event(out: &mut String, event: &Event) -> Result<(), AllocError>
+    ensures { IfOk result (λ _. string_bytes out.new ≡ string_bytes out.old ++ joined (event_words event.now)) }
+{
+    match event {
+        Event::Load {
+            caller,
+            chunk,
+            answer,
+        } => {
+            write!(out, "load {caller}")?;
+            put_chunk(out, *chunk)?;
+            put_loaded(out, *answer)
+        }
+        Event::Unload {
+            caller,
+            chunk,
+            answer,
+        } => {
+            write!(out, "unload {caller}")?;
+            put_chunk(out, *chunk)?;
+            put_unloaded(out, *answer)
+        }
+        Event::Post {
+            caller,
+            chunk,
+            delay,
+            action,
+            answer,
+        } => {
+            write!(out, "post {caller}")?;
+            put_chunk(out, *chunk)?;
+            put_number(out, *delay)?;
+            put_accept(out, *answer)?;
+            put_action(out, action)
+        }
+        Event::PhaseOpen(ticks) => write!(out, "open {ticks}"),
+        Event::Begin { worker, region } => put_begin(out, *worker, *region),
+        Event::End {
+            worker,
+            region,
+            tick,
+            ran,
+            accepts,
+        } => {
+            let (ran, accepts) = (ran.as_slice(), accepts.as_slice());
+            put_end(out, *worker, *region, *tick, ran, accepts)
+        }
+        Event::PhaseClose => out.push_str("close"),
+        Event::Finish => out.push_str("finish"),
+        Event::Stop { caller } => write!(out, "stop {caller}"),
+    }
+}
+
+impl Line for Entry {
+    ghost words = { entry_words };
+
+    fn put(&self, out: &mut String) -> Result<(), AllocError> {
+        put_event(out, &self.event)
+    }
+}
