@@ -6,6 +6,7 @@
 
 mod lock;
 mod rate;
+mod report;
 
 use std::alloc::Global;
 use std::rt::Clock;
@@ -27,6 +28,7 @@ fn run_named<R: Threads + Wait + Sync + Clock + Print>(
 ) -> io::Result<()> {
     match word {
         "lock" => lock::run(rt, alloc),
+        "report" => report::run(rt, alloc),
         _ => println!(rt; "no workload is named {word}"),
     }
 }

@@ -1,0 +1,12 @@
+pub mod Changes
+pub mod Frames
+pub mod AtSlot
+pub mod ClaimSteps
+pub mod KeepSteps
+pub mod MeetSteps
+pub mod SeatSteps
+pub mod Starts
+pub mod Callers
+pub mod WordFacts
+pub mod Between
+pub mod News

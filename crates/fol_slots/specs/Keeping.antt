@@ -1,0 +1,19 @@
+-- What the keeper's try answers.
+use Rattle.std.specs.Prelude.{◌≡◌, ℕ, IsSomeAnd}
+use Rattle.fol_slots.specs.declared.answer.Keep.{Keep}
+use Rattle.fol_slots.specs.declared.answer.Keep.TheVariants.{Kept, Busy}
+use Rattle.fol_slots.specs.declared.word.Word.TheVariants as words
+use Rattle.fol_slots.specs.Shown.{Keeper, place_at, keeping, finding}
+use Rattle.fol_slots.specs.Moments.{WordIs}
+
+module _ {T : Type 0} where
+  -- The answer to a try of slot i by the keeper's seat k, which is l afterwards.
+  -- After Kept the slot has the body last offered, which is fit. After Busy the seat shows the worker as found.
+  abbrev pub Keeps : (T → Type 0) → Keeper T → ℕ → Keep → Keeper T → Type 0
+  Keeps fit k i Kept l = IsSomeAnd (place_at k i).offered fit × (l ≡ keeping k i (place_at k i).offered)
+  Keeps fit k i (Busy w) l = l ≡ finding k i w
+
+  -- The word of slot i after the try: Kept, or Ticking with the worker that was found.
+  abbrev pub WordAfter : (T → Type 0) → Keep → ℕ → Keeper T → Type 0
+  WordAfter fit Kept i l = WordIs fit l i words.Kept
+  WordAfter fit (Busy w) i l = WordIs fit l i (words.Ticking w)

@@ -1,0 +1,34 @@
+//! Slots that hold bodies, each with one word that says in whose hands its body is.
+//!
+//! A worker claims the body of a slot by one compare and exchange, without a lock: Ready becomes Ticking with the
+//! worker's number. The keeper, whose seat lies behind a lock, offers bodies (Kept to Ready), keeps slots again
+//! (Ready to Kept), meets workers that hold a slot and takes bodies in from them (Ticking to Kept).
+//!
+//! The promise is one pair of hands, at each atomic step: a body is at home in its slot, or with the one worker whose
+//! number stands in the word, or with the keeper within one of its calls. Each claimed body is fit. Where the seats of
+//! a worker and of the keeper meet, the claimed body is the one last offered there. Only `Slots::new` takes memory,
+//! and no call waits.
+//!
+//! The crate serves the shared world, in which a slot is a place for a region and a body is the region's tick.
+#![tactic(auto)]
+
+mod answer;
+mod body;
+mod keeper;
+mod meeting;
+mod rule;
+mod seat;
+mod seats;
+mod slots;
+#[cfg(test)]
+mod tests;
+mod view;
+mod word;
+mod worker;
+
+pub use answer::{Claim, Keep};
+pub use body::Body;
+pub use seat::{KeeperSeat, WorkerSeat};
+pub use seats::WorkerSeats;
+pub use slots::{Slots, SlotsAndSeats};
+pub use word::Word;
