@@ -7,6 +7,7 @@
 mod lock;
 mod rate;
 mod report;
+mod script;
 
 use std::alloc::Global;
 use std::rt::Clock;
@@ -29,6 +30,7 @@ fn run_named<R: Threads + Wait + Sync + Clock + Print>(
     match word {
         "lock" => lock::run(rt, alloc),
         "report" => report::run(rt, alloc),
+        "script" => script::run(rt, alloc),
         _ => println!(rt; "no workload is named {word}"),
     }
 }
