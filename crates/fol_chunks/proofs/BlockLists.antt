@@ -1,0 +1,165 @@
+-- What a list of blocks in order says of each block.
+use Rattle.std.proofs.Common.{◌≡◌, ℕ, ◌<◌, ◌≤◌, ◌||◌, Bool, true, false, cond, List, [], ◌∷◌, ◌++◌, length, get_or, refl, sym, ◌∙◌, ap, ◌⊎◌, inl, inr, arith, Option, Some, None}
+use Rattle.std.specs.Prelude.{Contains, slice_set, nat_eq, if◌then◌else◌}
+use Rattle.std.specs.List.{find, filter, insert, remove}
+use Rattle.std.specs.List.Sorted.{IsStrictlySortedBy, IsPermutation, IsPartitionPoint, IsSortedBy}
+use Rattle.std.specs.Option.{option_or}
+use Rattle.std.specs.Ordering.{is_lt}
+use Rattle.std.specs.declared.cmp.Ordering.TheVariants.{Less, Greater}
+use Rattle.std.proofs.lemmas.Bool.{cases_Bool, or_cases, eqb-true}
+use Rattle.std.proofs.lemmas.List.Elements.{All-contains, All-append, All-filter, All-set}
+use Rattle.std.proofs.lemmas.List.Sorted.{All-permutation}
+use Rattle.std.proofs.lemmas.List.Folds.{find-append}
+use Rattle.std.proofs.lemmas.List.Kept.{IsStrictlySortedBy-filter}
+use Rattle.std.proofs.Math.Path.{fun_ext}
+use Rattle.fol_model.specs.declared.openings.BlockAt.{BlockAt}
+use Rattle.fol_model.specs.declared.places.BlockPos.{BlockPos}
+use Rattle.fol_model.specs.declared.places.ChunkPos.{ChunkPos}
+use Rattle.fol_model.specs.Geometry.{same_block, chunk_of}
+use Rattle.fol_model.specs.Universe.{block_cmp}
+use Rattle.fol_model.specs.ActionStep.{at_block}
+use Rattle.fol_model.specs.World.{block_in}
+use Rattle.fol_chunks.specs.Rows.{by_place, IsBlocks}
+use Rattle.fol_chunks.proofs.Keyed.{Differ, All-removed, All-inserted, find_absent, find_at, find_removed, find_replaced, find_inserted, find_permuted, find_key, find_own, differ_append, differ_permuted}
+use Rattle.fol_chunks.proofs.Places.{same_block-true, same_block-self, block_cmp_total, block_cmp_tells}
+use Rattle.fol_chunks.proofs.Sorted.{differ_from_sorted, none_between, sorted_remove, sorted_set, sorted_insert, sorted_from_sort}
+
+abbrev number_of : Option BlockAt → ℕ
+number_of None = 0
+number_of (Some x) = x.id
+
+abbrev InOrder : List BlockAt → Type 0
+InOrder xs = IsStrictlySortedBy by_place xs
+
+pub block_found : (xs : List BlockAt) (b : BlockPos) → block_in xs b ≡ number_of (find (λ x. same_block x.at b) xs)
+block_found [] b = refl
+block_found (x ∷ xs) b =
+    elim (cases_Bool (same_block x.at b)) [
+      | inl e ↦ rw e refl
+      | inr e ↦ rw e (block_found xs b)
+    ]
+
+module _ (xs : List BlockAt) where
+  pub differ : InOrder xs → Differ same_block same_block-true same_block-self (λ (x : BlockAt). x.at) xs
+  differ s = differ_from_sorted (λ (x : BlockAt). x.at) block_cmp block_cmp_total same_block same_block-true xs s
+
+  pub block_at : (i : ℕ) (b : BlockPos) (d : BlockAt) → InOrder xs → i < length xs → ((e : BlockAt) → (get_or xs i e).at ≡ b) → (get_or xs i d).id ≡ block_in xs b
+  block_at i b d s l e = rw (block_found xs b, find_at same_block same_block-true same_block-self (λ (x : BlockAt). x.at) xs i b d (differ s) l e) refl
+
+  pub absent : (i : ℕ) (b : BlockPos) → IsPartitionPoint (λ x. block_cmp x.at b ≡ Less) (λ x. block_cmp x.at b ≡ Greater) xs i → find (λ x. same_block x.at b) xs ≡ None
+  absent i b p = find_absent same_block same_block-true same_block-self (λ (x : BlockAt). x.at) xs b (none_between (λ (x : BlockAt). x.at) block_cmp block_cmp_total xs i b p)
+
+  pub block_absent : (i : ℕ) (b : BlockPos) → IsPartitionPoint (λ x. block_cmp x.at b ≡ Less) (λ x. block_cmp x.at b ≡ Greater) xs i → 0 ≡ block_in xs b
+  block_absent i b p = rw (block_found xs b, absent i b p) refl
+
+  pub block_removed : (i : ℕ) (b : BlockPos) (n : ℕ) → InOrder xs → i < length xs → ((e : BlockAt) → (get_or xs i e).at ≡ b) → n ≡ 0 → block_in (remove xs i) ≡ at_block (block_in xs) b n
+  block_removed i b n s l e z =
+      rw z (fun_ext (λ q.
+      rw (block_found (remove xs i) q, find_removed same_block same_block-true same_block-self (λ (x : BlockAt). x.at) xs i b q (record { at = b; id = 0 }) (differ s) l e, block_found xs q) (split q)))
+    where
+      split : (q : BlockPos) → number_of (cond (same_block b q) None (find (λ x. same_block x.at q) xs)) ≡ (if same_block b q then 0 else number_of (find (λ x. same_block x.at q) xs))
+      split q = elim (cases_Bool (same_block b q)) [ inl t ↦ rw t refl | inr t ↦ rw t refl ]
+
+  pub block_replaced : (i : ℕ) (y : BlockAt) → InOrder xs → i < length xs → ((e : BlockAt) → (get_or xs i e).at ≡ y.at) → block_in (slice_set xs i y) ≡ at_block (block_in xs) y.at y.id
+  block_replaced i y s l e =
+      fun_ext (λ q.
+      rw (block_found (slice_set xs i y) q, find_replaced same_block same_block-true same_block-self (λ (x : BlockAt). x.at) xs i y q (differ s) l e, block_found xs q) (split q))
+    where
+      split : (q : BlockPos) → number_of (cond (same_block y.at q) (Some y) (find (λ x. same_block x.at q) xs)) ≡ (if same_block y.at q then y.id else number_of (find (λ x. same_block x.at q) xs))
+      split q = elim (cases_Bool (same_block y.at q)) [ inl t ↦ rw t refl | inr t ↦ rw t refl ]
+
+  pub block_inserted : (i : ℕ) (y : BlockAt) → InOrder xs → IsPartitionPoint (λ x. block_cmp x.at y.at ≡ Less) (λ x. block_cmp x.at y.at ≡ Greater) xs i → block_in (insert xs i y) ≡ at_block (block_in xs) y.at y.id
+  block_inserted i y s p =
+      fun_ext (λ q.
+      rw (block_found (insert xs i y) q, find_inserted same_block same_block-true same_block-self (λ (x : BlockAt). x.at) xs i y q (differ s) (absent i y.at p), block_found xs q) (split q))
+    where
+      split : (q : BlockPos) → number_of (cond (same_block y.at q) (Some y) (find (λ x. same_block x.at q) xs)) ≡ (if same_block y.at q then y.id else number_of (find (λ x. same_block x.at q) xs))
+      split q = elim (cases_Bool (same_block y.at q)) [ inl t ↦ rw t refl | inr t ↦ rw t refl ]
+
+  -- no number stays no number
+  pub block_stays : (b : BlockPos) (n : ℕ) → 0 ≡ block_in xs b → n ≡ 0 → block_in xs ≡ at_block (block_in xs) b n
+  block_stays b n h z = fun_ext (λ q.
+      elim (cases_Bool (same_block b q)) [
+        | inl t ↦ let e : b ≡ q = same_block-true b q t in rw t (ap (block_in xs) (sym e) ∙ sym h ∙ sym z)
+        | inr t ↦ rw t refl
+      ])
+
+  pub blocks_removed : (i : ℕ) → IsBlocks xs → IsBlocks (remove xs i)
+  blocks_removed i h = record { order = sorted_remove (λ (x : BlockAt). x.at) block_cmp block_cmp_total xs i h.order; full = All-removed (λ x. 0 < x.id) xs i h.full }
+
+  pub blocks_replaced : (i : ℕ) (y : BlockAt) → IsBlocks xs → i < length xs → ((e : BlockAt) → (get_or xs i e).at ≡ y.at) → 0 < y.id → IsBlocks (slice_set xs i y)
+  blocks_replaced i y h l e p = record { order = sorted_set (λ (x : BlockAt). x.at) block_cmp block_cmp_total xs i y h.order e l; full = All-set (λ x. 0 < x.id) xs i y p h.full }
+
+  pub blocks_inserted : (i : ℕ) (y : BlockAt) → IsBlocks xs → i ≤ length xs → IsPartitionPoint (λ x. block_cmp x.at y.at ≡ Less) (λ x. block_cmp x.at y.at ≡ Greater) xs i → 0 < y.id → IsBlocks (insert xs i y)
+  blocks_inserted i y h l p n = record { order = sorted_insert (λ (x : BlockAt). x.at) block_cmp block_cmp_total xs i y h.order l p; full = All-inserted (λ x. 0 < x.id) xs i y n h.full }
+
+-- the blocks in chunks that pass
+pub block_filtered : (p : ChunkPos → Bool) (xs : List BlockAt) → block_in (filter (λ x. p (chunk_of x.at)) xs) ≡ λ b. if p (chunk_of b) then block_in xs b else 0
+block_filtered p xs = fun_ext (one p xs)
+  where
+    one : (p : ChunkPos → Bool) (xs : List BlockAt) (b : BlockPos) → block_in (filter (λ x. p (chunk_of x.at)) xs) b ≡ (if p (chunk_of b) then block_in xs b else 0)
+    one p [] b = elim (cases_Bool (p (chunk_of b))) [ inl e ↦ rw e refl | inr e ↦ rw e refl ]
+    one p (x ∷ xs) b =
+        let rest : block_in (filter (λ x. p (chunk_of x.at)) xs) b ≡ (if p (chunk_of b) then block_in xs b else 0) = one p xs b in
+        elim (cases_Bool (p (chunk_of x.at))) [
+          | inl e ↦
+              elim (cases_Bool (same_block x.at b)) [
+                | inl t ↦ let w : p (chunk_of b) ≡ true = ap (λ q. p (chunk_of q)) (sym (same_block-true x.at b t)) ∙ e in rw (e, t, w) refl
+                | inr t ↦ rw (e, t) rest
+              ]
+          | inr e ↦
+              elim (cases_Bool (same_block x.at b)) [
+                | inl t ↦ let w : p (chunk_of b) ≡ false = ap (λ q. p (chunk_of q)) (sym (same_block-true x.at b t)) ∙ e in let r : block_in (filter (λ x. p (chunk_of x.at)) xs) b ≡ 0 = rw w at rest in rw (e, w) r
+                | inr t ↦ rw (e, t) rest
+              ]
+        ]
+
+pub blocks_filtered : (p : ChunkPos → Bool) (xs : List BlockAt) → IsBlocks xs → IsBlocks (filter (λ x. p (chunk_of x.at)) xs)
+blocks_filtered p xs h = record { order = IsStrictlySortedBy-filter by_place (λ x. p (chunk_of x.at)) xs h.order; full = All-filter (λ (x : BlockAt). p (chunk_of x.at)) (λ x. 0 < x.id) xs h.full }
+
+module _ (xs ys zs : List BlockAt) where
+  -- no block has a number in both
+  abbrev pub NoneInBoth : Type 0
+  NoneInBoth = (b : BlockPos) → (nat_eq (block_in xs b) 0 || nat_eq (block_in ys b) 0) ≡ true
+
+  has_number : (ts : List BlockAt) (x : BlockAt) → IsBlocks ts → Contains ts x → block_in ts x.at ≡ x.id
+  has_number ts x h m = rw (block_found ts x.at, find_own same_block same_block-true same_block-self (λ (x : BlockAt). x.at) ts x (differ ts h.order) m) refl
+
+  zero_not : (n m : ℕ) → n ≡ m → 0 < m → nat_eq n 0 ≡ true → ⊥
+  zero_not n m e p t = let z : n ≡ 0 = eqb-true n 0 t in omega arith
+
+  pub joined_differ : IsBlocks xs → IsBlocks ys → NoneInBoth → Differ same_block same_block-true same_block-self (λ (x : BlockAt). x.at) (xs ++ ys)
+  joined_differ h k none =
+      differ_append same_block same_block-true same_block-self (λ (x : BlockAt). x.at) xs ys (differ xs h.order) (differ ys k.order)
+      (λ x y m n e. either x y m n e (or_cases (nat_eq (block_in xs y.at) 0) (nat_eq (block_in ys y.at) 0) (none y.at)))
+    where
+      either : (x y : BlockAt) → Contains xs x → Contains ys y → x.at ≡ y.at → (nat_eq (block_in xs y.at) 0 ≡ true) ⊎ (nat_eq (block_in ys y.at) 0 ≡ true) → ⊥
+      either x y m n e (inl t) = zero_not (block_in xs y.at) x.id (ap (block_in xs) (sym e) ∙ has_number xs x h m) (All-contains (λ z. 0 < z.id) xs x h.full m) t
+      either x y m n e (inr t) = zero_not (block_in ys y.at) y.id (has_number ys y k n) (All-contains (λ z. 0 < z.id) ys y k.full n) t
+
+  -- the blocks of both, in whatever order
+  pub block_joined : IsBlocks xs → IsBlocks ys → NoneInBoth → IsPermutation (xs ++ ys) zs → block_in zs ≡ λ b. if nat_eq (block_in xs b) 0 then block_in ys b else block_in xs b
+  block_joined h k none m =
+      fun_ext (λ b.
+      block_found zs b
+      ∙ ap number_of (find_permuted same_block same_block-true same_block-self (λ (x : BlockAt). x.at) (xs ++ ys) zs (joined_differ h k none) m b)
+      ∙ ap number_of (find-append (λ (x : BlockAt). same_block x.at b) xs ys)
+      ∙ look b (find (λ (x : BlockAt). same_block x.at b) xs) refl)
+    where
+      look : (b : BlockPos) (o : Option BlockAt) → find (λ (x : BlockAt). same_block x.at b) xs ≡ o → number_of (option_or o (find (λ (x : BlockAt). same_block x.at b) ys)) ≡ (if nat_eq (block_in xs b) 0 then block_in ys b else block_in xs b)
+      look b None e = let z : block_in xs b ≡ 0 = block_found xs b ∙ ap number_of e in rw z (sym (block_found ys b))
+      look b (Some x) e =
+          let z : block_in xs b ≡ x.id = block_found xs b ∙ ap number_of e in
+          let c : Contains xs x × (x.at ≡ b) = find_key same_block same_block-true same_block-self (λ (x : BlockAt). x.at) xs b x e in
+          let p : 0 < x.id = All-contains (λ z. 0 < z.id) xs x h.full c.0 in
+          elim (cases_Bool (nat_eq (block_in xs b) 0)) [
+            | inl t ↦ absurd (zero_not (block_in xs b) x.id z p t)
+            | inr t ↦ rw t (sym z)
+          ]
+
+  pub blocks_joined : IsBlocks xs → IsBlocks ys → NoneInBoth → IsPermutation (xs ++ ys) zs → IsSortedBy (λ a b. is_lt (by_place a b)) zs → IsBlocks zs
+  blocks_joined h k none m up =
+      record {
+        order = sorted_from_sort (λ (x : BlockAt). x.at) block_cmp block_cmp_total same_block (λ a b e. ap (λ q. same_block a q) (sym (block_cmp_tells a b e)) ∙ same_block-self a) zs (differ_permuted same_block same_block-true same_block-self (λ (x : BlockAt). x.at) (xs ++ ys) zs m (joined_differ h k none)) up;
+        full = All-permutation (λ x. 0 < x.id) (xs ++ ys) zs m (All-append (λ x. 0 < x.id) xs ys h.full k.full);
+      }

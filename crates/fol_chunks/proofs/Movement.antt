@@ -1,0 +1,97 @@
+-- The movement of entities.
+use Rattle.std.proofs.Common.{◌≡◌, ℕ, ◌<◌, ◌≤◌, true, false, ◌&&◌, List, [], ◌∷◌, length, get_or, refl, sym, ◌∙◌, ap, inl, inr, arith, IsTrue, rules, div-add-mod', mod-lt}
+use Rattle.std.specs.Prelude.{ℤ, pos, negsuc, ◌+ℤ◌, nat_abs, nat_le, nat_eq, if◌then◌else◌, All, map, Result, Ok, Err, FitsSigned}
+use Rattle.std.specs.Int.{int_div_euclid, w32}
+use Rattle.std.specs.List.{AllByRecursion}
+use Rattle.std.specs.List.Sorted.{IsStrictlySortedBy, IsPartitionPoint}
+use Rattle.std.specs.Result.{MatchResult, is_ok}
+use Rattle.std.specs.Ordering.{nat_cmp}
+use Rattle.std.specs.declared.cmp.Ordering.TheVariants.{Less, Greater}
+use Rattle.std.proofs.lemmas.Bool.{cases_Bool, and_parts, leb-true}
+use Rattle.std.proofs.lemmas.List.Elements.{Contains-get_or}
+use Rattle.std.proofs.lemmas.List.Folds.{list_any_at, list_any_none}
+use Rattle.std.proofs.Math.Path.{fun_ext}
+use Rattle.fol_model.specs.declared.places.ChunkPos.{ChunkPos}
+use Rattle.fol_model.specs.declared.places.BlockPos.{BlockPos}
+use Rattle.fol_model.specs.declared.entities.Entity.{Entity}
+use Rattle.fol_model.specs.Geometry.{same_chunk, chunk_of, is_chunk}
+use Rattle.fol_model.specs.ActionStep.{Recorded}
+use Rattle.fol_model.specs.FlatTick.{ahead, walked}
+use Rattle.fol_model.specs.World.{standing_in}
+use Rattle.fol_chunks.specs.Contents.{is_recorded}
+use Rattle.fol_chunks.specs.Order.{chunk_cmp}
+use Rattle.fol_chunks.specs.Rows.{stepped, by_id}
+use Rattle.fol_chunks.proofs.Places.{same_chunk-true, same_chunk-self, chunk_cmp_total}
+use Rattle.fol_chunks.proofs.Sorted.{none_between}
+
+-- what a binary search among the recorded chunks says
+pub recorded_search : (chunks : List ChunkPos) (c : ChunkPos) (r : Result ℕ ℕ)
+    → MatchResult r (λ i. (i < length chunks) × ((d : ChunkPos) → get_or chunks i d ≡ c)) (λ i. (i ≤ length chunks) × IsPartitionPoint (λ x. chunk_cmp x c ≡ Less) (λ x. chunk_cmp x c ≡ Greater) chunks i)
+    → is_ok r ≡ is_recorded chunks c
+recorded_search chunks c (Ok i) h = sym (list_any_at (same_chunk c) chunks i c h.0 (ap (λ q. same_chunk c q) (h.1 c) ∙ same_chunk-self c))
+recorded_search chunks c (Err i) h = sym (list_any_none (same_chunk c) chunks (λ k d l. other k d l))
+  where
+    other : (k : ℕ) (d : ChunkPos) → k < length chunks → same_chunk c (get_or chunks k d) ≡ false
+    other k d l =
+        elim (cases_Bool (same_chunk c (get_or chunks k d))) [
+          | inl e ↦ absurd (none_between (λ (q : ChunkPos). q) chunk_cmp chunk_cmp_total chunks i c h.1 (get_or chunks k d) (Contains-get_or chunks k d l) (sym (same_chunk-true c (get_or chunks k d) e)))
+          | inr e ↦ e
+        ]
+
+-- a chunk that is not within the limits is not recorded
+pub outside_limits : (chunks : List ChunkPos) (c : ChunkPos) → All (λ q. IsTrue (is_chunk q)) chunks → is_chunk c ≡ false → is_recorded chunks c ≡ false
+outside_limits chunks c h f = list_any_none (same_chunk c) chunks (λ k d l.
+    elim (cases_Bool (same_chunk c (get_or chunks k d))) [
+      | inl e ↦ let w : is_chunk c ≡ true = ap is_chunk (same_chunk-true c (get_or chunks k d) e) ∙ h k d l in let v : true ≡ false = sym w ∙ f in cc
+      | inr e ↦ e
+    ])
+
+fits_chunk : (x : ℤ) → nat_abs (int_div_euclid x (pos 16)) ≤ 1000000 → FitsSigned w32 x
+fits_chunk (pos a) h = let d = div-add-mod' a 16 in let s : 0 < 16 = omega arith in let m = mod-lt a s in search rules
+fits_chunk (negsuc a) h = let d = div-add-mod' a 16 in let s : 0 < 16 = omega arith in let m = mod-lt a s in search rules
+
+pub chunk_fits : (b : BlockPos) → is_chunk (chunk_of b) ≡ true → FitsSigned w32 b.x × FitsSigned w32 b.z
+unfolding is_chunk chunk_of
+chunk_fits b h =
+    let p = and_parts (nat_le (nat_abs (int_div_euclid b.x (pos 16))) 1000000) (nat_le (nat_abs (int_div_euclid b.z (pos 16))) 1000000) h in
+    (fits_chunk b.x (leb-true _ _ p.0), fits_chunk b.z (leb-true _ _ p.1))
+
+-- what does not fit is in no recorded chunk
+pub misfit_stays : (chunks : List ChunkPos) (b : BlockPos) → All (λ q. IsTrue (is_chunk q)) chunks → ((FitsSigned w32 b.x × FitsSigned w32 b.z) → ⊥) → is_recorded chunks (chunk_of b) ≡ false
+misfit_stays chunks b h n =
+    elim (cases_Bool (is_chunk (chunk_of b))) [
+      | inl e ↦ absurd (n (chunk_fits b e))
+      | inr e ↦ outside_limits chunks (chunk_of b) h e
+    ]
+
+pub step_stays : (rec : Recorded) (e : Entity) → rec (chunk_of (ahead e.vx e.vz e.at)) ≡ false → e ≡ stepped rec e
+step_stays rec e h = elim (cases_Bool (rec (chunk_of e.at))) [ inl t ↦ rw (t, h) refl | inr t ↦ rw t refl ]
+
+pub step_moves : (rec : Recorded) (e r : Entity) (x z : ℤ) → rec (chunk_of e.at) ≡ true → x ≡ e.at.x +ℤ e.vx → z ≡ e.at.z +ℤ e.vz
+    → r ≡ (if rec (chunk_of (record { x = x; y = e.at.y; z = z })) then record e { at = record { x = x; y = e.at.y; z = z } } else e) → r ≡ stepped rec e
+step_moves rec e r x z t p q h = rw t (rw (p, q) at h)
+
+stepped_id : (rec : Recorded) (e : Entity) → (stepped rec e).id ≡ e.id
+stepped_id rec e = elim (cases_Bool (rec (chunk_of e.at) && rec (chunk_of (ahead e.vx e.vz e.at)))) [ inl t ↦ rw t refl | inr t ↦ rw t refl ]
+
+pub standing_stepped : (rec : Recorded) (es : List Entity) → standing_in (map (stepped rec) es) ≡ λ id. walked rec (standing_in es id)
+standing_stepped rec es = fun_ext (one rec es)
+  where
+    one : (rec : Recorded) (es : List Entity) (id : ℕ) → standing_in (map (stepped rec) es) id ≡ walked rec (standing_in es id)
+    one rec [] id = refl
+    one rec (e ∷ es) id =
+        elim (cases_Bool (nat_eq e.id id)) [
+          | inl t ↦
+              let s : nat_eq (stepped rec e).id id ≡ true = ap (λ k. nat_eq k id) (stepped_id rec e) ∙ t in
+              rw (s, t) (elim (cases_Bool (rec (chunk_of e.at) && rec (chunk_of (ahead e.vx e.vz e.at)))) [ inl m ↦ rw m refl | inr m ↦ rw m refl ])
+          | inr t ↦ let s : nat_eq (stepped rec e).id id ≡ false = ap (λ k. nat_eq k id) (stepped_id rec e) ∙ t in rw (s, t) (one rec es id)
+        ]
+
+pub order_stepped : (rec : Recorded) (es : List Entity) → IsStrictlySortedBy by_id es → IsStrictlySortedBy by_id (map (stepped rec) es)
+unfolding IsStrictlySortedBy
+order_stepped rec [] s = tt
+order_stepped rec (e ∷ es) s = (all rec e es s.0, order_stepped rec es s.1)
+  where
+    all : (rec : Recorded) (e : Entity) (es : List Entity) → AllByRecursion (λ f. by_id e f ≡ Less) es → AllByRecursion (λ f. by_id (stepped rec e) f ≡ Less) (map (stepped rec) es)
+    all rec e [] h = tt
+    all rec e (f ∷ fs) h = (ap (λ k. nat_cmp k (stepped rec f).id) (stepped_id rec e) ∙ ap (λ k. nat_cmp e.id k) (stepped_id rec f) ∙ h.0, all rec e fs h.1)

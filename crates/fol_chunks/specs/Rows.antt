@@ -1,0 +1,32 @@
+-- The lists that hold the blocks and the entities.
+use Rattle.std.specs.Prelude.{◌<◌, List, All, if◌then◌else◌, ◌&&◌}
+use Rattle.std.specs.Ordering.{nat_cmp}
+use Rattle.std.specs.List.Sorted.{IsStrictlySortedBy}
+use Rattle.std.specs.declared.cmp.Ordering.{Ordering}
+use Rattle.fol_model.specs.declared.openings.BlockAt.{BlockAt}
+use Rattle.fol_model.specs.declared.entities.Entity.{Entity}
+use Rattle.fol_model.specs.Geometry.{chunk_of}
+use Rattle.fol_model.specs.Universe.{block_cmp}
+use Rattle.fol_model.specs.ActionStep.{Recorded}
+use Rattle.fol_model.specs.FlatTick.{ahead}
+
+abbrev pub by_place : BlockAt → BlockAt → Ordering
+by_place a b = block_cmp a.at b.at
+
+abbrev pub by_id : Entity → Entity → Ordering
+by_id a b = nat_cmp a.id b.id
+
+-- blocks in order of place, none with number 0
+pub record IsBlocks (xs : List BlockAt) : Type 0 where
+  pub order : IsStrictlySortedBy by_place xs
+  pub full : All (λ x. 0 < x.id) xs
+
+-- blocks in order of place, none with number 0, and entities in order of id
+pub record IsContents (blocks : List BlockAt) (entities : List Entity) : Type 0 where
+  pub blocks_order : IsStrictlySortedBy by_place blocks
+  pub blocks_full : All (λ x. 0 < x.id) blocks
+  pub entities_order : IsStrictlySortedBy by_id entities
+
+-- an entity goes ahead where it is and stays in chunks that pass
+abbrev pub stepped : Recorded → Entity → Entity
+stepped rec e = if (rec (chunk_of e.at) && rec (chunk_of (ahead e.vx e.vz e.at))) then record e { at = ahead e.vx e.vz e.at } else e

@@ -1,0 +1,225 @@
+//! The blocks and entities of a region.
+
+ghost use Rattle.std.specs.Prelude.{◌≡◌, ◌+◌, ◌≤◌, ◌<◌, ℕ, IsTrue, IsNone, IfOk, OnOk, All};
+ghost use Rattle.std.specs.Option.{option_map, option_len};
+ghost use Rattle.std.specs.List.Sorted.{IsStrictlySortedBy};
+ghost use Rattle.fol_model.specs.Geometry.{is_chunk, same_chunk};
+ghost use Rattle.fol_model.specs.ActionStep.{Flat, at_block, at_id, standing_of};
+ghost use Rattle.fol_model.specs.FlatTick.{moved};
+ghost use Rattle.fol_model.specs.World.{block_in};
+ghost use Rattle.fol_chunks.specs.Order.{chunk_cmp};
+ghost use Rattle.fol_chunks.specs.Rows.{by_place};
+
+use crate::area::Area;
+use crate::{blocks, entities, steps};
+use fol_model::{BlockAt, BlockPos, ChunkPos, Entity, Grid, SectionPos};
+use std::alloc::{AllocError, Global};
+use std::marker::Model;
+
+/// Blocks and entities. Contracts see them as a map of blocks and the entities that stand, and how many more it can take.
+#[derive(Drop)]
+pub struct Chunks {
+    blocks: Vec<BlockAt>,
+    entities: Vec<Entity>,
+}
+
+impl Model for Chunks {
+    ghost use Rattle.std.specs.Prelude.{◌-◌, min, vec_len};
+    ghost use Rattle.std.specs.Vec.{vec_capacity};
+    ghost use Rattle.fol_chunks.specs.Contents.{Contents};
+    ghost use Rattle.fol_chunks.specs.Rows.{IsContents};
+
+    ghost Value = { Contents };
+
+    ghost view = { λ c. record { blocks = c.blocks.items; entities = c.entities.items; spare = min (vec_capacity c.blocks - vec_len c.blocks) (vec_capacity c.entities - vec_len c.entities) } };
+
+    ghost invariant = { λ c. IsContents c.blocks.items c.entities.items };
+}
+
+impl Chunks {
+    ghost use Rattle.fol_chunks.specs.Contents.{Contents, flat_of, nothing, size_of, within, outside, joined, Apart, is_recorded, is_in, size_within, entity_of};
+    ghost use Rattle.fol_chunks.specs.Area.{covers};
+
+    /// Nothing. Takes no memory.
+    pub fn new(alloc: Global) -> Chunks
+        ensures nothing { flat_of result ≡ nothing }
+        ensures empty { size_of result ≡ 0 }
+    {
+        Chunks {
+            blocks: Vec::new(alloc),
+            entities: Vec::new(alloc),
+        }
+    }
+
+    /// Makes `spare` at least `n`. The contents stay either way.
+    pub fn reserve(&mut self, n: u64) -> Result<(), AllocError>
+        ensures same { flat_of self.new ≡ flat_of self.old }
+        ensures size { size_of self.new ≡ size_of self.old }
+        ensures ok { OnOk result (n ≤ self.new.spare) }
+        ensures spare { self.old.spare ≤ self.new.spare }
+    {
+        self.blocks.reserve(n as usize)?;
+        self.entities.reserve(n as usize)
+    }
+
+    /// How many more blocks or entities it can take without taking memory.
+    pub fn spare(&self) -> u64
+        ensures { result ≡ self.now.spare }
+    {
+        let blocks = self.blocks.capacity() - self.blocks.len();
+        let entities = self.entities.capacity() - self.entities.len();
+        blocks.min(entities) as u64
+    }
+
+    /// How many blocks with a number and entities there are.
+    pub fn size(&self) -> u64
+        ensures { result ≡ size_of self.now }
+    {
+        (self.blocks.len() + self.entities.len()) as u64
+    }
+
+    /// The number of a block, and 0 where it has none.
+    pub fn get(&self, at: BlockPos) -> u16
+        ensures { result ≡ (flat_of self.now).blocks at }
+    {
+        blocks::number_at(&self.blocks, at)
+    }
+
+    /// All blocks with a number above 0, by x, then y, then z. Answers want of memory alone.
+    pub fn blocks(&self, alloc: Global) -> Result<Vec<BlockAt>, AllocError>
+        ensures numbers { IfOk result (λ v. block_in v.items ≡ (flat_of self.now).blocks) }
+        ensures order { IfOk result (λ v. IsStrictlySortedBy by_place v.items) }
+        ensures none_empty { IfOk result (λ v. All (λ x. 0 < x.id) v.items) }
+    {
+        Vec::from_slice(alloc, &self.blocks)
+    }
+
+    /// Gives a block a number; 0 takes its number away. Takes no memory.
+    pub fn set(&mut self, at: BlockPos, id: u16)
+        requires { 1 ≤ self.old.spare }
+        ensures blocks { flat_of self.new ≡ record (flat_of self.old) { blocks = at_block (flat_of self.old).blocks at id } }
+        ensures size { size_of self.new ≤ size_of self.old + 1 }
+        ensures spare { self.old.spare ≤ self.new.spare + 1 }
+    {
+        blocks::put(&mut self.blocks, at, id);
+    }
+
+    /// The block at which the entity stands.
+    pub fn find(&self, id: u32) -> Option<BlockPos>
+        ensures { result ≡ option_map (λ s. s.at) ((flat_of self.now).standing id) }
+    {
+        entities::find(&self.entities, id)
+    }
+
+    /// Takes the entity out, where it is there.
+    pub fn take_entity(&mut self, id: u32) -> Option<Entity>
+        ensures entity { result ≡ option_map (entity_of id) ((flat_of self.old).standing id) }
+        ensures left { flat_of self.new ≡ record (flat_of self.old) { standing = at_id (flat_of self.old).standing id None } }
+        ensures size { size_of self.new + option_len result ≡ size_of self.old }
+        ensures spare { self.old.spare ≤ self.new.spare }
+    {
+        entities::take(&mut self.entities, id)
+    }
+
+    /// Puts an entity in that is not there. Takes no memory.
+    pub fn put_entity(&mut self, e: Entity)
+        requires spare { 1 ≤ self.old.spare }
+        requires fresh { IsNone ((flat_of self.old).standing e.id) }
+        ensures entity { flat_of self.new ≡ record (flat_of self.old) { standing = at_id (flat_of self.old).standing e.id (Some (standing_of e)) } }
+        ensures size { size_of self.new ≡ size_of self.old + 1 }
+        ensures spare { self.old.spare ≤ self.new.spare + 1 }
+    {
+        entities::put(&mut self.entities, e);
+    }
+
+    /// Moves the entities that stand in recorded chunks by their speeds, where they stay in recorded chunks. Takes no memory.
+    pub fn step_entities(&mut self, chunks: &[ChunkPos])
+        requires order { IsStrictlySortedBy chunk_cmp chunks.now }
+        requires places { All (λ c. IsTrue (is_chunk c)) chunks.now }
+        ensures moved { flat_of self.new ≡ moved (is_recorded chunks.now) (flat_of self.old) }
+        ensures size { size_of self.new ≡ size_of self.old }
+        ensures spare { self.old.spare ≤ self.new.spare }
+    {
+        steps::step_all(&mut self.entities, chunks);
+    }
+
+    /// How many blocks and entities lie in the chunk.
+    pub fn size_of_chunk(&self, c: ChunkPos) -> u64
+        ensures { result ≡ size_within (same_chunk c) self.now }
+    {
+        self.size_of_area(&Area::Chunk(c))
+    }
+
+    /// How many blocks and entities lie in the part.
+    pub fn size_in(&self, grid: &Grid, part: &[SectionPos]) -> u64
+        ensures { result ≡ size_within (is_in grid.now part.now) self.now }
+    {
+        self.size_of_area(&Area::Part(grid, part))
+    }
+
+    /// Moves what lies in the chunk. Takes no memory.
+    pub fn move_chunk(&mut self, c: ChunkPos, into: &mut Chunks)
+        requires apart { Apart (flat_of into.old) (within (same_chunk c) (flat_of self.old)) }
+        requires room { size_within (same_chunk c) self.old ≤ into.old.spare }
+        ensures stayed { flat_of self.new ≡ outside (same_chunk c) (flat_of self.old) }
+        ensures moved { flat_of into.new ≡ joined (flat_of into.old) (within (same_chunk c) (flat_of self.old)) }
+        ensures size { size_of self.new + size_within (same_chunk c) self.old ≡ size_of self.old }
+        ensures into_size { size_of into.new ≡ size_of into.old + size_within (same_chunk c) self.old }
+        ensures spare { self.old.spare ≤ self.new.spare }
+        ensures into_spare { into.old.spare ≤ into.new.spare + size_within (same_chunk c) self.old }
+    {
+        self.move_area(&Area::Chunk(c), into);
+    }
+
+    /// Takes the contents of another value in. Takes no memory.
+    pub fn merge_from(&mut self, other: Chunks)
+        requires apart { Apart (flat_of self.old) (flat_of other) }
+        requires room { size_of other ≤ self.old.spare }
+        ensures joined { flat_of self.new ≡ joined (flat_of self.old) (flat_of other) }
+        ensures size { size_of self.new ≡ size_of self.old + size_of other }
+        ensures spare { self.old.spare ≤ self.new.spare + size_of other }
+    {
+        let Chunks {
+            blocks: other_blocks,
+            entities: other_entities,
+        } = other;
+        blocks::merge(&mut self.blocks, other_blocks);
+        entities::merge(&mut self.entities, other_entities);
+    }
+
+    /// Moves what lies in the part into a value that holds nothing. Takes no memory.
+    pub fn move_part(&mut self, grid: &Grid, part: &[SectionPos], into: &mut Chunks)
+        requires empty { size_of into.old ≡ 0 }
+        requires room { size_within (is_in grid.now part.now) self.old ≤ into.old.spare }
+        ensures stayed { flat_of self.new ≡ outside (is_in grid.now part.now) (flat_of self.old) }
+        ensures moved { flat_of into.new ≡ within (is_in grid.now part.now) (flat_of self.old) }
+        ensures size { size_of self.new + size_within (is_in grid.now part.now) self.old ≡ size_of self.old }
+        ensures into_size { size_of into.new ≡ size_within (is_in grid.now part.now) self.old }
+        ensures spare { self.old.spare ≤ self.new.spare }
+        ensures into_spare { into.old.spare ≤ into.new.spare + size_within (is_in grid.now part.now) self.old }
+    {
+        self.move_area(&Area::Part(grid, part), into);
+    }
+
+    /// How many blocks and entities lie in the area.
+    fn size_of_area(&self, area: &Area) -> u64
+        ensures { result ≡ size_within (covers area.now) self.now }
+    {
+        (blocks::count_in(&self.blocks, area) + entities::count_in(&self.entities, area)) as u64
+    }
+
+    /// Moves what lies in the area.
+    fn move_area(&mut self, area: &Area, into: &mut Chunks)
+        requires apart { Apart (flat_of into.old) (within (covers area.now) (flat_of self.old)) }
+        requires room { size_within (covers area.now) self.old ≤ into.old.spare }
+        ensures stayed { flat_of self.new ≡ outside (covers area.now) (flat_of self.old) }
+        ensures moved { flat_of into.new ≡ joined (flat_of into.old) (within (covers area.now) (flat_of self.old)) }
+        ensures size { size_of self.new + size_within (covers area.now) self.old ≡ size_of self.old }
+        ensures into_size { size_of into.new ≡ size_of into.old + size_within (covers area.now) self.old }
+        ensures spare { self.old.spare ≤ self.new.spare }
+        ensures into_spare { into.old.spare ≤ into.new.spare + size_within (covers area.now) self.old }
+    {
+        blocks::move_area(&mut self.blocks, area, &mut into.blocks);
+        entities::move_area(&mut self.entities, area, &mut into.entities);
+    }
+}

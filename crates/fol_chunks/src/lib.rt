@@ -1,0 +1,20 @@
+//! The blocks and entities of one region.
+//!
+//! A `Chunks` stands for a flat map of blocks, in which a block without a number has number 0, and a flat list of entities whose ids
+//! differ. Contracts say what each call does to these two functions, and nothing of how they are kept.
+//!
+//! The crate promises that `get`, `set`, `find`, `take_entity` and `put_entity` read and change just what they name, that
+//! `step_entities` is the movement at the end of a tick, and that what is moved to another value or taken in from it is exactly what
+//! lies in the chunk, in the part or in the other value. Only `reserve` and `blocks` take memory. It serves the data of a region.
+#![tactic(auto)]
+
+mod area;
+mod blocks;
+mod chunks;
+mod entities;
+mod order;
+mod steps;
+#[cfg(test)]
+mod tests;
+
+pub use chunks::Chunks;

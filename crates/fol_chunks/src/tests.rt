@@ -1,0 +1,94 @@
+//! What only a run can show.
+
+ghost use Rattle.std.specs.Prelude.{◌≡◌};
+
+use crate::Chunks;
+use fol_model::{BlockPos, ChunkPos, Entity, Grid, SectionPos, chunk_of};
+use std::test::Fail;
+
+const CHUNKS: [ChunkPos; 2] = [ChunkPos { x: 0, z: 0 }, ChunkPos { x: 1, z: 0 }];
+
+fn block(x: i32, z: i32) -> BlockPos {
+    BlockPos { x, y: 64, z }
+}
+
+fn walker(id: u32, x: i32, vx: i32) -> Entity
+    ensures { result.id ≡ id }
+{
+    Entity {
+        id,
+        at: block(x, 0),
+        vx,
+        vz: 0,
+    }
+}
+
+fn step(chunks: &mut Chunks) {
+    chunks.step_entities(&CHUNKS);
+}
+
+/// An entity crosses the border of a chunk, and stays at the border of the recorded chunks.
+#[test]
+fn entities_walk_within_recorded_chunks(rt: HostRuntime) -> Result<(), Fail> {
+    let mut chunks = Chunks::new(rt.alloc());
+    chunks.reserve(1)?;
+    assert!(rt; chunks.spare() >= 1);
+    assert_eq!(rt; chunks.take_entity(1), None);
+    chunks.put_entity(walker(1, 15, 16));
+    step(&mut chunks);
+    assert_eq!(rt; chunks.find(1), Some(block(31, 0)));
+    step(&mut chunks);
+    assert_eq!(rt; chunks.find(1), Some(block(31, 0)));
+    assert_eq!(rt; chunks.take_entity(1), Some(walker(1, 31, 16)));
+    assert_eq!(rt; chunks.take_entity(1), None);
+    assert_eq!(rt; chunks.size(), 0);
+    Ok(())
+}
+
+/// A number is set, replaced and taken away, and the blocks are listed by place.
+#[test]
+fn blocks_are_set_and_listed(rt: HostRuntime) -> Result<(), Fail> {
+    let mut chunks = Chunks::new(rt.alloc());
+    chunks.reserve(8)?;
+    assert!(rt; chunks.spare() >= 1);
+    chunks.set(block(5, 0), 7);
+    assert!(rt; chunks.spare() >= 1);
+    chunks.set(block(-20, 3), 9);
+    assert!(rt; chunks.spare() >= 1);
+    chunks.set(block(5, 0), 8);
+    assert_eq!(rt; chunks.get(block(5, 0)), 8);
+    assert_eq!(rt; chunks.get(block(5, 1)), 0);
+    let listed = chunks.blocks(rt.alloc())?;
+    assert_eq!(rt; listed.len(), 2);
+    assert_eq!(rt; listed[0].at, block(-20, 3));
+    assert_eq!(rt; listed[1].id, 8);
+    assert!(rt; chunks.spare() >= 1);
+    chunks.set(block(5, 0), 0);
+    assert_eq!(rt; chunks.get(block(5, 0)), 0);
+    assert_eq!(rt; chunks.size(), 1);
+    Ok(())
+}
+
+/// A part is moved out, and taken in again.
+#[test]
+fn a_part_moves_with_its_section(rt: HostRuntime) -> Result<(), Fail> {
+    let grid = Grid::of(0, 1, 1, 2, 1, 6).ok_or("the grid is within the limits")?;
+    let part = [SectionPos { x: -2, z: 0 }];
+    let mut chunks = Chunks::new(rt.alloc());
+    chunks.reserve(8)?;
+    assert!(rt; chunks.spare() >= 1);
+    chunks.set(block(5, 0), 7);
+    assert!(rt; chunks.spare() >= 1);
+    chunks.set(block(-20, 3), 9);
+    let mut parted = Chunks::new(rt.alloc());
+    parted.reserve(8)?;
+    let size = chunks.size_in(&grid, &part);
+    assert_eq!(rt; size, 1);
+    assert_eq!(rt; chunks.size_of_chunk(chunk_of(block(-20, 3))), 1);
+    assert!(rt; parted.size() == 0 && chunks.size_in(&grid, &part) <= parted.spare());
+    chunks.move_part(&grid, &part, &mut parted);
+    assert_eq!(rt; parted.get(block(-20, 3)), 9);
+    assert_eq!(rt; chunks.get(block(-20, 3)), 0);
+    assert_eq!(rt; chunks.get(block(5, 0)), 7);
+    Ok(())
+}

@@ -1,0 +1,38 @@
+//! A tick in the hands of a worker.
+
+ghost use Rattle.std.specs.Prelude.{◌≡◌};
+
+use crate::RegionData;
+use fol_model::{ChunkPos, Sequence, Task, TickLog};
+
+/// One tick of one region, from its begin to its release: what it may touch, what it has to do, and what it did so far.
+#[derive(Drop)]
+pub struct Tick {
+    /// The worker that runs it, 1 to 64.
+    pub worker: u32,
+    /// The id of the region.
+    pub region: u64,
+    /// The place of its Begin in the history, counted from 0.
+    pub begun: u64,
+    /// The recorded chunks: those that were loaded at the Begin, by z and then by x.
+    pub chunks: Sequence<ChunkPos>,
+    /// The due tasks, in order of number.
+    pub due: Sequence<Task>,
+    /// The data of the region.
+    pub body: RegionData,
+    /// The tasks that ran and the tasks that the tick asks for, so far.
+    pub log: TickLog,
+    /// How many of the due tasks ran.
+    pub next: u64,
+    /// Whether the entities moved, which is the last thing that a tick does.
+    pub moved: bool,
+}
+
+impl Tick {
+    /// Whether the tick is finished: all due tasks ran and then the entities moved.
+    pub fn is_finished(&self) -> bool
+        ensures { result ≡ self.now.moved }
+    {
+        self.moved
+    }
+}

@@ -1,0 +1,6 @@
+pub mod Keyed
+pub mod Numbers
+pub mod Parting
+pub mod Queued
+pub mod Raised
+pub mod OneTask

@@ -1,0 +1,155 @@
+//! A queue of tasks with deadlines.
+
+ghost use Rattle.std.specs.Prelude.{◌≡◌, ◌+◌, ◌^◌, ◌≤◌, ◌||◌, not, Bool, IsTrue, ◌↔◌, ℕ, List, [], length, OnOk, vec_len, IsNone};
+ghost use Rattle.std.specs.Option.{option_map, option_or, is_none, is_some, ForSome};
+ghost use Rattle.std.specs.Vec.{vec_capacity};
+ghost use Rattle.fol_model.specs.ActionStep.{at_id};
+ghost use Rattle.fol_model.specs.FlatTick.{Rising};
+
+use crate::{Dated, walks};
+use fol_model::{ChunkPos, Grid, SectionPos, Task};
+use std::alloc::{AllocError, Global};
+use std::marker::Model;
+
+/// The tasks that wait for the ticks of one region. Contracts see the tasks by number, and how many more it can accept.
+#[derive(Drop)]
+pub struct Queues {
+    tasks: Vec<Dated>,
+}
+
+impl Model for Queues {
+    ghost use Rattle.std.specs.Prelude.{◌-◌, vec_len};
+    ghost use Rattle.std.specs.Vec.{vec_capacity};
+    ghost use Rattle.fol_queues.specs.Waiting.{Waiting};
+    ghost use Rattle.fol_queues.specs.Distinct.{Distinct};
+
+    ghost Value = { Waiting };
+
+    ghost view = { λ q. record { tasks = q.tasks.items; spare = vec_capacity q.tasks - vec_len q.tasks } };
+
+    ghost invariant = { λ q. Distinct q.tasks.items };
+}
+
+impl Queues {
+    ghost use Rattle.fol_queues.specs.Waiting.{Waiting, dated, task_in, len_of, is_due, due_count, lies_in, count_within, lies_on, raised, IsRaisable, option_filter};
+
+    /// No task. Takes no memory.
+    pub fn new(alloc: Global) -> Queues
+        ensures none { dated result ≡ λ n. None }
+        ensures empty { result.tasks ≡ [] }
+    {
+        Queues {
+            tasks: Vec::new(alloc),
+        }
+    }
+
+    /// Makes `spare` at least `n`. The tasks stay either way.
+    pub fn reserve(&mut self, n: u64) -> Result<(), AllocError>
+        ensures tasks { self.new.tasks ≡ self.old.tasks }
+        ensures ok { OnOk result (n ≤ self.new.spare) }
+        ensures spare { self.old.spare ≤ self.new.spare }
+    {
+        self.tasks.reserve(n as usize)
+    }
+
+    /// How many more tasks it can accept without taking memory.
+    pub fn spare(&self) -> u64
+        ensures { result ≡ self.now.spare }
+    {
+        (self.tasks.capacity() - self.tasks.len()) as u64
+    }
+
+    /// How many tasks wait.
+    pub fn len(&self) -> u64
+        ensures { result ≡ len_of self.now }
+    {
+        self.tasks.len() as u64
+    }
+
+    /// Whether no task waits.
+    pub fn is_empty(&self) -> bool
+        ensures { IsTrue result ↔ (self.now.tasks ≡ []) }
+    {
+        self.tasks.is_empty()
+    }
+
+    /// Adds a task that is due in the `delay`-th tick begun from now on, where the region has begun `begun` ticks so far.
+    pub fn accept(&mut self, task: Task, delay: u32, begun: u64)
+        requires spare { 1 ≤ self.old.spare }
+        requires fresh { IsNone (dated self.old task.number) }
+        requires delay { delay ≤ 1000000 }
+        requires begun { begun ≤ 2 ^ 62 }
+        ensures tasks { dated self.new ≡ at_id (dated self.old) task.number (Some (record { task = task; deadline = begun + delay })) }
+        ensures len { len_of self.new ≡ len_of self.old + 1 }
+        ensures spare { self.old.spare ≤ self.new.spare + 1 }
+    {
+        let deadline = begun + delay as u64;
+        self.tasks.push_reserved(Dated { task, deadline });
+    }
+
+    /// How many tasks have their deadline at `now` or before.
+    pub fn count_due(&self, now: u64) -> u64
+        ensures { result ≡ due_count now self.now }
+    {
+        walks::count_due(&self.tasks, now)
+    }
+
+    /// Moves the tasks whose deadline is at most `now` into `out`, in order of number. Takes no memory.
+    pub fn take_due(&mut self, now: u64, out: &mut Vec<Task>)
+        requires empty { out.old.items ≡ [] }
+        requires room { due_count now self.old ≤ vec_capacity out.old }
+        ensures left { dated self.new ≡ λ n. option_filter (λ d. not (is_due now d)) (dated self.old n) }
+        ensures taken { task_in out.new.items ≡ λ n. option_map (λ d. d.task) (option_filter (is_due now) (dated self.old n)) }
+        ensures order { Rising out.new.items }
+        ensures len { len_of self.new + length out.new.items ≡ len_of self.old }
+        ensures count { length out.new.items ≡ due_count now self.old }
+        ensures spare { self.old.spare ≤ self.new.spare }
+    {
+        walks::move_due(&mut self.tasks, now, out);
+        out.sort_unstable_by_key(|task| task.number);
+    }
+
+    /// Takes the tasks of another queue in, each with its deadline moved by the offset. Takes no memory.
+    pub fn merge_from(&mut self, other: Queues, offset: i64)
+        requires apart { (n : ℕ) → IsTrue (is_none (dated self.old n) || is_none (dated other n)) }
+        requires room { len_of other ≤ self.old.spare }
+        requires deadlines { (n : ℕ) → ForSome (dated other n) (IsRaisable offset) }
+        ensures tasks { dated self.new ≡ λ n. option_or (dated self.old n) (option_map (raised offset) (dated other n)) }
+        ensures len { len_of self.new ≡ len_of self.old + len_of other }
+        ensures spare { self.old.spare ≤ self.new.spare + len_of other }
+    {
+        let Queues { mut tasks } = other;
+        walks::raise_all(&mut tasks, offset);
+        match self.tasks.append(&mut tasks) {
+            Ok(()) => {}
+            Err(_) => unreachable!(),
+        }
+    }
+
+    /// Moves the tasks whose section is in the part into an empty queue, with their deadlines. Takes no memory.
+    pub fn move_part(&mut self, grid: &Grid, part: &[SectionPos], into: &mut Queues)
+        requires empty { into.old.tasks ≡ [] }
+        requires room { count_within grid.now part.now self.old ≤ into.old.spare }
+        ensures stayed { dated self.new ≡ λ n. option_filter (λ d. not (lies_in grid.now part.now d)) (dated self.old n) }
+        ensures moved { dated into.new ≡ λ n. option_filter (lies_in grid.now part.now) (dated self.old n) }
+        ensures len { len_of self.new + len_of into.new ≡ len_of self.old }
+        ensures count { len_of into.new ≡ count_within grid.now part.now self.old }
+        ensures spare { self.old.spare ≤ self.new.spare }
+    {
+        walks::move_part(&mut self.tasks, grid, part, &mut into.tasks);
+    }
+
+    /// Whether a task waits on the chunk.
+    pub fn has(&self, c: ChunkPos) -> bool
+        ensures { IsTrue result ↔ ((n : ℕ) × IsTrue (is_some (option_filter (lies_on c) (dated self.now n)))) }
+    {
+        walks::any_on(&self.tasks, c)
+    }
+
+    /// How many tasks lie in the part.
+    pub fn count_in(&self, grid: &Grid, part: &[SectionPos]) -> u64
+        ensures { result ≡ count_within grid.now part.now self.now }
+    {
+        walks::count_in(&self.tasks, grid, part)
+    }
+}

@@ -1,0 +1,12 @@
+pub mod Cuts
+pub mod Digits
+pub mod Going
+pub mod Judging
+pub mod Posts
+pub mod CommandLimits
+pub mod ScriptBefore
+pub mod ReadScript
+pub mod RowText
+pub mod WorldMaps
+pub mod WorldBefore
+pub mod ReadWorld

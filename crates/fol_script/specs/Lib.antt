@@ -1,0 +1,9 @@
+pub mod Marks
+pub mod Judged
+pub mod Posts
+pub mod ScriptBefore
+pub mod ReadText
+pub mod CellText
+pub mod WorldRows
+pub mod WorldMaps
+pub mod WorldBefore

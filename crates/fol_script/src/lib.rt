@@ -1,0 +1,39 @@
+//! The readers and printers of world texts and script texts.
+//!
+//! A text is cut into lines, and each line that is not skipped into words. `fol_model` says which lines are bad and why, and
+//! which bytes are the text of an opening or of a script. `read_world` and `read_script` give the value exactly where the text
+//! is that of one, and else the first bad line with its first cause; any bytes are read, in one pass. `print_world` and
+//! `print_script` give the one text without skipped lines that reads back as the value.
+//!
+//! From the bottom up: `lines` cuts, `numbers` reads numbers of any length, `forms` says what stands behind a word, `cells`
+//! and `judge` read a line by itself; `script_lines` and `world_lines` see it among the lines before it; `scripts` and `worlds`
+//! read whole texts, over `commands` and `actions`, and `world_blocks`. The printers stand over `value_cells` and `printing`.
+//! The laws behind them are those of `fol_text_laws`. The crate serves the program's top call.
+#![tactic(auto)]
+
+mod actions;
+mod cells;
+mod commands;
+mod errors;
+mod forms;
+mod judge;
+mod lines;
+mod numbers;
+mod printing;
+mod script_lines;
+mod script_printer;
+mod scripts;
+mod taken;
+#[cfg(test)]
+mod tests;
+mod value_cells;
+mod world_blocks;
+mod world_lines;
+mod world_printer;
+mod worlds;
+
+pub use errors::ReadError;
+pub use script_printer::print_script;
+pub use scripts::read_script;
+pub use world_printer::print_world;
+pub use worlds::read_world;

@@ -1,0 +1,10 @@
+pub mod Results
+pub mod RowsOf
+pub mod Views
+pub mod Margins
+pub mod KeptSteps
+pub mod Tables
+pub mod NumberSteps
+pub mod Bounds
+pub mod AddTable
+pub mod DeadSteps

@@ -1,0 +1,82 @@
+use Rattle.std.proofs.Common.{◌≡◌, ℕ, ◌+◌, ◌-◌, refl, sym, ◌∙◌, ap, arith, Bool, true, false, cond, ◌&&◌}
+use Rattle.std.specs.Prelude.{nat_eq, if◌then◌else◌}
+use Rattle.std.proofs.Math.Path.{fun_ext}
+use Rattle.std.proofs.lemmas.Bool.{lt-ltb, eq-eqb, ne_eqb}
+use Rattle.fol_model.specs.declared.places.ChunkPos.{ChunkPos}
+use Rattle.fol_model.specs.Geometry.{same_section, section_of}
+use Rattle.fol_model.specs.GridState.{at_chunk}
+use Rattle.fol_sections.specs.declared.answers.Removed.{Removed}
+use Rattle.fol_sections.specs.declared.answers.Removed.TheVariants.{Gone, Lowered, NotLoaded}
+use Rattle.fol_sections.specs.Places.{chunks_at, count_at}
+use Rattle.fol_sections.specs.Table.{removed}
+use Rattle.fol_sections.proofs.KeptSteps.{kept_remove}
+use Rattle.fol_sections.proofs.NumberSteps.{chunks_positive}
+use Rattle.fol_sections.proofs.Tables.{table-holds, table-presence}
+use Rattle.fol_sections.proofs.sections.Sections.remove.Goals as goal
+use Rattle.fol_sections.proofs.sections.Sections.remove.Goals.{then-count-eq1, else-count-eq1}
+
+always : (b : Bool) → (b && true) ≡ b
+always true = refl
+always false = refl
+
+nothing : (b : Bool) (n : ℕ) → n ≡ cond (b && false) 1 0 + n
+nothing true n = omega arith
+nothing false n = omega arith
+
+pub drop_chunk-requires : goal.drop_chunk-requires
+drop_chunk-requires c = rw c.section_of.ensures (chunks_positive _ _ _ c.args.c c.self.invariant.0 (lt-ltb _ _ (omega (arith, c.drop_hold-count.ensures.before, c.if-count-eq1.true))))
+
+pub invariant_of-self : goal.invariant_of-self
+invariant_of-self c =
+    let one : nat_eq (count_at c.self.inside.holds.entries c.args.c) 1 ≡ true = eq-eqb _ _ (omega (arith, c.drop_hold-count.ensures.before, c.if-count-eq1.true)) in
+    let fell = rw c.section_of.ensures at c.drop_chunk.ensures.chunks in (
+      kept_remove _ _ _ _ _ c.args.c c.self.invariant.0 c.drop_hold-count.ensures.counts c.drop_chunk.ensures.here
+          (λ s. fell s ∙ ap (λ b. cond b 1 0 + chunks_at c.drop_chunk.new.cells.entries s)
+          (sym (ap (λ b. same_section (section_of c.self.inside.grid c.args.c) s && b) one ∙ always (same_section (section_of c.self.inside.grid c.args.c) s))))
+          c.drop_chunk.ensures.len,
+      record {
+        holds = omega (arith, c.drop_hold-count.ensures.room, c.self.invariant.1.holds);
+        cells = omega (arith, c.drop_chunk.ensures.room, c.self.invariant.1.cells);
+        filled = c.self.invariant.1.filled;
+        fits = c.self.invariant.1.fits;
+      },
+    )
+
+pub invariant_of-self-else-count-eq1 : goal.invariant_of-self-else-count-eq1
+invariant_of-self-else-count-eq1 c =
+    let other : nat_eq (count_at c.self.inside.holds.entries c.args.c) 1 ≡ false = ne_eqb _ _ (λ e. c.if-count-eq1.false (c.drop_hold-count.ensures.before ∙ e)) in (
+      kept_remove _ _ _ _ _ c.args.c c.self.invariant.0 c.drop_hold-count.ensures.counts (λ s. refl)
+          (λ s. nothing (same_section (section_of c.self.inside.grid c.args.c) s) (chunks_at c.self.inside.cells.entries s)
+          ∙ ap (λ b. cond (same_section (section_of c.self.inside.grid c.args.c) s && b) 1 0 + chunks_at c.self.inside.cells.entries s) (sym other))
+          refl,
+      record {
+        holds = omega (arith, c.drop_hold-count.ensures.room, c.self.invariant.1.holds);
+        cells = c.self.invariant.1.cells;
+        filled = c.self.invariant.1.filled;
+        fits = c.self.invariant.1.fits;
+      },
+    )
+
+pub returns-clause-answer : goal.returns-clause-answer
+unfolding removed
+returns-clause-answer c =
+    let is = c.drop_hold-count.ensures.before ∙ sym (ap (λ (f : ChunkPos → ℕ). f c.args.c) (table-holds c.self.inside.grid c.self.inside.holds.entries c.self.inside.cells.entries c.self.inside.filled.items c.self.inside.spare)) in
+    let answer : ℕ → Removed = λ n. if nat_eq n 0 then NotLoaded else (if nat_eq n 1 then Gone else Lowered) in
+    rw (← c.self.view_is) (c.answer_for.ensures ∙ ap answer is)
+
+pub returns-clause-holds : goal.returns-clause-holds
+returns-clause-holds c =
+    let before = table-holds c.self.inside.grid c.self.inside.holds.entries c.self.inside.cells.entries c.self.inside.filled.items c.self.inside.spare in
+    let step = fun_ext c.drop_hold-count.ensures.counts ∙ ap (λ (f : ChunkPos → ℕ). at_chunk f c.args.c (f c.args.c - 1)) (sym before) in
+    elim c.if-count-eq1.branch [
+      | then-count-eq1 w ↦ rw (w.self-is, ← c.self.view_is) (table-holds _ _ _ _ _ ∙ step)
+      | else-count-eq1 w ↦ rw (w.self-is, ← c.self.view_is) (table-holds _ _ _ _ _ ∙ step)
+    ]
+
+pub returns-clause-presence : goal.returns-clause-presence
+returns-clause-presence c =
+    let before = table-presence c.self.inside.grid c.self.inside.holds.entries c.self.inside.cells.entries c.self.inside.filled.items c.self.inside.spare in
+    elim c.if-count-eq1.branch [
+      | then-count-eq1 w ↦ rw (w.self-is, ← c.self.view_is) (table-presence _ _ _ _ _ ∙ fun_ext w.drop_chunk.ensures.here ∙ sym before)
+      | else-count-eq1 w ↦ rw (w.self-is, ← c.self.view_is) (table-presence _ _ _ _ _ ∙ sym before)
+    ]

@@ -1,0 +1,4 @@
+pub mod Table
+pub mod Places
+pub mod Squares
+pub mod Kept

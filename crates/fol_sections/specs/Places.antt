@@ -1,0 +1,27 @@
+-- Numbers by place.
+use Rattle.std.specs.Prelude.{ℕ, ℤ, Bool, ◌&&◌, Option, List, is_some}
+use Rattle.std.specs.Map.{lookup}
+use Rattle.std.specs.Option.{unwrap_or}
+use Rattle.std.specs.Ordering.{int_eq}
+use Rattle.fol_model.specs.declared.places.ChunkPos.{ChunkPos}
+use Rattle.fol_model.specs.declared.places.SectionPos.{SectionPos}
+
+-- the two places are one
+unfoldable pub is_same : ℤ → ℤ → ℤ → ℤ → Bool
+is_same x z a b = int_eq x a && int_eq z b
+
+-- the number at a place, if it has one
+unfoldable pub number_at : List ((ℤ × ℤ) × ℕ) → ℤ → ℤ → Option ℕ
+number_at entries x z = lookup (λ key. int_eq x key.0 && int_eq z key.1) entries
+
+-- the number at a chunk, or 0
+unfoldable pub count_at : List ((ℤ × ℤ) × ℕ) → ChunkPos → ℕ
+count_at entries c = unwrap_or (number_at entries c.x c.z) 0
+
+-- the section has a number
+unfoldable pub is_here : List ((ℤ × ℤ) × ℕ) → SectionPos → Bool
+is_here entries s = is_some (number_at entries s.x s.z)
+
+-- the number at a section, or 0
+unfoldable pub chunks_at : List ((ℤ × ℤ) × ℕ) → SectionPos → ℕ
+chunks_at entries s = unwrap_or (number_at entries s.x s.z) 0

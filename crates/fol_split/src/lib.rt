@@ -1,0 +1,16 @@
+//! How a set of sections falls into parts.
+//!
+//! Two sections are in one part exactly where a list of the given sections leads from one to the other, each within the merge
+//! radius of the next. A [`Splitter`] holds the parts that its last call of `parts` found: each of them in order, and the parts
+//! in order of their least sections. It takes its memory once, when it is made.
+//!
+//! The region table uses it where a region is cleaned: what is left of the region stays one region or becomes several.
+#![tactic(auto)]
+
+mod pool;
+mod spans;
+mod splitter;
+#[cfg(test)]
+mod tests;
+
+pub use splitter::Splitter;

@@ -1,0 +1,94 @@
+//! The parts of small and of large sets of sections.
+
+ghost use Rattle.std.specs.Prelude.{◌≡◌, IsTrue};
+ghost use Rattle.std.specs.List.{All, IsDistinct};
+ghost use Rattle.std.specs.Ordering.{is_lt};
+ghost use Rattle.std.specs.declared.cmp.Ordering.TheVariants.{Less};
+ghost use Rattle.fol_model.specs.Geometry.{is_section, same_section};
+ghost use Rattle.fol_model.specs.Universe.{section_cmp};
+
+use crate::Splitter;
+use fol_model::SectionPos;
+use std::alloc::{AllocError, Global};
+use std::process::Abort;
+use std::test::Fail;
+
+/// Whether the first section is before the second.
+fn is_before(a: SectionPos, b: SectionPos) -> bool
+    ensures { IsTrue result → section_cmp a b ≡ Less }
+{
+    a.z < b.z || a.z == b.z && a.x < b.x
+}
+
+/// Whether sections are within the limits and rise, so that they are distinct.
+fn is_rising(sections: &[SectionPos]) -> bool
+    ensures distinct { IsTrue result → IsDistinct same_section sections.now }
+    ensures in_range { IsTrue result → All (λ s. IsTrue (is_section s)) sections.now }
+{
+    for i in 0..sections.len() {
+        if !sections[i].in_range() {
+            return false;
+        }
+        if i > 0 {
+            if !is_before(sections[i - 1], sections[i]) {
+                return false;
+            }
+        }
+    }
+    true
+}
+
+/// The sizes of the parts.
+fn sizes_are(
+    rt: &impl Abort,
+    splitter: &mut Splitter,
+    sections: &[SectionPos],
+    merge: u8,
+    sizes: &[usize],
+) -> Result<(), Fail> {
+    assert!(rt; is_rising(sections) && sections.len() <= 16_384 && 1 <= merge && merge <= 4);
+    splitter.parts(sections, merge);
+    assert_eq!(rt; splitter.count() as usize, sizes.len());
+    for i in 0..splitter.count() {
+        assert_eq!(rt; splitter.part(i).len(), sizes[i as usize], "part {i}");
+    }
+    Ok(())
+}
+
+#[test]
+fn a_corner_joins_and_a_gap_parts(rt: HostRuntime) -> Result<(), Fail> {
+    let mut splitter = Splitter::new(rt.alloc())?;
+    let sections = [
+        SectionPos { x: 0, z: 0 },
+        SectionPos { x: 1, z: 1 },
+        SectionPos { x: 3, z: 1 },
+    ];
+    sizes_are(&rt, &mut splitter, &sections, 1, &[2, 1])?;
+    sizes_are(&rt, &mut splitter, &sections, 2, &[3])?;
+    sizes_are(&rt, &mut splitter, &[], 1, &[])?;
+    Ok(())
+}
+
+/// A square of 128 by 128 sections, each second column left out.
+fn columns(alloc: Global) -> Result<Vec<SectionPos>, AllocError> {
+    let mut sections = Vec::with_capacity(alloc, 16_384)?;
+    for z in 0..128u8 {
+        for x in 0..128u8 {
+            sections.push(SectionPos {
+                x: 2 * x as i32 - 100,
+                z: z as i32 - 50,
+            })?;
+        }
+    }
+    Ok(sections)
+}
+
+#[test]
+fn columns_are_parts_of_their_own(rt: HostRuntime) -> Result<(), Fail> {
+    let mut splitter = Splitter::new(rt.alloc())?;
+    let sections = columns(rt.alloc())?;
+    sizes_are(&rt, &mut splitter, &sections, 1, &[128; 128])?;
+    sizes_are(&rt, &mut splitter, &sections, 2, &[16_384])?;
+    sizes_are(&rt, &mut splitter, &sections, 4, &[16_384])?;
+    Ok(())
+}

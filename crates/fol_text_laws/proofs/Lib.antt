@@ -1,0 +1,17 @@
+pub mod FieldLimits
+pub mod Numerals
+pub mod OneSpelling
+pub mod OneLine
+pub mod Again
+pub mod Valid
+pub mod Ranges
+pub mod Cells
+pub mod Deeds
+pub mod Sorting
+pub mod PrintedLines
+pub mod Commands
+pub mod Scripts
+pub mod ScriptLaws
+pub mod Items
+pub mod Worlds
+pub mod WorldLaws

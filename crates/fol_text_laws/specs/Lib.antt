@@ -1,0 +1,5 @@
+pub mod FieldLimits
+pub mod Printed
+pub mod SameItem
+pub mod RowValues
+pub mod Laws

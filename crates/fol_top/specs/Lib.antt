@@ -1,0 +1,14 @@
+pub mod Command
+pub mod Inputs
+pub mod Today
+pub mod Report
+pub mod Ending
+pub mod Reading
+pub mod Spelling
+pub mod Writing
+pub mod Complaint
+pub mod Outcome
+pub mod Came
+pub mod Turns
+pub mod Calm
+pub mod Progress

@@ -1,0 +1,79 @@
+//! How a run ends.
+
+ghost use Rattle.std.specs.Prelude.{◌≡◌};
+ghost use Rattle.fol_top.specs.Ending.{status_of};
+
+use fol_model::Cause;
+
+/// What the program ends with.
+#[derive(Clone, Copy, Debug, PartialEq, Eq)]
+pub struct Status {
+    /// 0 where the whole output was written, and else the number of the cause.
+    pub code: u8,
+    /// The line that a bad text was found bad at, and 0 at every other code.
+    pub line: u64,
+    /// What is wrong with that line, and `None` at every other code.
+    pub cause: Option<Cause>,
+}
+
+/// The ways in which a run can end.
+#[derive(Clone, Copy)]
+pub(crate) enum Ending {
+    /// The whole output was written.
+    Written,
+    /// The words are no command.
+    Words,
+    /// The world has a bad line.
+    World { line: u64, cause: Cause },
+    /// The script has a bad line.
+    Script { line: u64, cause: Cause },
+    /// The shelf met a fault.
+    ReadFault,
+    /// The sink met a fault.
+    WriteFault,
+    /// Memory was not found.
+    NoMemory,
+    /// A file is too long.
+    TooLong,
+    /// Both texts are valid, and the core of today can't run them.
+    Unbuilt,
+}
+
+impl Ending {
+    /// The status that stands for this ending.
+    pub(crate) fn status(self) -> Status
+        ensures { result ≡ status_of self }
+    {
+        match self {
+            Ending::Written => plain(0),
+            Ending::Words => plain(2),
+            Ending::World { line, cause } => bad_line(3, line, cause),
+            Ending::Script { line, cause } => bad_line(4, line, cause),
+            Ending::ReadFault => plain(5),
+            Ending::WriteFault => plain(6),
+            Ending::NoMemory => plain(7),
+            Ending::TooLong => plain(8),
+            Ending::Unbuilt => plain(9),
+        }
+    }
+}
+
+fn plain(code: u8) -> Status
+    ensures { result ≡ record { code = code; line = 0; cause = None } }
+{
+    Status {
+        code,
+        line: 0,
+        cause: None,
+    }
+}
+
+fn bad_line(code: u8, line: u64, cause: Cause) -> Status
+    ensures { result ≡ record { code = code; line = line; cause = Some cause } }
+{
+    Status {
+        code,
+        line,
+        cause: Some(cause),
+    }
+}

@@ -1,0 +1,171 @@
+//! What no contract says: that runs come to an end, what a whole report looks like, and that memory is found.
+
+use crate::{Status, run};
+use fol_io::{Bytes, MemShelf, MemSink, NamedBytes, QuietGate, Text};
+use fol_model::Cause;
+use std::alloc::{AllocError, Global};
+use std::sync::Wait;
+use std::test::Fail;
+
+const WORLD: &str = "world 1\ngrid 0 1 1 2 1 6\n";
+
+const ONE_REGION: &str = "load 0 0\nrun 2\nend\n";
+
+const ONE_REGION_REPORT: &str =
+    "report 1\nevents 8\nload 0 0 0 counted\nopen 2\nbegin 1 1\nend 1 1 tick 1 ran 0 accepted 0\nbegin 1 1\nend 1 1 tick 2 ran 0 accepted 0\nclose\nfinish\nregions 1\nregion 1 ready tick 2 owed 0 sections 9 chunks 1\nowners 9\nowner -1 -1 1\nowner 0 -1 1\nowner 1 -1 1\nowner -1 0 1\nowner 0 0 1\nowner 1 0 1\nowner -1 1 1\nowner 0 1 1\nowner 1 1 1\ntasks 0\nentities 0\nblocks 0\nend\n";
+
+const EMPTY_REPORT: &str =
+    "report 1\nevents 1\nfinish\nregions 0\nowners 0\ntasks 0\nentities 0\nblocks 0\nend\n";
+
+/// What a run came to.
+#[derive(Drop)]
+struct Came {
+    status: Status,
+    out: MemSink,
+    err: MemSink,
+}
+
+fn named(alloc: Global, name: &str, bytes: &[u8]) -> Result<NamedBytes, AllocError> {
+    Ok(NamedBytes {
+        name: Text::of(String::from_str(alloc, name)?),
+        bytes: Bytes::of(Vec::from_slice(alloc, bytes)?),
+        faults: 0,
+    })
+}
+
+fn sink_of(alloc: Global, failing: &[u64]) -> Result<MemSink, AllocError> {
+    Ok(MemSink::of(
+        Vec::with_capacity(alloc, 4096)?,
+        Vec::from_slice(alloc, failing)?,
+    ))
+}
+
+/// Runs words on a world and a script, where these reads and these puts of the output fail.
+fn run_words(
+    rt: &impl Wait,
+    alloc: Global,
+    words: &[&str],
+    texts: (&[u8], &[u8]),
+    failing: (&[u64], &[u64]),
+) -> Result<Came, AllocError> {
+    let (world, script) = texts;
+    let (reads, puts) = failing;
+    let files = vec![in alloc; named(alloc, "w", world)?, named(alloc, "s", script)?]?;
+    let mut shelf = MemShelf::of(files, Vec::from_slice(alloc, reads)?);
+    let mut out = sink_of(alloc, puts)?;
+    let mut err = sink_of(alloc, &[])?;
+    let status = run(rt, alloc, words, &mut shelf, &mut out, &mut err, &QuietGate);
+    Ok(Came { status, out, err })
+}
+
+fn run_texts(rt: &impl Wait, alloc: Global, world: &str, script: &str) -> Result<Came, AllocError> {
+    run_words(
+        rt,
+        alloc,
+        &["run", "w", "s", "1"],
+        (world.as_bytes(), script.as_bytes()),
+        (&[], &[]),
+    )
+}
+
+fn is_plain(came: &Came, code: u8, text: &[u8]) -> bool {
+    let status = came.status;
+    status.code == code
+        && status.line == 0
+        && status.cause.is_none()
+        && came.err.bytes() == text
+        && (code == 0 || came.out.bytes().is_empty())
+}
+
+fn is_line(came: &Came, code: u8, line: u64, cause: Cause, text: &[u8]) -> bool {
+    came.status
+        == Status {
+            code,
+            line,
+            cause: Some(cause),
+        }
+        && came.err.bytes() == text
+        && came.out.bytes().is_empty()
+}
+
+#[test]
+fn a_script_of_no_bytes_reports_an_empty_world(rt: HostRuntime) -> Result<(), Fail> {
+    let came = run_texts(&rt, rt.alloc(), WORLD, "")?;
+    assert!(rt; is_plain(&came, 0, b""));
+    assert_eq!(rt; came.out.bytes(), EMPTY_REPORT.as_bytes());
+    Ok(())
+}
+
+#[test]
+fn a_phase_of_two_ticks_is_reported(rt: HostRuntime) -> Result<(), Fail> {
+    let came = run_texts(&rt, rt.alloc(), WORLD, ONE_REGION)?;
+    assert!(rt; is_plain(&came, 0, b""));
+    assert_eq!(rt; came.out.bytes(), ONE_REGION_REPORT.as_bytes());
+    Ok(())
+}
+
+#[test]
+fn devices_that_fail_are_told(rt: HostRuntime) -> Result<(), Fail> {
+    let words = ["run", "w", "s", "1"];
+    let texts = (WORLD.as_bytes(), ONE_REGION.as_bytes());
+    let unread = run_words(&rt, rt.alloc(), &words, texts, (&[1], &[]))?;
+    assert!(rt; is_plain(&unread, 5, b"fol: read fault\n"));
+    let unwritten = run_words(&rt, rt.alloc(), &words, texts, (&[], &[1]))?;
+    assert!(rt; is_plain(&unwritten, 6, b"fol: write fault\n"));
+    let not_held = run_words(&rt, rt.alloc(), &["run", "w", "x", "1"], texts, (&[], &[]))?;
+    assert!(rt; is_plain(&not_held, 5, b"fol: read fault\n"));
+    Ok(())
+}
+
+#[test]
+fn words_that_are_no_command_read_nothing(rt: HostRuntime) -> Result<(), Fail> {
+    let texts = (WORLD.as_bytes(), ONE_REGION.as_bytes());
+    let rows: [&[&str]; 9] = [
+        &[],
+        &["run", "w", "s", "0"],
+        &["run", "w", "s", "65"],
+        &["run", "w", "s", "08"],
+        &["run", "w", "s", "-1"],
+        &["run", "w", "s"],
+        &["run", "w", "", "1"],
+        &["run", "-w", "s", "1"],
+        &["walk", "w", "s", "1"],
+    ];
+    for words in rows {
+        let came = run_words(&rt, rt.alloc(), words, texts, (&[1, 2], &[]))?;
+        assert!(rt; is_plain(&came, 2, b"fol: words\n"));
+    }
+    Ok(())
+}
+
+#[test]
+fn a_bad_line_is_told_with_its_cause(rt: HostRuntime) -> Result<(), Fail> {
+    let empty = run_texts(&rt, rt.alloc(), "", "")?;
+    assert!(rt; is_line(&empty, 3, 1, Cause::Missing, b"fol: world line 1 missing\n"));
+    let twice = run_texts(
+        &rt,
+        rt.alloc(),
+        "world 1\ngrid 0 1 1 2 1 6\nblock 0 0 0 1\nblock 0 0 0 1\n",
+        "",
+    )?;
+    assert!(rt; is_line(&twice, 3, 4, Cause::Twice, b"fol: world line 4 twice\n"));
+    let open = run_texts(&rt, rt.alloc(), WORLD, "run 1")?;
+    assert!(rt; is_line(&open, 4, 2, Cause::Missing, b"fol: script line 2 missing\n"));
+    Ok(())
+}
+
+#[test]
+fn a_file_over_the_limit_is_too_long(rt: HostRuntime) -> Result<(), Fail> {
+    let long = vec![in rt.alloc(); b'#'; 16_777_217]?;
+    let texts = (WORLD.as_bytes(), long.as_slice());
+    let came = run_words(&rt, rt.alloc(), &["run", "w", "s", "1"], texts, (&[], &[]))?;
+    assert!(rt; is_plain(&came, 8, b"fol: too long\n"));
+    Ok(())
+}
+
+#[test]
+fn two_loads_wait_for_a_later_core(rt: HostRuntime) -> Result<(), Fail> {
+    let came = run_texts(&rt, rt.alloc(), WORLD, "load 0 0\nload 4 0\n")?;
+    assert!(rt; is_plain(&came, 9, b"fol: unbuilt\n"));
+    Ok(())
+}
