@@ -2,9 +2,8 @@
 use Rattle.std.proofs.Common.{◌≡◌, ℕ, ◌<◌, ◌≤◌, ◌||◌, Bool, true, false, cond, List, [], ◌∷◌, ◌++◌, length, get_or, refl, sym, ◌∙◌, ap, ◌⊎◌, inl, inr, arith, Option, Some, None}
 use Rattle.std.specs.Prelude.{Contains, slice_set, nat_eq, if◌then◌else◌}
 use Rattle.std.specs.List.{find, filter, insert, remove}
-use Rattle.std.specs.List.Sorted.{IsStrictlySortedBy, IsPermutation, IsPartitionPoint, IsSortedBy}
+use Rattle.std.specs.List.Sorted.{IsStrictlySortedBy, IsPermutation, IsPartitionPoint}
 use Rattle.std.specs.Option.{option_or}
-use Rattle.std.specs.Ordering.{is_lt}
 use Rattle.std.specs.declared.cmp.Ordering.TheVariants.{Less, Greater}
 use Rattle.std.proofs.lemmas.Bool.{cases_Bool, or_cases, eqb-true}
 use Rattle.std.proofs.lemmas.List.Elements.{All-contains, All-append, All-filter, All-set}
@@ -19,10 +18,11 @@ use Rattle.fol_model.specs.Geometry.{same_block, chunk_of}
 use Rattle.fol_model.specs.Universe.{block_cmp}
 use Rattle.fol_model.specs.ActionStep.{at_block}
 use Rattle.fol_model.specs.World.{block_in}
+use Rattle.fol_keyed.specs.Apart.{Untied}
 use Rattle.fol_chunks.specs.Rows.{by_place, IsBlocks}
-use Rattle.fol_chunks.proofs.Keyed.{Differ, All-removed, All-inserted, find_absent, find_at, find_removed, find_replaced, find_inserted, find_permuted, find_key, find_own, differ_append, differ_permuted}
-use Rattle.fol_chunks.proofs.Places.{same_block-true, same_block-self, block_cmp_total, block_cmp_tells}
-use Rattle.fol_chunks.proofs.Sorted.{differ_from_sorted, none_between, sorted_remove, sorted_set, sorted_insert, sorted_from_sort}
+use Rattle.fol_keyed.proofs.Keyed.{Differ, All-removed, All-inserted, find_absent, find_at, find_removed, find_replaced, find_inserted, find_permuted, find_key, find_own, differ_append}
+use Rattle.fol_keyed.proofs.Places.{same_block-true, same_block-self, block_cmp_total, block_cmp_tells}
+use Rattle.fol_keyed.proofs.Sorted.{differ_from_sorted, none_between, sorted_remove, sorted_set, sorted_insert}
 
 abbrev number_of : Option BlockAt → ℕ
 number_of None = 0
@@ -128,14 +128,16 @@ module _ (xs ys zs : List BlockAt) where
   zero_not : (n m : ℕ) → n ≡ m → 0 < m → nat_eq n 0 ≡ true → ⊥
   zero_not n m e p t = let z : n ≡ 0 = eqb-true n 0 t in omega arith
 
-  pub joined_differ : IsBlocks xs → IsBlocks ys → NoneInBoth → Differ same_block same_block-true same_block-self (λ (x : BlockAt). x.at) (xs ++ ys)
-  joined_differ h k none =
-      differ_append same_block same_block-true same_block-self (λ (x : BlockAt). x.at) xs ys (differ xs h.order) (differ ys k.order)
-      (λ x y m n e. either x y m n e (or_cases (nat_eq (block_in xs y.at) 0) (nat_eq (block_in ys y.at) 0) (none y.at)))
+  no_block_in_both : IsBlocks xs → IsBlocks ys → NoneInBoth → (x y : BlockAt) → Contains xs x → Contains ys y → x.at ≡ y.at → ⊥
+  no_block_in_both h k none x y m n e = either x y m n e (or_cases (nat_eq (block_in xs y.at) 0) (nat_eq (block_in ys y.at) 0) (none y.at))
     where
       either : (x y : BlockAt) → Contains xs x → Contains ys y → x.at ≡ y.at → (nat_eq (block_in xs y.at) 0 ≡ true) ⊎ (nat_eq (block_in ys y.at) 0 ≡ true) → ⊥
       either x y m n e (inl t) = zero_not (block_in xs y.at) x.id (ap (block_in xs) (sym e) ∙ has_number xs x h m) (All-contains (λ z. 0 < z.id) xs x h.full m) t
       either x y m n e (inr t) = zero_not (block_in ys y.at) y.id (has_number ys y k n) (All-contains (λ z. 0 < z.id) ys y k.full n) t
+
+  joined_differ : IsBlocks xs → IsBlocks ys → NoneInBoth → Differ same_block same_block-true same_block-self (λ (x : BlockAt). x.at) (xs ++ ys)
+  joined_differ h k none =
+      differ_append same_block same_block-true same_block-self (λ (x : BlockAt). x.at) xs ys (differ xs h.order) (differ ys k.order) (no_block_in_both h k none)
 
   -- the blocks of both, in whatever order
   pub block_joined : IsBlocks xs → IsBlocks ys → NoneInBoth → IsPermutation (xs ++ ys) zs → block_in zs ≡ λ b. if nat_eq (block_in xs b) 0 then block_in ys b else block_in xs b
@@ -157,9 +159,13 @@ module _ (xs ys zs : List BlockAt) where
             | inr t ↦ rw t (sym z)
           ]
 
-  pub blocks_joined : IsBlocks xs → IsBlocks ys → NoneInBoth → IsPermutation (xs ++ ys) zs → IsSortedBy (λ a b. is_lt (by_place a b)) zs → IsBlocks zs
-  blocks_joined h k none m up =
-      record {
-        order = sorted_from_sort (λ (x : BlockAt). x.at) block_cmp block_cmp_total same_block (λ a b e. ap (λ q. same_block a q) (sym (block_cmp_tells a b e)) ∙ same_block-self a) zs (differ_permuted same_block same_block-true same_block-self (λ (x : BlockAt). x.at) (xs ++ ys) zs m (joined_differ h k none)) up;
-        full = All-permutation (λ x. 0 < x.id) (xs ++ ys) zs m (All-append (λ x. 0 < x.id) xs ys h.full k.full);
-      }
+  -- the two lists in order have no block in common
+  pub blocks_untied : IsBlocks xs → IsBlocks ys → NoneInBoth → Untied by_place xs ys
+  blocks_untied h k none = λ x y m n e. no_block_in_both h k none x y m n (block_cmp_tells x.at y.at e)
+
+  pub blocks_joined : IsBlocks xs → IsBlocks ys → IsPermutation (xs ++ ys) zs → IsStrictlySortedBy by_place zs → IsBlocks zs
+  blocks_joined h k m up = record { order = up; full = All-permutation (λ x. 0 < x.id) (xs ++ ys) zs m (All-append (λ x. 0 < x.id) xs ys h.full k.full) }
+
+-- none is in a list and in what passes of another
+pub none_passes : (p : ChunkPos → Bool) (xs ys zs : List BlockAt) → ((b : BlockPos) → (nat_eq (block_in xs b) 0 || nat_eq (if p (chunk_of b) then block_in ys b else 0) 0) ≡ true) → NoneInBoth xs (filter (λ x. p (chunk_of x.at)) ys) zs
+none_passes p xs ys zs none = λ b. rw (ap (λ (f : BlockPos → ℕ). f b) (block_filtered p ys)) (none b)

@@ -1,11 +1,11 @@
 -- What a list of entities in order says of each entity.
 use Rattle.std.proofs.Common.{◌≡◌, ℕ, ◌<◌, ◌≤◌, ◌||◌, Bool, true, cond, List, [], ◌∷◌, ◌++◌, length, get_or, refl, sym, ◌∙◌, ap, inl, inr, Option, Some, None, IsNone}
-use Rattle.std.specs.Prelude.{nat_eq, if◌then◌else◌}
+use Rattle.std.specs.Prelude.{Contains, nat_eq, if◌then◌else◌}
 use Rattle.std.specs.List.{find, filter, insert, remove}
-use Rattle.std.specs.List.Sorted.{IsStrictlySortedBy, IsPermutation, IsPartitionPoint, IsSortedBy}
+use Rattle.std.specs.List.Sorted.{IsStrictlySortedBy, IsPermutation, IsPartitionPoint}
 use Rattle.std.specs.Option.{option_or, option_map, is_none}
 use Rattle.std.specs.Cmp.{nat_cmp_total, nat_eq_equiv}
-use Rattle.std.specs.Ordering.{is_lt, nat_cmp}
+use Rattle.std.specs.Ordering.{nat_cmp}
 use Rattle.std.specs.declared.cmp.Ordering.TheVariants.{Less, Greater}
 use Rattle.std.proofs.lemmas.Bool.{cases_Bool, eqb-true}
 use Rattle.std.proofs.lemmas.List.Folds.{find-append}
@@ -15,10 +15,11 @@ use Rattle.fol_model.specs.declared.entities.Entity.{Entity}
 use Rattle.fol_model.specs.ActionStep.{Standing, standing_of, at_id}
 use Rattle.fol_model.specs.World.{standing_in}
 use Rattle.fol_chunks.specs.Contents.{entity_of, option_filter}
+use Rattle.fol_keyed.specs.Apart.{Untied}
 use Rattle.fol_chunks.specs.Rows.{by_id}
-use Rattle.fol_chunks.proofs.Keyed.{Differ, find_absent, find_at, find_removed, find_inserted, find_permuted, find_filter, differ_append, differ_permuted, no_shared_key}
-use Rattle.fol_chunks.proofs.Places.{nat_cmp_tells}
-use Rattle.fol_chunks.proofs.Sorted.{differ_from_sorted, none_between, sorted_remove, sorted_insert, sorted_from_sort}
+use Rattle.fol_keyed.proofs.Keyed.{Differ, find_absent, find_at, find_removed, find_inserted, find_permuted, find_filter, differ_append, no_shared_key}
+use Rattle.fol_keyed.proofs.Places.{nat_cmp_tells}
+use Rattle.fol_keyed.proofs.Sorted.{differ_from_sorted, none_between, sorted_remove, sorted_insert}
 
 abbrev InOrder : List Entity → Type 0
 InOrder es = IsStrictlySortedBy by_id es
@@ -103,10 +104,8 @@ module _ (es : List Entity) where
   order_filtered p s = IsStrictlySortedBy-filter by_id p es s
 
 module _ (es fs gs : List Entity) where
-  joined_differ : InOrder es → InOrder fs → ((id : ℕ) → (is_none (standing_in es id) || is_none (standing_in fs id)) ≡ true) → Differ nat_eq eqb-true nat_self (λ (e : Entity). e.id) (es ++ fs)
-  joined_differ s t none =
-      differ_append nat_eq eqb-true nat_self (λ (e : Entity). e.id) es fs (differ es s) (differ fs t)
-      (no_shared_key nat_eq eqb-true nat_self (λ (e : Entity). e.id) es fs (differ es s) (differ fs t) found_none)
+  no_entity_in_both : InOrder es → InOrder fs → ((id : ℕ) → (is_none (standing_in es id) || is_none (standing_in fs id)) ≡ true) → (x y : Entity) → Contains es x → Contains fs y → x.id ≡ y.id → ⊥
+  no_entity_in_both s t none = no_shared_key nat_eq eqb-true nat_self (λ (e : Entity). e.id) es fs (differ es s) (differ fs t) found_none
     where
       same_none : (o : Option Entity) → is_none (option_map standing_of o) ≡ is_none o
       same_none None = refl
@@ -114,6 +113,9 @@ module _ (es fs gs : List Entity) where
 
       found_none : (id : ℕ) → (is_none (find (λ (e : Entity). nat_eq e.id id) es) || is_none (find (λ (e : Entity). nat_eq e.id id) fs)) ≡ true
       found_none id = rw (standing_found es id, standing_found fs id, same_none (find (λ (e : Entity). nat_eq e.id id) es), same_none (find (λ (e : Entity). nat_eq e.id id) fs)) at (none id)
+
+  joined_differ : InOrder es → InOrder fs → ((id : ℕ) → (is_none (standing_in es id) || is_none (standing_in fs id)) ≡ true) → Differ nat_eq eqb-true nat_self (λ (e : Entity). e.id) (es ++ fs)
+  joined_differ s t none = differ_append nat_eq eqb-true nat_self (λ (e : Entity). e.id) es fs (differ es s) (differ fs t) (no_entity_in_both s t none)
 
   -- the entities of both, in whatever order
   pub standing_joined : InOrder es → InOrder fs → ((id : ℕ) → (is_none (standing_in es id) || is_none (standing_in fs id)) ≡ true) → IsPermutation (es ++ fs) gs → standing_in gs ≡ λ id. option_or (standing_in es id) (standing_in fs id)
@@ -130,7 +132,11 @@ module _ (es fs gs : List Entity) where
       swap None r = refl
       swap (Some e) r = refl
 
-  pub order_joined : InOrder es → InOrder fs → ((id : ℕ) → (is_none (standing_in es id) || is_none (standing_in fs id)) ≡ true) → IsPermutation (es ++ fs) gs → IsSortedBy (λ a b. is_lt (by_id a b)) gs → InOrder gs
-  order_joined s t none m up =
-      sorted_from_sort (λ (e : Entity). e.id) nat_cmp nat_cmp_total nat_eq (λ a b e. ap (λ q. nat_eq a q) (sym (nat_cmp_tells a b e)) ∙ nat_self a) gs
-      (differ_permuted nat_eq eqb-true nat_self (λ (e : Entity). e.id) (es ++ fs) gs m (joined_differ s t none)) up
+  -- the two lists in order have no entity in common
+  pub entities_untied : InOrder es → InOrder fs → ((id : ℕ) → (is_none (standing_in es id) || is_none (standing_in fs id)) ≡ true) → Untied by_id es fs
+  entities_untied s t none = λ x y m n e. no_entity_in_both s t none x y m n (nat_cmp_tells x.id y.id e)
+
+-- none is in a list and in what passes of another
+pub none_passes : (p : Standing → Bool) (es fs : List Entity) → InOrder fs → ((id : ℕ) → (is_none (standing_in es id) || is_none (option_filter p (standing_in fs id))) ≡ true)
+    → (id : ℕ) → (is_none (standing_in es id) || is_none (standing_in (filter (λ e. p (standing_of e)) fs) id)) ≡ true
+none_passes p es fs s none id = rw (ap (λ (f : ℕ → Option Standing). f id) (standing_filtered fs p s)) (none id)

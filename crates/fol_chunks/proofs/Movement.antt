@@ -1,15 +1,13 @@
 -- The movement of entities.
-use Rattle.std.proofs.Common.{◌≡◌, ℕ, ◌<◌, ◌≤◌, true, false, ◌&&◌, List, [], ◌∷◌, length, get_or, refl, sym, ◌∙◌, ap, inl, inr, arith, IsTrue, rules, div-add-mod', mod-lt}
-use Rattle.std.specs.Prelude.{ℤ, pos, negsuc, ◌+ℤ◌, nat_abs, nat_le, nat_eq, if◌then◌else◌, All, map, Result, Ok, Err, FitsSigned}
+use Rattle.std.proofs.Common.{◌≡◌, ℕ, ◌<◌, ◌≤◌, true, false, ◌&&◌, List, [], ◌∷◌, get_or, refl, sym, ◌∙◌, ap, inl, inr, arith, IsTrue, rules, div-add-mod', mod-lt}
+use Rattle.std.specs.Prelude.{ℤ, pos, negsuc, ◌+ℤ◌, nat_abs, nat_le, nat_eq, if◌then◌else◌, All, map, FitsSigned}
 use Rattle.std.specs.Int.{int_div_euclid, w32}
 use Rattle.std.specs.List.{AllByRecursion}
-use Rattle.std.specs.List.Sorted.{IsStrictlySortedBy, IsPartitionPoint}
-use Rattle.std.specs.Result.{MatchResult, is_ok}
+use Rattle.std.specs.List.Sorted.{IsStrictlySortedBy}
 use Rattle.std.specs.Ordering.{nat_cmp}
-use Rattle.std.specs.declared.cmp.Ordering.TheVariants.{Less, Greater}
+use Rattle.std.specs.declared.cmp.Ordering.TheVariants.{Less}
 use Rattle.std.proofs.lemmas.Bool.{cases_Bool, and_parts, leb-true}
-use Rattle.std.proofs.lemmas.List.Elements.{Contains-get_or}
-use Rattle.std.proofs.lemmas.List.Folds.{list_any_at, list_any_none}
+use Rattle.std.proofs.lemmas.List.Folds.{list_any_none}
 use Rattle.std.proofs.Math.Path.{fun_ext}
 use Rattle.fol_model.specs.declared.places.ChunkPos.{ChunkPos}
 use Rattle.fol_model.specs.declared.places.BlockPos.{BlockPos}
@@ -19,24 +17,8 @@ use Rattle.fol_model.specs.ActionStep.{Recorded}
 use Rattle.fol_model.specs.FlatTick.{ahead, walked}
 use Rattle.fol_model.specs.World.{standing_in}
 use Rattle.fol_chunks.specs.Contents.{is_recorded}
-use Rattle.fol_chunks.specs.Order.{chunk_cmp}
 use Rattle.fol_chunks.specs.Rows.{stepped, by_id}
-use Rattle.fol_chunks.proofs.Places.{same_chunk-true, same_chunk-self, chunk_cmp_total}
-use Rattle.fol_chunks.proofs.Sorted.{none_between}
-
--- what a binary search among the recorded chunks says
-pub recorded_search : (chunks : List ChunkPos) (c : ChunkPos) (r : Result ℕ ℕ)
-    → MatchResult r (λ i. (i < length chunks) × ((d : ChunkPos) → get_or chunks i d ≡ c)) (λ i. (i ≤ length chunks) × IsPartitionPoint (λ x. chunk_cmp x c ≡ Less) (λ x. chunk_cmp x c ≡ Greater) chunks i)
-    → is_ok r ≡ is_recorded chunks c
-recorded_search chunks c (Ok i) h = sym (list_any_at (same_chunk c) chunks i c h.0 (ap (λ q. same_chunk c q) (h.1 c) ∙ same_chunk-self c))
-recorded_search chunks c (Err i) h = sym (list_any_none (same_chunk c) chunks (λ k d l. other k d l))
-  where
-    other : (k : ℕ) (d : ChunkPos) → k < length chunks → same_chunk c (get_or chunks k d) ≡ false
-    other k d l =
-        elim (cases_Bool (same_chunk c (get_or chunks k d))) [
-          | inl e ↦ absurd (none_between (λ (q : ChunkPos). q) chunk_cmp chunk_cmp_total chunks i c h.1 (get_or chunks k d) (Contains-get_or chunks k d l) (sym (same_chunk-true c (get_or chunks k d) e)))
-          | inr e ↦ e
-        ]
+use Rattle.fol_keyed.proofs.Places.{same_chunk-true}
 
 -- a chunk that is not within the limits is not recorded
 pub outside_limits : (chunks : List ChunkPos) (c : ChunkPos) → All (λ q. IsTrue (is_chunk q)) chunks → is_chunk c ≡ false → is_recorded chunks c ≡ false

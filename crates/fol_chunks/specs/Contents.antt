@@ -1,15 +1,14 @@
 -- What a `Chunks` stands for: a flat map of blocks and a flat list of entities.
-use Rattle.std.specs.Prelude.{ℕ, ◌+◌, Bool, not, ◌||◌, nat_eq, if◌then◌else◌, cond, List, length, count_by, Option, Some, None, IsTrue}
-use Rattle.std.specs.List.{list_any}
+use Rattle.std.specs.Prelude.{ℕ, ◌+◌, Bool, not, ◌||◌, nat_eq, if◌then◌else◌, List, length, count_by, None, IsTrue}
 use Rattle.std.specs.Option.{option_or, is_none}
 use Rattle.fol_model.specs.declared.places.ChunkPos.{ChunkPos}
-use Rattle.fol_model.specs.declared.places.SectionPos.{SectionPos}
 use Rattle.fol_model.specs.declared.places.BlockPos.{BlockPos}
-use Rattle.fol_model.specs.declared.grids.Grid.{Grid}
 use Rattle.fol_model.specs.declared.openings.BlockAt.{BlockAt}
 use Rattle.fol_model.specs.declared.entities.Entity.{Entity}
-use Rattle.fol_model.specs.Geometry.{section_of, chunk_of, same_section, same_chunk}
+use Rattle.fol_model.specs.Geometry.{chunk_of}
 use Rattle.fol_model.specs.ActionStep.{Standing, Flat, Recorded}
+pub use Rattle.fol_keyed.specs.Options.{option_filter}
+pub use Rattle.fol_keyed.specs.Members.{is_in, is_listed}
 use Rattle.fol_model.specs.World.{block_in, standing_in}
 
 -- what contracts see
@@ -31,11 +30,6 @@ nothing = record { blocks = λ b. 0; standing = λ id. None }
 abbrev pub size_of : Contents → ℕ
 size_of v = length v.blocks + length v.entities
 
--- what there is and passes the test
-abbrev pub option_filter : {X : Type 0} → (X → Bool) → Option X → Option X
-option_filter p None = None
-option_filter p (Some x) = cond (p x) (Some x) None
-
 -- what lies in chunks that pass
 abbrev pub within : Recorded → Flat → Flat
 within rec f = record { blocks = λ b. if rec (chunk_of b) then f.blocks b else 0; standing = λ id. option_filter (λ s. rec (chunk_of s.at)) (f.standing id) }
@@ -53,13 +47,9 @@ pub record Apart (f g : Flat) : Type 0 where
   pub blocks : (b : BlockPos) → IsTrue (nat_eq (f.blocks b) 0 || nat_eq (g.blocks b) 0)
   pub standing : (id : ℕ) → IsTrue (is_none (f.standing id) || is_none (g.standing id))
 
--- the chunk is one of these
+-- the chunk is one of the recorded chunks
 abbrev pub is_recorded : List ChunkPos → ChunkPos → Bool
-is_recorded chunks c = list_any (same_chunk c) chunks
-
--- the chunk's section is one of the part
-abbrev pub is_in : Grid → List SectionPos → ChunkPos → Bool
-is_in grid part c = list_any (same_section (section_of grid c)) part
+is_recorded chunks c = is_listed chunks c
 
 -- how many blocks and entities lie in chunks that pass
 abbrev pub size_within : Recorded → Contents → ℕ

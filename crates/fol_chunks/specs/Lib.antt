@@ -1,4 +1,3 @@
 pub mod Order
 pub mod Contents
 pub mod Rows
-pub mod Area

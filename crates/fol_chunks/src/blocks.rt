@@ -1,20 +1,18 @@
 //! A list of blocks in order of place, none with number 0.
 
-ghost use Rattle.std.specs.Prelude.{◌≡◌, ℕ, ◌+◌, ◌<◌, ◌≤◌, ◌++◌, not, length, vec_len, filter, count_by, slice_index_or, MatchResult, nat_eq, if◌then◌else◌, IsTrue, ◌||◌};
+ghost use Rattle.std.specs.Prelude.{◌≡◌, ℕ, ◌+◌, ◌<◌, ◌≤◌, not, length, vec_len, count_by, slice_index_or, MatchResult, nat_eq, if◌then◌else◌, IsTrue, ◌||◌};
 ghost use Rattle.std.specs.Vec.{vec_capacity};
-ghost use Rattle.std.specs.List.Sorted.{IsStrictlySortedBy, IsPartitionPoint, IsPermutation, IsSortedBy};
-ghost use Rattle.std.specs.Ordering.{is_lt};
+ghost use Rattle.std.specs.List.Sorted.{IsStrictlySortedBy, IsPartitionPoint};
 ghost use Rattle.std.specs.declared.cmp.Ordering.TheVariants.{Less, Greater};
 ghost use Rattle.fol_model.specs.Geometry.{chunk_of as chunk_around};
 ghost use Rattle.fol_model.specs.Universe.{block_cmp};
 ghost use Rattle.fol_model.specs.ActionStep.{at_block};
 ghost use Rattle.fol_model.specs.World.{block_in};
-ghost use Rattle.fol_chunks.specs.Area.{covers};
+ghost use Rattle.fol_keyed.specs.Areas.{covers};
 ghost use Rattle.fol_chunks.specs.Rows.{by_place, IsBlocks};
 
-use crate::area::Area;
-use crate::order::compare_blocks;
-use fol_model::{BlockAt, BlockPos, chunk_of};
+use fol_keyed::{Area, compare_blocks, join, move_covered};
+use fol_model::{BlockAt, BlockPos};
 
 /// Where the block stands in the list, or where it would stand.
 fn place_of(blocks: &[BlockAt], at: BlockPos) -> Result<usize, usize>
@@ -63,41 +61,6 @@ pub fn put(blocks: &mut Vec<BlockAt>, at: BlockPos, id: u16)
     }
 }
 
-/// How many of the blocks lie in the area.
-pub fn count_in(blocks: &[BlockAt], area: &Area) -> usize
-    ensures { result ≡ count_by (λ (b : BlockAt). covers area.now (chunk_around b.at)) blocks.now }
-{
-    blocks
-        .iter()
-        .filter(|block| area.covers(chunk_of(block.at)))
-        .count()
-}
-
-/// Moves the blocks that lie in the area behind those of `into`.
-fn move_behind(blocks: &mut Vec<BlockAt>, area: &Area, into: &mut Vec<BlockAt>)
-    requires { vec_len into.old + count_by (λ (b : BlockAt). covers area.now (chunk_around b.at)) blocks.old.items ≤ vec_capacity into.old }
-    ensures left { blocks.new.items ≡ filter (λ (b : BlockAt). not (covers area.now (chunk_around b.at))) blocks.old.items }
-    ensures moved { into.new.items ≡ into.old.items ++ filter (λ (b : BlockAt). covers area.now (chunk_around b.at)) blocks.old.items }
-    ensures capacity { vec_capacity blocks.new ≡ vec_capacity blocks.old }
-    ensures into_capacity { vec_capacity into.new ≡ vec_capacity into.old }
-{
-    for block in blocks.iter() {
-        if area.covers(chunk_of(block.at)) {
-            into.push_reserved(*block);
-        }
-    }
-    blocks.retain(|block| !area.covers(chunk_of(block.at)));
-}
-
-/// Puts the blocks in order of place.
-fn sort(blocks: &mut Vec<BlockAt>)
-    ensures same { IsPermutation blocks.old.items blocks.new.items }
-    ensures order { IsSortedBy (λ a b. is_lt (by_place a b)) blocks.new.items }
-    ensures capacity { vec_capacity blocks.new ≡ vec_capacity blocks.old }
-{
-    blocks.sort_unstable_by(|a, b| compare_blocks(a.at, b.at));
-}
-
 /// Moves the blocks that lie in the area into another list.
 pub fn move_area(blocks: &mut Vec<BlockAt>, area: &Area, into: &mut Vec<BlockAt>)
     requires kept { IsBlocks blocks.old.items }
@@ -110,15 +73,14 @@ pub fn move_area(blocks: &mut Vec<BlockAt>, area: &Area, into: &mut Vec<BlockAt>
     ensures into_kept { IsBlocks into.new.items }
     ensures len { vec_len blocks.new + count_by (λ (b : BlockAt). covers area.now (chunk_around b.at)) blocks.old.items ≡ vec_len blocks.old }
     ensures into_len { vec_len into.new ≡ vec_len into.old + count_by (λ (b : BlockAt). covers area.now (chunk_around b.at)) blocks.old.items }
-    ensures capacity { vec_capacity blocks.new ≡ vec_capacity blocks.old }
-    ensures into_capacity { vec_capacity into.new ≡ vec_capacity into.old }
+    ensures capacity { vec_capacity blocks.old ≤ vec_capacity blocks.new }
+    ensures into_capacity { vec_capacity into.old ≤ vec_capacity into.new }
 {
-    move_behind(blocks, area, into);
-    sort(into);
+    move_covered(blocks, area, into);
 }
 
 /// Takes the blocks of another list in.
-pub fn merge(blocks: &mut Vec<BlockAt>, mut other: Vec<BlockAt>)
+pub fn merge(blocks: &mut Vec<BlockAt>, other: Vec<BlockAt>)
     requires kept { IsBlocks blocks.old.items }
     requires other_kept { IsBlocks other.items }
     requires apart { (b : BlockPos) → IsTrue (nat_eq (block_in blocks.old.items b) 0 || nat_eq (block_in other.items b) 0) }
@@ -128,9 +90,5 @@ pub fn merge(blocks: &mut Vec<BlockAt>, mut other: Vec<BlockAt>)
     ensures len { vec_len blocks.new ≡ vec_len blocks.old + vec_len other }
     ensures capacity { vec_capacity blocks.old ≤ vec_capacity blocks.new }
 {
-    match blocks.append(&mut other) {
-        Ok(()) => {}
-        Err(_) => unreachable!(),
-    }
-    sort(blocks);
+    join(blocks, &other);
 }

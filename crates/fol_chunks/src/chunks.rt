@@ -6,12 +6,13 @@ ghost use Rattle.std.specs.List.Sorted.{IsStrictlySortedBy};
 ghost use Rattle.fol_model.specs.Geometry.{is_chunk, same_chunk};
 ghost use Rattle.fol_model.specs.ActionStep.{Flat, at_block, at_id, standing_of};
 ghost use Rattle.fol_model.specs.FlatTick.{moved};
-ghost use Rattle.fol_model.specs.World.{block_in};
-ghost use Rattle.fol_chunks.specs.Order.{chunk_cmp};
-ghost use Rattle.fol_chunks.specs.Rows.{by_place};
+ghost use Rattle.fol_model.specs.World.{block_in, standing_in};
+ghost use Rattle.fol_keyed.specs.Order.{chunk_cmp};
+ghost use Rattle.fol_keyed.specs.Areas.{covers};
+ghost use Rattle.fol_chunks.specs.Rows.{by_place, by_id};
 
-use crate::area::Area;
 use crate::{blocks, entities, steps};
+use fol_keyed::{Area, ChunkList, count_covered};
 use fol_model::{BlockAt, BlockPos, ChunkPos, Entity, Grid, SectionPos};
 use std::alloc::{AllocError, Global};
 use std::marker::Model;
@@ -37,8 +38,7 @@ impl Model for Chunks {
 }
 
 impl Chunks {
-    ghost use Rattle.fol_chunks.specs.Contents.{Contents, flat_of, nothing, size_of, within, outside, joined, Apart, is_recorded, is_in, size_within, entity_of};
-    ghost use Rattle.fol_chunks.specs.Area.{covers};
+    ghost use Rattle.fol_chunks.specs.Contents.{Contents, flat_of, nothing, size_of, within, outside, joined, Apart, is_recorded, is_in, is_listed, size_within, entity_of};
 
     /// Nothing. Takes no memory.
     pub fn new(alloc: Global) -> Chunks
@@ -94,6 +94,25 @@ impl Chunks {
         Vec::from_slice(alloc, &self.blocks)
     }
 
+    /// The blocks with a number above 0, by x, then y, then z.
+    pub fn block_list(&self) -> &[BlockAt]
+        ensures items { result.now ≡ self.now.blocks }
+        ensures numbers { block_in result.now ≡ (flat_of self.now).blocks }
+        ensures order { IsStrictlySortedBy by_place result.now }
+        ensures none_empty { All (λ x. 0 < x.id) result.now }
+    {
+        &self.blocks
+    }
+
+    /// The entities, by id.
+    pub fn entity_list(&self) -> &[Entity]
+        ensures items { result.now ≡ self.now.entities }
+        ensures standing { standing_in result.now ≡ (flat_of self.now).standing }
+        ensures order { IsStrictlySortedBy by_id result.now }
+    {
+        &self.entities
+    }
+
     /// Gives a block a number; 0 takes its number away. Takes no memory.
     pub fn set(&mut self, at: BlockPos, id: u16)
         requires { 1 ≤ self.old.spare }
@@ -140,7 +159,7 @@ impl Chunks {
         ensures size { size_of self.new ≡ size_of self.old }
         ensures spare { self.old.spare ≤ self.new.spare }
     {
-        steps::step_all(&mut self.entities, chunks);
+        steps::step_all(&mut self.entities, &ChunkList::of(chunks));
     }
 
     /// How many blocks and entities lie in the chunk.
@@ -154,7 +173,7 @@ impl Chunks {
     pub fn size_in(&self, grid: &Grid, part: &[SectionPos]) -> u64
         ensures { result ≡ size_within (is_in grid.now part.now) self.now }
     {
-        self.size_of_area(&Area::Part(grid, part))
+        self.size_of_area(&Area::part(grid, part))
     }
 
     /// Moves what lies in the chunk. Takes no memory.
@@ -198,14 +217,37 @@ impl Chunks {
         ensures spare { self.old.spare ≤ self.new.spare }
         ensures into_spare { into.old.spare ≤ into.new.spare + size_within (is_in grid.now part.now) self.old }
     {
-        self.move_area(&Area::Part(grid, part), into);
+        self.move_area(&Area::part(grid, part), into);
+    }
+
+    /// How many blocks and entities lie in the chunks, which stand by z, and then by x.
+    pub fn size_listed(&self, chunks: &[ChunkPos]) -> u64
+        requires { IsStrictlySortedBy chunk_cmp chunks.now }
+        ensures { result ≡ size_within (is_listed chunks.now) self.now }
+    {
+        self.size_of_area(&Area::listed(chunks))
+    }
+
+    /// Moves what lies in the chunks, which stand by z, and then by x. Takes no memory.
+    pub fn move_listed(&mut self, chunks: &[ChunkPos], into: &mut Chunks)
+        requires order { IsStrictlySortedBy chunk_cmp chunks.now }
+        requires apart { Apart (flat_of into.old) (within (is_listed chunks.now) (flat_of self.old)) }
+        requires room { size_within (is_listed chunks.now) self.old ≤ into.old.spare }
+        ensures stayed { flat_of self.new ≡ outside (is_listed chunks.now) (flat_of self.old) }
+        ensures moved { flat_of into.new ≡ joined (flat_of into.old) (within (is_listed chunks.now) (flat_of self.old)) }
+        ensures size { size_of self.new + size_within (is_listed chunks.now) self.old ≡ size_of self.old }
+        ensures into_size { size_of into.new ≡ size_of into.old + size_within (is_listed chunks.now) self.old }
+        ensures spare { self.old.spare ≤ self.new.spare }
+        ensures into_spare { into.old.spare ≤ into.new.spare + size_within (is_listed chunks.now) self.old }
+    {
+        self.move_area(&Area::listed(chunks), into);
     }
 
     /// How many blocks and entities lie in the area.
     fn size_of_area(&self, area: &Area) -> u64
         ensures { result ≡ size_within (covers area.now) self.now }
     {
-        (blocks::count_in(&self.blocks, area) + entities::count_in(&self.entities, area)) as u64
+        (count_covered(&self.blocks, area) + count_covered(&self.entities, area)) as u64
     }
 
     /// Moves what lies in the area.

@@ -8,11 +8,9 @@
 //! lies in the chunk, in the part or in the other value. Only `reserve` and `blocks` take memory. It serves the data of a region.
 #![tactic(auto)]
 
-mod area;
 mod blocks;
 mod chunks;
 mod entities;
-mod order;
 mod steps;
 #[cfg(test)]
 mod tests;

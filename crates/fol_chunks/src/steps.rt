@@ -1,33 +1,19 @@
 //! The movement of entities at the end of a tick.
 
-ghost use Rattle.std.specs.Prelude.{◌≡◌, IsTrue, All, map, ◌+ℤ◌, if◌then◌else◌, ◌&&◌};
-ghost use Rattle.std.specs.List.Sorted.{IsStrictlySortedBy};
+ghost use Rattle.std.specs.Prelude.{◌≡◌, IsTrue, All, map, if◌then◌else◌};
 ghost use Rattle.fol_model.specs.Geometry.{is_chunk, chunk_of as chunk_around};
-ghost use Rattle.fol_model.specs.FlatTick.{ahead as block_ahead};
-ghost use Rattle.fol_chunks.specs.Order.{chunk_cmp};
-ghost use Rattle.fol_chunks.specs.Contents.{is_recorded as is_one_of};
+ghost use Rattle.fol_chunks.specs.Contents.{is_recorded};
 ghost use Rattle.fol_chunks.specs.Rows.{stepped};
 
-use crate::order::compare_chunks;
-use fol_model::{BlockPos, ChunkPos, Entity, chunk_of};
-
-/// Whether the chunk is one of the recorded chunks.
-fn is_recorded(chunks: &[ChunkPos], c: ChunkPos) -> bool
-    requires { IsStrictlySortedBy chunk_cmp chunks.now }
-    ensures { result ≡ is_one_of chunks.now c }
-{
-    chunks
-        .binary_search_by(|chunk| compare_chunks(*chunk, c))
-        .is_ok()
-}
+use fol_keyed::ChunkList;
+use fol_model::{BlockPos, Entity, chunk_of};
 
 /// The entity after its movement: ahead by its speed, where it is and stays in recorded chunks.
-fn step(entity: Entity, chunks: &[ChunkPos]) -> Entity
-    requires order { IsStrictlySortedBy chunk_cmp chunks.now }
-    requires places { All (λ c. IsTrue (is_chunk c)) chunks.now }
-    ensures { result ≡ stepped (is_one_of chunks.now) entity }
+fn step(entity: Entity, recorded: &ChunkList) -> Entity
+    requires { All (λ c. IsTrue (is_chunk c)) recorded.now.chunks.now }
+    ensures { result ≡ stepped (is_recorded recorded.now.chunks.now) entity }
 {
-    if !is_recorded(chunks, chunk_of(entity.at)) {
+    if !recorded.has(chunk_of(entity.at)) {
         return entity;
     }
     match (
@@ -41,18 +27,17 @@ fn step(entity: Entity, chunks: &[ChunkPos]) -> Entity
                 y: entity.at.y,
                 z,
             },
-            chunks,
+            recorded,
         ),
         _ => entity,
     }
 }
 
 /// The entity at a block, where the block's chunk is recorded.
-fn moved_to(entity: Entity, at: BlockPos, chunks: &[ChunkPos]) -> Entity
-    requires { IsStrictlySortedBy chunk_cmp chunks.now }
-    ensures { result ≡ (if is_one_of chunks.now (chunk_around at) then record entity { at = at } else entity) }
+fn moved_to(entity: Entity, at: BlockPos, recorded: &ChunkList) -> Entity
+    ensures { result ≡ (if is_recorded recorded.now.chunks.now (chunk_around at) then record entity { at = at } else entity) }
 {
-    if is_recorded(chunks, chunk_of(at)) {
+    if recorded.has(chunk_of(at)) {
         Entity {
             id: entity.id,
             at,
@@ -65,12 +50,11 @@ fn moved_to(entity: Entity, at: BlockPos, chunks: &[ChunkPos]) -> Entity
 }
 
 /// Moves every entity.
-pub fn step_all(entities: &mut [Entity], chunks: &[ChunkPos])
-    requires order { IsStrictlySortedBy chunk_cmp chunks.now }
-    requires places { All (λ c. IsTrue (is_chunk c)) chunks.now }
-    ensures { entities.new ≡ map (stepped (is_one_of chunks.now)) entities.old }
+pub fn step_all(entities: &mut [Entity], recorded: &ChunkList)
+    requires { All (λ c. IsTrue (is_chunk c)) recorded.now.chunks.now }
+    ensures { entities.new ≡ map (stepped (is_recorded recorded.now.chunks.now)) entities.old }
 {
     for i in 0..entities.len() {
-        entities[i] = step(entities[i], chunks);
+        entities[i] = step(entities[i], recorded);
     }
 }

@@ -1,9 +1,11 @@
 //! What only a run can show.
 
-ghost use Rattle.std.specs.Prelude.{◌≡◌};
+ghost use Rattle.std.specs.Prelude.{◌≡◌, ◌≤◌, None, IfOk};
+ghost use Rattle.fol_chunks.specs.Contents.{flat_of};
 
 use crate::Chunks;
 use fol_model::{BlockPos, ChunkPos, Entity, Grid, SectionPos, chunk_of};
+use std::alloc::{AllocError, Global};
 use std::test::Fail;
 
 const CHUNKS: [ChunkPos; 2] = [ChunkPos { x: 0, z: 0 }, ChunkPos { x: 1, z: 0 }];
@@ -90,5 +92,52 @@ fn a_part_moves_with_its_section(rt: HostRuntime) -> Result<(), Fail> {
     assert_eq!(rt; parted.get(block(-20, 3)), 9);
     assert_eq!(rt; chunks.get(block(-20, 3)), 0);
     assert_eq!(rt; chunks.get(block(5, 0)), 7);
+    Ok(())
+}
+
+/// One block, and no entity.
+fn with_block(alloc: Global, at: BlockPos, id: u16) -> Result<Chunks, AllocError>
+    ensures { IfOk result (λ c. (flat_of c).standing ≡ λ k. None) }
+{
+    let mut chunks = Chunks::new(alloc);
+    chunks.reserve(1)?;
+    chunks.set(at, id);
+    Ok(chunks)
+}
+
+/// One entity, no block, and room for one.
+fn with_walker(alloc: Global) -> Result<Chunks, AllocError>
+    ensures blocks { IfOk result (λ c. (flat_of c).blocks ≡ λ b. 0) }
+    ensures spare { IfOk result (λ c. 1 ≤ c.spare) }
+{
+    let mut chunks = Chunks::new(alloc);
+    chunks.reserve(2)?;
+    chunks.put_entity(walker(1, 15, 16));
+    Ok(chunks)
+}
+
+/// What lies in a list of chunks is moved to what is there.
+#[test]
+fn a_list_moves_with_its_chunks(rt: HostRuntime) -> Result<(), Fail> {
+    let mut chunks = with_block(rt.alloc(), block(20, 0), 9)?;
+    let mut into = with_walker(rt.alloc())?;
+    assert!(rt; chunks.size_listed(&CHUNKS) <= into.spare());
+    chunks.move_listed(&CHUNKS, &mut into);
+    assert_eq!(rt; chunks.size(), 0);
+    assert_eq!(rt; into.block_list().len(), 1);
+    assert_eq!(rt; into.get(block(20, 0)), 9);
+    assert_eq!(rt; into.entity_list().len(), 1);
+    Ok(())
+}
+
+/// What joins is added to what is there.
+#[test]
+fn a_merge_takes_all_in(rt: HostRuntime) -> Result<(), Fail> {
+    let chunks = with_block(rt.alloc(), block(20, 0), 9)?;
+    let mut into = with_walker(rt.alloc())?;
+    assert!(rt; chunks.size() <= into.spare());
+    into.merge_from(chunks);
+    assert_eq!(rt; into.get(block(20, 0)), 9);
+    assert_eq!(rt; into.find(1), Some(block(15, 0)));
     Ok(())
 }

@@ -1,16 +1,18 @@
 //! The data of a region.
 
-ghost use Rattle.std.specs.Prelude.{◌≡◌, ◌+◌, ◌≤◌, ◌^◌, ◌||◌, max, not, ℕ, [], IsTrue, OnOk};
+ghost use Rattle.std.specs.Prelude.{◌≡◌, ◌+◌, ◌≤◌, ◌^◌, ◌||◌, max, not, ℕ, [], IsTrue, ◌↔◌, OnOk};
 ghost use Rattle.std.specs.Option.{option_or, option_map, is_none, ForSome};
-ghost use Rattle.fol_queues.specs.Waiting.{dated, len_of, count_within, lies_in, is_in, raised, option_filter};
+ghost use Rattle.std.specs.List.Sorted.{IsStrictlySortedBy};
+ghost use Rattle.fol_keyed.specs.Order.{chunk_cmp};
+ghost use Rattle.fol_queues.specs.Waiting.{dated, len_of, count_within, count_listed, lies_in, lies_listed, is_in, is_listed, raised, option_filter};
 ghost use Rattle.fol_chunks.specs.Contents.{flat_of, nothing, size_of as size_of_contents, size_within, within, outside, joined, Apart};
-ghost use Rattle.fol_data.specs.Rests.{rests_of, is_job_in, offset as offset_between, IsInTime};
-ghost use Rattle.fol_data.specs.Sizes.{size_of, size_in_part, spare_of};
+ghost use Rattle.fol_data.specs.Rests.{rests_of, is_job_in, is_job_listed, offset as offset_between, IsInTime};
+ghost use Rattle.fol_data.specs.Sizes.{size_of, size_in_part, size_listed, spare_of};
 
 use crate::Size;
 use crate::offset::offset;
 use fol_chunks::Chunks;
-use fol_model::{Grid, SectionPos};
+use fol_model::{ChunkPos, Grid, SectionPos};
 use fol_queues::Queues;
 use std::alloc::{AllocError, Global};
 
@@ -62,6 +64,24 @@ impl RegionData {
             tasks: self.queues.count_in(grid, part),
             things: self.chunks.size_in(grid, part),
         }
+    }
+
+    /// How many tasks are on the chunks, which stand by z, and then by x, and how many blocks and entities lie in them.
+    pub fn size_listed(&self, chunks: &[ChunkPos]) -> Size
+        requires { IsStrictlySortedBy chunk_cmp chunks.now }
+        ensures { result ≡ size_listed chunks.now self.now }
+    {
+        Size {
+            tasks: self.queues.count_listed(chunks),
+            things: self.chunks.size_listed(chunks),
+        }
+    }
+
+    /// Whether there is no task, no block and no entity.
+    pub fn is_empty(&self) -> bool
+        ensures { IsTrue result ↔ ((self.now.queues.tasks ≡ []) × (size_of_contents self.now.chunks ≡ 0)) }
+    {
+        self.queues.is_empty() && self.chunks.size() == 0
     }
 
     /// How many more tasks, and how many more blocks or entities, it can take in without taking memory.
@@ -151,5 +171,44 @@ impl RegionData {
         into.owed = self.owed;
         self.queues.move_part(grid, part, &mut into.queues);
         self.chunks.move_part(grid, part, &mut into.chunks);
+    }
+
+    /// Moves the tasks, blocks and entities on the chunks into the data of another region. The chunks stand by z, and then by x. Both
+    /// counters and both owed numbers stay, and the deadlines of what moves follow the other counter, so that each task keeps its
+    /// rest. Takes no memory.
+    pub fn move_listed(&mut self, chunks: &[ChunkPos], into: &mut RegionData)
+        requires order { IsStrictlySortedBy chunk_cmp chunks.now }
+        requires tick { self.old.tick ≤ 2 ^ 62 }
+        requires into_tick { into.old.tick ≤ 2 ^ 62 }
+        requires in_time { (n : ℕ) → ForSome (dated self.old.queues n) (IsInTime self.old.tick) }
+        requires into_in_time { (n : ℕ) → ForSome (dated into.old.queues n) (IsInTime into.old.tick) }
+        requires tasks_apart { (n : ℕ) → IsTrue (is_none (dated into.old.queues n) || is_none (option_filter (lies_listed chunks.now) (dated self.old.queues n))) }
+        requires contents_apart { Apart (flat_of into.old.chunks) (within (is_listed chunks.now) (flat_of self.old.chunks)) }
+        requires room_for_tasks { count_listed chunks.now self.old.queues ≤ into.old.queues.spare }
+        requires room_for_things { size_within (is_listed chunks.now) self.old.chunks ≤ into.old.chunks.spare }
+        ensures tick { self.new.tick ≡ self.old.tick }
+        ensures owed { self.new.owed ≡ self.old.owed }
+        ensures into_tick { into.new.tick ≡ into.old.tick }
+        ensures into_owed { into.new.owed ≡ into.old.owed }
+        ensures stayed_tasks { dated self.new.queues ≡ λ n. option_filter (λ d. not (lies_listed chunks.now d)) (dated self.old.queues n) }
+        ensures moved_tasks { dated into.new.queues ≡ λ n. option_or (dated into.old.queues n) (option_map (raised (offset_between self.old.tick into.old.tick)) (option_filter (lies_listed chunks.now) (dated self.old.queues n))) }
+        ensures stayed_rests { rests_of self.new ≡ λ n. option_filter (λ j. not (is_job_listed chunks.now j)) (rests_of self.old n) }
+        ensures moved_rests { rests_of into.new ≡ λ n. option_or (rests_of into.old n) (option_filter (is_job_listed chunks.now) (rests_of self.old n)) }
+        ensures in_time { (n : ℕ) → ForSome (dated self.new.queues n) (IsInTime self.new.tick) }
+        ensures into_in_time { (n : ℕ) → ForSome (dated into.new.queues n) (IsInTime into.new.tick) }
+        ensures stayed_contents { flat_of self.new.chunks ≡ outside (is_listed chunks.now) (flat_of self.old.chunks) }
+        ensures moved_contents { flat_of into.new.chunks ≡ joined (flat_of into.old.chunks) (within (is_listed chunks.now) (flat_of self.old.chunks)) }
+        ensures tasks_len { len_of self.new.queues + count_listed chunks.now self.old.queues ≡ len_of self.old.queues }
+        ensures into_tasks_len { len_of into.new.queues ≡ len_of into.old.queues + count_listed chunks.now self.old.queues }
+        ensures things_len { size_of_contents self.new.chunks + size_within (is_listed chunks.now) self.old.chunks ≡ size_of_contents self.old.chunks }
+        ensures into_things_len { size_of_contents into.new.chunks ≡ size_of_contents into.old.chunks + size_within (is_listed chunks.now) self.old.chunks }
+        ensures spare_for_tasks { self.old.queues.spare ≤ self.new.queues.spare }
+        ensures spare_for_things { self.old.chunks.spare ≤ self.new.chunks.spare }
+        ensures into_spare_for_tasks { into.old.queues.spare ≤ into.new.queues.spare + count_listed chunks.now self.old.queues }
+        ensures into_spare_for_things { into.old.chunks.spare ≤ into.new.chunks.spare + size_within (is_listed chunks.now) self.old.chunks }
+    {
+        let offset = offset(self.tick, into.tick);
+        self.queues.move_listed(chunks, &mut into.queues, offset);
+        self.chunks.move_listed(chunks, &mut into.chunks);
     }
 }

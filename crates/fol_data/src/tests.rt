@@ -58,12 +58,49 @@ fn merged(
     Ok(region)
 }
 
+/// A region that holds nothing, after a block at the origin and a task in its second tick from now moved into it.
+fn moved_into(
+    alloc: Global,
+    mut region: RegionData,
+    other_tick: u64,
+) -> Result<RegionData, AllocError>
+    requires tick { region.tick ≤ 2 ^ 62 }
+    requires other_tick { other_tick ≤ 2 ^ 62 }
+    requires tasks { region.queues.tasks ≡ [] }
+    requires contents { flat_of region.chunks ≡ nothing }
+    requires room_for_tasks { 1 ≤ region.queues.spare }
+    requires room_for_things { 1 ≤ region.chunks.spare }
+{
+    let mut other = empty_region(alloc, other_tick, 1)?;
+    other.queues.accept(task_on(0), 2, other_tick);
+    other.chunks.set(ORIGIN, 5);
+    let chunks = [ChunkPos { x: 0, z: 0 }];
+    let size = other.size_listed(&chunks);
+    if size.tasks <= region.spare().tasks && size.things <= region.spare().things {
+        other.move_listed(&chunks, &mut region);
+    }
+    Ok(region)
+}
+
 /// A deadline of 3 at counter 1 becomes 9 at counter 7.
 #[test]
 fn merge_into_the_greater_counter(rt: HostRuntime) -> Result<(), Fail> {
     let region = empty_region(rt.alloc(), 7, 2)?;
     let region = merged(rt.alloc(), region, 1, 5)?;
     assert_eq!(rt; (region.tick, region.owed), (7, 5));
+    assert_eq!(rt; region.queues.count_due(8), 0);
+    assert_eq!(rt; region.queues.count_due(9), 1);
+    assert_eq!(rt; region.chunks.get(ORIGIN), 5);
+    Ok(())
+}
+
+/// The same for what moves by its chunk, and both counters stay.
+#[test]
+fn a_list_keeps_its_rests(rt: HostRuntime) -> Result<(), Fail> {
+    let region = empty_region(rt.alloc(), 7, 2)?;
+    assert!(rt; region.is_empty());
+    let region = moved_into(rt.alloc(), region, 1)?;
+    assert_eq!(rt; (region.tick, region.owed), (7, 2));
     assert_eq!(rt; region.queues.count_due(8), 0);
     assert_eq!(rt; region.queues.count_due(9), 1);
     assert_eq!(rt; region.chunks.get(ORIGIN), 5);

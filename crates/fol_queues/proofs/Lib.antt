@@ -1,5 +1,6 @@
-pub mod Keyed
 pub mod Numbers
+pub mod Turns
+pub mod Below
 pub mod Parting
 pub mod Queued
 pub mod Raised

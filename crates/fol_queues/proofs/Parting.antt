@@ -1,17 +1,18 @@
 -- A loop that parts a list: it looks at the elements in turn, moves one that passes, and puts the last element in its place.
-use Rattle.std.proofs.Common.{◌≡◌, ℕ, ◌+◌, ◌<◌, ◌≤◌, Bool, true, false, cond, List, [], ◌∷◌, ◌++◌, length, get_or, map, sym, ◌∙◌, ap, arith}
-use Rattle.std.specs.Prelude.{All, count_by}
+use Rattle.std.proofs.Common.{◌≡◌, ℕ, ◌+◌, ◌<◌, ◌≤◌, Bool, true, false, cond, List, [], ◌∷◌, ◌++◌, length, get_or, map, sym, ◌∙◌, ap, subst, arith, append_assoc, length-append}
+use Rattle.std.specs.Prelude.{All, Contains, count_by}
 use Rattle.std.specs.List.{AllWithin, swap_remove}
 use Rattle.std.specs.List.Sorted.{IsPermutation}
-use Rattle.std.proofs.lemmas.List.Elements.{AllWithin-none, AllWithin-more, AllWithin-upto, All-from_all_within, All-push, All-nil}
-use Rattle.std.proofs.lemmas.List.Sorted.{IsPermutation-refl, IsPermutation-pop_more, IsPermutation-swap_remove, sum_by-IsPermutation}
+use Rattle.std.proofs.lemmas.List.Elements.{AllWithin-none, AllWithin-more, AllWithin-upto, All-from_all_within, All-push, All-nil, Contains-get_or, Contains-append_right}
+use Rattle.std.proofs.lemmas.List.Sorted.{IsPermutation-refl, IsPermutation-sym, IsPermutation-trans, IsPermutation-to_front, IsPermutation-append_left, IsPermutation-append_right, IsPermutation-pop_more, IsPermutation-swap_remove, All-permutation, Contains-permutation, length_permutation, sum_by-IsPermutation}
 use Rattle.std.proofs.lemmas.List.Sums.{sum_by-append, get_or-le-sum_by}
-use Rattle.std.proofs.lemmas.List.{map-append, length-map}
+use Rattle.std.proofs.lemmas.List.{map-append, length-map, append-nil}
 use Rattle.fol_model.specs.declared.tasks.Task.{Task}
+use Rattle.fol_keyed.specs.Parted.{Parted}
+use Rattle.fol_keyed.proofs.Keyed.{count_all}
 use Rattle.fol_queues.specs.declared.dated.Dated.{Dated}
 use Rattle.fol_queues.specs.Waiting.{is_due}
-use Rattle.fol_queues.specs.Parted.{Parted}
-use Rattle.fol_queues.proofs.Keyed.{count_all}
+use Rattle.fol_queues.specs.Parted.{DueParted, MovedInto}
 
 -- what was moved passes, and none of the first i of what is left
 pub record IsParting {X : Type 0} (p : X → Bool) (xs left moved : List X) (i : ℕ) : Type 0 where
@@ -41,32 +42,96 @@ module _ {X : Type 0} (p : X → Bool) (xs : List X) where
   parting_done left moved i h l = record { all = h.all; yes = h.yes; no = All-from_all_within (λ x. p x ≡ false) left (AllWithin-upto (λ x. p x ≡ false) left 0 i (length left) l h.no) }
 
   -- one that passes has still to be moved
-  pub parting_room : (left moved : List X) (i : ℕ) (d : X) → IsParting p xs left moved i → i < length left → p (get_or left i d) ≡ true → length moved < count_by p xs
-  parting_room left moved i d h l t =
-      let a : count_by p (moved ++ left) ≡ count_by p xs = sum_by-IsPermutation (λ z. cond (p z) 1 0) xs (moved ++ left) h.all in
+  pub room_left : (left moved : List X) (i : ℕ) (d : X) → IsPermutation xs (moved ++ left) → All (λ x. p x ≡ true) moved → i < length left → p (get_or left i d) ≡ true → length moved < count_by p xs
+  room_left left moved i d all passing l t =
+      let a : count_by p (moved ++ left) ≡ count_by p xs = sum_by-IsPermutation (λ z. cond (p z) 1 0) xs (moved ++ left) all in
       let b : count_by p (moved ++ left) ≡ count_by p moved + count_by p left = sum_by-append (λ z. cond (p z) 1 0) moved left in
       let one : cond (p (get_or left i d)) 1 0 ≤ count_by p left = get_or-le-sum_by (λ z. cond (p z) 1 0) left i d l in
       let some : 1 ≤ count_by p left = rw t at one in
-      omega (arith, count_all p moved h.yes)
+      omega (arith, count_all p moved passing)
 
--- the same where the due tasks are moved and their deadlines are dropped
-pub record IsMovingDue (now : ℕ) (xs left : List Dated) (out : List Task) (i : ℕ) : Type 0 where
+  -- what is left is still of the list
+  pub still_there : (left moved : List X) (i : ℕ) (d : X) → IsPermutation xs (moved ++ left) → i < length left → Contains xs (get_or left i d)
+  still_there left moved i d all l = Contains-permutation (moved ++ left) xs (get_or left i d) (IsPermutation-sym xs (moved ++ left) all) (Contains-append_right moved left (get_or left i d) (Contains-get_or left i d l))
+
+-- what is left may stand in another order
+pub parted_again : {X : Type 0} (p : X → Bool) (xs left rest moved : List X) → Parted p xs left moved → IsPermutation left rest → Parted p xs rest moved
+parted_again p xs left rest moved h m = record {
+  all = IsPermutation-trans xs (moved ++ left) (moved ++ rest) h.all (IsPermutation-append_right moved left rest m);
+  yes = h.yes;
+  no = All-permutation (λ x. p x ≡ false) left rest m h.no;
+}
+
+-- the last of the others went into a list
+pub join_step : {X : Type 0} (xs ys others : List X) (x : X) → IsPermutation (xs ++ x ∷ []) ys → IsPermutation (xs ++ (others ++ x ∷ [])) (ys ++ others)
+join_step {X} xs ys others x m =
+    IsPermutation-trans (xs ++ (others ++ x ∷ [])) (xs ++ x ∷ others) (ys ++ others) (IsPermutation-append_right xs (others ++ x ∷ []) (x ∷ others) (IsPermutation-to_front others x))
+    (let P : List X → Type 0 = λ l. IsPermutation l (ys ++ others) in subst P (append_assoc xs (x ∷ []) others) (IsPermutation-append_left others (xs ++ x ∷ []) ys m))
+
+-- so far taken from a heap: due tasks, without their deadlines
+pub record IsTakingDue (now : ℕ) (xs left : List Dated) (out : List Task) : Type 0 where
   pub due : List Dated
   pub tasks : out ≡ map (λ d. d.task) due
-  pub parting : IsParting (is_due now) xs left due i
+  pub all : IsPermutation xs (due ++ left)
+  pub yes : All (λ d. is_due now d ≡ true) due
 
 module _ (now : ℕ) (xs : List Dated) where
-  pub due_moves : (left rest : List Dated) (out more : List Task) (i : ℕ) (d : Dated) → IsMovingDue now xs left out i → i < length left → d ≡ get_or left i d → ((e : Dated) → is_due now (get_or left i e) ≡ true)
-      → rest ≡ swap_remove left i d → ((k : ℕ) (e : Dated) → k < i → get_or rest k e ≡ get_or left k e) → more ≡ out ++ d.task ∷ [] → IsMovingDue now xs rest more i
-  due_moves left rest out more i d h l e t r same m =
+  pub due_none : (out : List Task) → out ≡ [] → IsTakingDue now xs xs out
+  due_none out e = record { due = []; tasks = e; all = IsPermutation-refl xs; yes = All-nil (λ d. is_due now d ≡ true) }
+
+  pub due_moves : (left rest : List Dated) (out more : List Task) (d : Dated) → IsTakingDue now xs left out → IsPermutation left (d ∷ rest) → is_due now d ≡ true → more ≡ out ++ d.task ∷ [] → IsTakingDue now xs rest more
+  due_moves left rest out more d h m t e =
       record {
         due = h.due ++ d ∷ [];
-        tasks = m ∙ ap (λ ts. ts ++ d.task ∷ []) h.tasks ∙ sym (map-append (λ (e : Dated). e.task) h.due (d ∷ []));
-        parting = parting_moves (is_due now) xs left h.due rest i d h.parting l e t r same;
+        tasks = e ∙ ap (λ ts. ts ++ d.task ∷ []) h.tasks ∙ sym (map-append (λ (e : Dated). e.task) h.due (d ∷ []));
+        all = IsPermutation-pop_more xs h.due left rest d h.all m;
+        yes = All-push (λ d. is_due now d ≡ true) h.due d h.yes t;
       }
 
-  pub due_room : (left : List Dated) (out : List Task) (i : ℕ) (e : Dated) → IsMovingDue now xs left out i → i < length left → is_due now (get_or left i e) ≡ true → length out < count_by (is_due now) xs
-  due_room left out i e h l t =
+  pub due_room : (left : List Dated) (out : List Task) (e : Dated) → IsTakingDue now xs left out → 0 < length left → is_due now (get_or left 0 e) ≡ true → length out < count_by (is_due now) xs
+  due_room left out e h l t =
       let f : length out ≡ length h.due = ap (λ (ts : List Task). length ts) h.tasks ∙ length-map h.due (λ (d : Dated). d.task) in
-      let r : length h.due < count_by (is_due now) xs = parting_room (is_due now) xs left h.due i e h.parting l t in
+      let r : length h.due < count_by (is_due now) xs = room_left (is_due now) xs left h.due 0 e h.all h.yes l t in
       omega arith
+
+  pub due_done : (left : List Dated) (out : List Task) → IsTakingDue now xs left out → All (λ d. is_due now d ≡ false) left → DueParted now xs left out
+  due_done left out h none = record { due = h.due; tasks = h.tasks; parted = record { all = h.all; yes = h.yes; no = none } }
+
+-- so far moved to others: elements that pass, each changed by f
+pub record IsMovingInto (p : Dated → Bool) (f : Dated → Dated) (xs left others joined : List Dated) (i : ℕ) : Type 0 where
+  pub moved : List Dated
+  pub joins : IsPermutation (others ++ map f moved) joined
+  pub parting : IsParting p xs left moved i
+
+module _ (p : Dated → Bool) (f : Dated → Dated) (xs others : List Dated) where
+  pub moving_none : IsMovingInto p f xs xs others others 0
+  moving_none = record { moved = []; joins = rw (append-nil others) (IsPermutation-refl others); parting = parting_none p xs }
+
+  pub moving_stays : (left joined : List Dated) (i : ℕ) → IsMovingInto p f xs left others joined i → ((d : Dated) → p (get_or left i d) ≡ false) → IsMovingInto p f xs left others joined (i + 1)
+  moving_stays left joined i h n = record { moved = h.moved; joins = h.joins; parting = parting_stays p xs left h.moved i h.parting n }
+
+  pub moving_moves : (left rest joined more : List Dated) (i : ℕ) (x : Dated) → IsMovingInto p f xs left others joined i → i < length left → x ≡ get_or left i x → ((d : Dated) → p (get_or left i d) ≡ true) → rest ≡ swap_remove left i x
+      → ((k : ℕ) (d : Dated) → k < i → get_or rest k d ≡ get_or left k d) → IsPermutation (joined ++ f x ∷ []) more → IsMovingInto p f xs rest others more i
+  moving_moves left rest joined more i x h l e t r same m =
+      record {
+        moved = h.moved ++ x ∷ [];
+        joins =
+            let P : List Dated → Type 0 = λ l. IsPermutation l more in
+            subst P (append_assoc others (map f h.moved) (f x ∷ []) ∙ ap (λ l. others ++ l) (sym (map-append f h.moved (x ∷ []))))
+            (IsPermutation-trans _ _ _ (IsPermutation-append_left (f x ∷ []) (others ++ map f h.moved) joined h.joins) m);
+        parting = parting_moves p xs left h.moved rest i x h.parting l e t r same;
+      }
+
+  -- one that passes has still to be moved
+  pub moving_room : (left joined : List Dated) (i : ℕ) (d : Dated) → IsMovingInto p f xs left others joined i → i < length left → p (get_or left i d) ≡ true → length joined < length others + count_by p xs
+  moving_room left joined i d h l t =
+      omega (
+        arith,
+        length_permutation (others ++ map f h.moved) joined h.joins,
+        length-append others (map f h.moved),
+        length-map h.moved f,
+        room_left p xs left h.moved i d h.parting.all h.parting.yes l t,
+      )
+
+  pub moving_done : (left joined : List Dated) (i : ℕ) → IsMovingInto p f xs left others joined i → length left ≤ i → MovedInto p f xs left others joined
+  moving_done left joined i h l = record { moved = h.moved; joins = h.joins; parted = parting_done p xs left h.moved i h.parting l }

@@ -1,12 +1,11 @@
 -- What the calls of a queue do to its look-up by number.
-use Rattle.std.proofs.Common.{◌≡◌, ℕ, ◌+◌, ◌||◌, ℤ, Bool, true, false, not, List, [], ◌∷◌, ◌++◌, length, get_or, map, inl, inr, refl, ◌∙◌, ap, arith, Option, Some, None, IsNone, IsTrue}
+use Rattle.std.proofs.Common.{◌≡◌, ℕ, ◌+◌, ◌||◌, ℤ, Bool, true, false, not, List, [], ◌∷◌, ◌++◌, length, get_or, map, inl, inr, refl, ◌∙◌, ap, arith, Option, Some, None, IsNone, IsTrue, length-append}
 use Rattle.std.proofs.lemmas.List.{length-map}
 use Rattle.std.specs.Prelude.{nat_eq, count_by, All}
 use Rattle.std.specs.Option.{option_map, option_or, is_some, is_none, ForSome}
 use Rattle.std.specs.List.{find, list_any, IsDistinct, AllByRecursion}
 use Rattle.std.specs.List.Sorted.{IsPermutation, IsNonDecreasingBy}
 use Rattle.std.proofs.lemmas.Bool.{eqb-true, cases_Bool}
-use Rattle.std.proofs.lemmas.List.Folds.{find-append}
 use Rattle.std.proofs.lemmas.List.Elements.{Contains-get_or}
 use Rattle.std.proofs.lemmas.List.Sorted.{length_permutation}
 use Rattle.std.proofs.Math.Path.{fun_ext}
@@ -14,11 +13,11 @@ use Rattle.fol_model.specs.ActionStep.{at_id}
 use Rattle.fol_model.specs.FlatTick.{Rising}
 use Rattle.fol_model.specs.declared.tasks.Task.{Task}
 use Rattle.fol_queues.specs.declared.dated.Dated.{Dated}
-use Rattle.fol_queues.specs.Waiting.{dated_in, task_in, is_due, raised, IsRaisable, option_filter}
+use Rattle.fol_queues.specs.Waiting.{dated_in, task_in, is_due, shifted, IsRaisable, option_filter}
 use Rattle.fol_queues.specs.Distinct.{Distinct}
-use Rattle.fol_queues.specs.Parted.{Parted, DueParted}
+use Rattle.fol_queues.specs.Parted.{Parted, DueParted, MovedInto}
 use Rattle.fol_queues.proofs.Numbers.{nat_self, Apart, rising_from_sorted}
-use Rattle.fol_queues.proofs.Keyed.{differ_push, differ_append, differ_left, differ_right, Differ_parted, find_push, find_left, find_moved, find_map, find_own, find_permuted, differ_permuted, no_shared_key, any_found, found_any, count_moved, length_parted}
+use Rattle.fol_keyed.proofs.Keyed.{differ_push, differ_left, differ_right, differ_joined, Differ_parted, find_push, find_left, find_moved, find_joined, find_own, find_permuted, differ_permuted, any_found, found_any, count_moved, length_parted}
 
 abbrev number_of : Dated → ℕ
 number_of d = d.task.number
@@ -26,16 +25,6 @@ number_of d = d.task.number
 none_is : {X : Type 0} (o : Option X) → IsNone o → o ≡ None
 none_is None h = refl
 none_is (Some x) h = cc
-
--- numbers stay when deadlines move
-raised_distinct : (offset : ℤ) (ds : List Dated) → Distinct ds → Distinct (map (raised offset) ds)
-unfolding IsDistinct
-raised_distinct offset [] d = tt
-raised_distinct offset (x ∷ xs) d = (all x xs d.0, raised_distinct offset xs d.1)
-  where
-    all : (x : Dated) (xs : List Dated) → AllByRecursion (λ y. nat_eq x.task.number y.task.number ≡ false) xs → AllByRecursion (λ y. nat_eq x.task.number y.task.number ≡ false) (map (raised offset) xs)
-    all x [] h = tt
-    all x (y ∷ ys) h = (h.0, all x ys h.1)
 
 -- tasks without their deadlines
 tasks_found : (ds : List Dated) (n : ℕ) → task_in (map (λ (d : Dated). d.task) ds) n ≡ option_map (λ d. d.task) (dated_in ds n)
@@ -56,11 +45,14 @@ tasks_apart (x ∷ xs) d = (all x xs d.0, tasks_apart xs d.1)
     all x (y ∷ ys) h = (h.0, all x ys h.1)
 
 module _ (tasks : List Dated) where
-  pub accepts_distinct : (xs : List Dated) (d : Dated) → Distinct tasks → IsNone (dated_in tasks d.task.number) → xs ≡ tasks ++ d ∷ [] → Distinct xs
-  accepts_distinct xs d h fresh e = rw e (differ_push nat_eq eqb-true nat_self number_of tasks d h (none_is (dated_in tasks d.task.number) fresh))
+  pub accepts_distinct : (xs : List Dated) (d : Dated) → Distinct tasks → IsNone (dated_in tasks d.task.number) → IsPermutation (tasks ++ d ∷ []) xs → Distinct xs
+  accepts_distinct xs d h fresh m =
+      differ_permuted nat_eq eqb-true nat_self number_of (tasks ++ d ∷ []) xs m (differ_push nat_eq eqb-true nat_self number_of tasks d h (none_is (dated_in tasks d.task.number) fresh))
 
-  pub accepts : (xs : List Dated) (d : Dated) → IsNone (dated_in tasks d.task.number) → xs ≡ tasks ++ d ∷ [] → dated_in xs ≡ at_id (dated_in tasks) d.task.number (Some d)
-  accepts xs d fresh e = rw e (fun_ext (λ n. find_push nat_eq eqb-true nat_self number_of tasks d (none_is (dated_in tasks d.task.number) fresh) n))
+  pub accepts : (xs : List Dated) (d : Dated) → Distinct tasks → IsNone (dated_in tasks d.task.number) → IsPermutation (tasks ++ d ∷ []) xs → dated_in xs ≡ at_id (dated_in tasks) d.task.number (Some d)
+  accepts xs d h fresh m =
+      let none = none_is (dated_in tasks d.task.number) fresh in
+      fun_ext (λ n. find_permuted nat_eq eqb-true nat_self number_of (tasks ++ d ∷ []) xs (differ_push nat_eq eqb-true nat_self number_of tasks d h none) m n ∙ find_push nat_eq eqb-true nat_self number_of tasks d none n)
 
   pub has_on : (p : Dated → Bool) → Distinct tasks → list_any p tasks ≡ true → (n : ℕ) × (is_some (option_filter p (dated_in tasks n)) ≡ true)
   has_on p h t = any_found nat_eq eqb-true nat_self number_of p tasks h t
@@ -81,28 +73,23 @@ module _ (tasks : List Dated) where
   pub moved_distinct : (p : Dated → Bool) (left moved : List Dated) → Parted p tasks left moved → Distinct tasks → Distinct moved
   moved_distinct p left moved h d = differ_left nat_eq eqb-true nat_self number_of moved left (Differ_parted nat_eq eqb-true nat_self number_of p tasks left moved h d)
 
-  -- a merge: the other's tasks come behind, each with its deadline moved
-  pub merges : (others : List Dated) (offset : ℤ) (xs : List Dated) → xs ≡ tasks ++ map (raised offset) others → dated_in xs ≡ λ n. option_or (dated_in tasks n) (option_map (raised offset) (dated_in others n))
-  merges others offset xs e =
-      rw e (fun_ext (λ n.
-      rw (find-append (λ (d : Dated). nat_eq d.task.number n) tasks (map (raised offset) others))
-      (ap (λ o. option_or (dated_in tasks n) o) (find_map nat_eq eqb-true nat_self number_of (raised offset) (λ x. refl) others n))))
+  -- others come in, each with its deadline changed
+  pub joins : (f : Dated → Dated) → ((d : Dated) → (f d).task.number ≡ d.task.number) → (others xs : List Dated) → Distinct tasks → Distinct others
+      → ((n : ℕ) → IsTrue (is_none (dated_in tasks n) || is_none (dated_in others n))) → IsPermutation (tasks ++ map f others) xs → dated_in xs ≡ λ n. option_or (dated_in tasks n) (option_map f (dated_in others n))
+  joins f keeps others xs d o none m = fun_ext (λ n. find_joined nat_eq eqb-true nat_self number_of f keeps tasks others xs d o none m n)
 
-  pub merges_distinct : (others : List Dated) (offset : ℤ) (xs : List Dated) → Distinct tasks → Distinct others
-      → ((n : ℕ) → IsTrue (is_none (dated_in tasks n) || is_none (dated_in others n))) → xs ≡ tasks ++ map (raised offset) others → Distinct xs
-  merges_distinct others offset xs d o none e =
-      rw e (differ_append nat_eq eqb-true nat_self number_of tasks (map (raised offset) others) d (raised_distinct offset others o)
-      (no_shared_key nat_eq eqb-true nat_self number_of tasks (map (raised offset) others) d (raised_distinct offset others o) none_moved))
-    where
-      gone : (offset : ℤ) (r : Option Dated) → is_none (option_map (raised offset) r) ≡ is_none r
-      gone offset None = refl
-      gone offset (Some x) = refl
-
-      none_moved : (n : ℕ) → (is_none (dated_in tasks n) || is_none (dated_in (map (raised offset) others) n)) ≡ true
-      none_moved n = rw (find_map nat_eq eqb-true nat_self number_of (raised offset) (λ x. refl) others n, gone offset (dated_in others n)) (none n)
+  pub joins_distinct : (f : Dated → Dated) → ((d : Dated) → (f d).task.number ≡ d.task.number) → (others xs : List Dated) → Distinct tasks → Distinct others
+      → ((n : ℕ) → IsTrue (is_none (dated_in tasks n) || is_none (dated_in others n))) → IsPermutation (tasks ++ map f others) xs → Distinct xs
+  joins_distinct f keeps others xs d o none m = differ_permuted nat_eq eqb-true nat_self number_of (tasks ++ map f others) xs m (differ_joined nat_eq eqb-true nat_self number_of f keeps tasks others d o none)
 
   pub all_raisable : (offset : ℤ) → Distinct tasks → ((n : ℕ) → ForSome (dated_in tasks n) (IsRaisable offset)) → All (IsRaisable offset) tasks
   all_raisable offset d h = λ k e l. h (number_of (get_or tasks k e)) (get_or tasks k e) (find_own nat_eq eqb-true nat_self number_of tasks (get_or tasks k e) d (Contains-get_or tasks k e l))
+
+  -- so can those that pass
+  pub passing_raisable : (p : Dated → Bool) (offset : ℤ) → Distinct tasks → ((n : ℕ) → ForSome (option_filter p (dated_in tasks n)) (IsRaisable offset)) → All (λ d. IsTrue (p d) → IsRaisable offset d) tasks
+  passing_raisable p offset d h = λ k e l t.
+      let own : dated_in tasks (number_of (get_or tasks k e)) ≡ Some (get_or tasks k e) = find_own nat_eq eqb-true nat_self number_of tasks (get_or tasks k e) d (Contains-get_or tasks k e l) in
+      h (number_of (get_or tasks k e)) (get_or tasks k e) (rw (own, t) refl)
 
   -- the tasks that were taken, in another order: those of the due ones
   pub takes : (now : ℕ) (left : List Dated) (out ts : List Task) → DueParted now tasks left out → IsPermutation out ts → Distinct tasks → task_in ts ≡ λ n. option_map (λ d. d.task) (option_filter (is_due now) (dated_in tasks n))
@@ -130,3 +117,27 @@ module _ (tasks : List Dated) where
   takes_len now left out ts h m =
       let e : length ts ≡ length h.due = length_permutation out ts m ∙ ap (λ (l : List Task). length l) h.tasks ∙ length-map h.due (λ (e : Dated). e.task) in
       omega (arith, length_parted (is_due now) tasks left h.due h.parted)
+
+-- the number stays when the deadline moves
+pub shifted_keeps : (offset : Option ℤ) (d : Dated) → (shifted offset d).task.number ≡ d.task.number
+shifted_keeps None d = refl
+shifted_keeps (Some offset) d = refl
+
+-- what passes joined others
+module _ (p : Dated → Bool) (f : Dated → Dated) (keeps : (d : Dated) → (f d).task.number ≡ d.task.number) (xs left others joined : List Dated) (h : MovedInto p f xs left others joined) (d : Distinct xs) (o : Distinct others) (none : (n : ℕ) → IsTrue (is_none (dated_in others n) || is_none (option_filter p (dated_in xs n)))) where
+  none_moved : (n : ℕ) → IsTrue (is_none (dated_in others n) || is_none (dated_in h.moved n))
+  none_moved n = rw (ap (λ (g : ℕ → Option Dated). g n) (moved_of xs p left h.moved h.parted d)) (none n)
+
+  pub moves_into : dated_in joined ≡ λ n. option_or (dated_in others n) (option_map f (option_filter p (dated_in xs n)))
+  moves_into =
+      joins others f keeps h.moved joined o (moved_distinct xs p left h.moved h.parted d) none_moved h.joins
+      ∙ ap (λ (g : ℕ → Option Dated). λ (n : ℕ). option_or (dated_in others n) (option_map f (g n))) (moved_of xs p left h.moved h.parted d)
+
+  pub moves_distinct : Distinct joined
+  moves_distinct = joins_distinct others f keeps h.moved joined o (moved_distinct xs p left h.moved h.parted d) none_moved h.joins
+
+pub moves_len : (p : Dated → Bool) (f : Dated → Dated) (xs left others joined : List Dated) → MovedInto p f xs left others joined → (length left + count_by p xs ≡ length xs) × (length joined ≡ length others + count_by p xs)
+moves_len p f xs left others joined h =
+    let m : length h.moved ≡ count_by p xs = count_moved p xs left h.moved h.parted in
+    let all = length_parted p xs left h.moved h.parted in
+    (omega (arith, all), omega (arith, length_permutation (others ++ map f h.moved) joined h.joins, length-append others (map f h.moved), length-map h.moved f))

@@ -1,3 +1,5 @@
 pub mod Waiting
 pub mod Distinct
+pub mod Turn
+pub mod Below
 pub mod Parted

@@ -10,7 +10,8 @@
 #![tactic(auto)]
 
 mod dated;
-mod part;
+mod due;
+mod heap;
 mod queues;
 #[cfg(test)]
 mod tests;

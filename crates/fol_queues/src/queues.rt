@@ -1,12 +1,16 @@
 //! A queue of tasks with deadlines.
 
-ghost use Rattle.std.specs.Prelude.{◌≡◌, ◌+◌, ◌^◌, ◌≤◌, ◌||◌, not, Bool, IsTrue, ◌↔◌, ℕ, List, [], length, OnOk, vec_len, IsNone};
+ghost use Rattle.std.specs.Prelude.{◌≡◌, ◌+◌, ◌^◌, ◌≤◌, ◌||◌, not, Bool, IsTrue, ◌↔◌, ℕ, List, [], length, count_by, OnOk, vec_len, IsNone};
+ghost use Rattle.std.specs.List.Sorted.{IsStrictlySortedBy};
 ghost use Rattle.std.specs.Option.{option_map, option_or, is_none, is_some, ForSome};
 ghost use Rattle.std.specs.Vec.{vec_capacity};
 ghost use Rattle.fol_model.specs.ActionStep.{at_id};
 ghost use Rattle.fol_model.specs.FlatTick.{Rising};
+ghost use Rattle.fol_keyed.specs.Order.{chunk_cmp};
+ghost use Rattle.fol_keyed.specs.Areas.{covers};
 
-use crate::{Dated, walks};
+use crate::{Dated, due, heap, walks};
+use fol_keyed::Area;
 use fol_model::{ChunkPos, Grid, SectionPos, Task};
 use std::alloc::{AllocError, Global};
 use std::marker::Model;
@@ -21,17 +25,18 @@ impl Model for Queues {
     ghost use Rattle.std.specs.Prelude.{◌-◌, vec_len};
     ghost use Rattle.std.specs.Vec.{vec_capacity};
     ghost use Rattle.fol_queues.specs.Waiting.{Waiting};
-    ghost use Rattle.fol_queues.specs.Distinct.{Distinct};
+    ghost use Rattle.fol_queues.specs.Turn.{IsQueue};
 
     ghost Value = { Waiting };
 
     ghost view = { λ q. record { tasks = q.tasks.items; spare = vec_capacity q.tasks - vec_len q.tasks } };
 
-    ghost invariant = { λ q. Distinct q.tasks.items };
+    ghost invariant = { λ q. IsQueue q.tasks.items };
 }
 
 impl Queues {
-    ghost use Rattle.fol_queues.specs.Waiting.{Waiting, dated, task_in, len_of, is_due, due_count, lies_in, count_within, lies_on, raised, IsRaisable, option_filter};
+    ghost use Rattle.fol_queues.specs.Waiting.{Waiting, dated, task_in, len_of, is_due, due_count, lies_in, count_within, lies_listed, count_listed, lies_on, is_covered, raised, shifted, IsRaisable, option_filter};
+    ghost use Rattle.fol_queues.specs.Distinct.{Distinct};
 
     /// No task. Takes no memory.
     pub fn new(alloc: Global) -> Queues
@@ -84,14 +89,14 @@ impl Queues {
         ensures spare { self.old.spare ≤ self.new.spare + 1 }
     {
         let deadline = begun + delay as u64;
-        self.tasks.push_reserved(Dated { task, deadline });
+        heap::push(&mut self.tasks, Dated { task, deadline });
     }
 
     /// How many tasks have their deadline at `now` or before.
     pub fn count_due(&self, now: u64) -> u64
         ensures { result ≡ due_count now self.now }
     {
-        walks::count_due(&self.tasks, now)
+        due::count_due(&self.tasks, now)
     }
 
     /// Moves the tasks whose deadline is at most `now` into `out`, in order of number. Takes no memory.
@@ -120,10 +125,7 @@ impl Queues {
     {
         let Queues { mut tasks } = other;
         walks::raise_all(&mut tasks, offset);
-        match self.tasks.append(&mut tasks) {
-            Ok(()) => {}
-            Err(_) => unreachable!(),
-        }
+        walks::join(&mut self.tasks, tasks);
     }
 
     /// Moves the tasks whose section is in the part into an empty queue, with their deadlines. Takes no memory.
@@ -136,7 +138,24 @@ impl Queues {
         ensures count { len_of into.new ≡ count_within grid.now part.now self.old }
         ensures spare { self.old.spare ≤ self.new.spare }
     {
-        walks::move_part(&mut self.tasks, grid, part, &mut into.tasks);
+        self.move_area(&Area::part(grid, part), None, into);
+    }
+
+    /// Moves the tasks on the chunks into another queue, each with its deadline moved by the offset. The chunks stand by z, and then
+    /// by x. Takes no memory.
+    pub fn move_listed(&mut self, chunks: &[ChunkPos], into: &mut Queues, offset: i64)
+        requires order { IsStrictlySortedBy chunk_cmp chunks.now }
+        requires apart { (n : ℕ) → IsTrue (is_none (dated into.old n) || is_none (option_filter (lies_listed chunks.now) (dated self.old n))) }
+        requires room { count_listed chunks.now self.old ≤ into.old.spare }
+        requires deadlines { (n : ℕ) → ForSome (option_filter (lies_listed chunks.now) (dated self.old n)) (IsRaisable offset) }
+        ensures stayed { dated self.new ≡ λ n. option_filter (λ d. not (lies_listed chunks.now d)) (dated self.old n) }
+        ensures moved { dated into.new ≡ λ n. option_or (dated into.old n) (option_map (raised offset) (option_filter (lies_listed chunks.now) (dated self.old n))) }
+        ensures len { len_of self.new + count_listed chunks.now self.old ≡ len_of self.old }
+        ensures into_len { len_of into.new ≡ len_of into.old + count_listed chunks.now self.old }
+        ensures spare { self.old.spare ≤ self.new.spare }
+        ensures into_spare { into.old.spare ≤ into.new.spare + count_listed chunks.now self.old }
+    {
+        self.move_area(&Area::listed(chunks), Some(offset), into);
     }
 
     /// Whether a task waits on the chunk.
@@ -150,6 +169,38 @@ impl Queues {
     pub fn count_in(&self, grid: &Grid, part: &[SectionPos]) -> u64
         ensures { result ≡ count_within grid.now part.now self.now }
     {
-        walks::count_in(&self.tasks, grid, part)
+        walks::count_in(&self.tasks, &Area::part(grid, part))
+    }
+
+    /// How many tasks are on the chunks, which stand by z, and then by x.
+    pub fn count_listed(&self, chunks: &[ChunkPos]) -> u64
+        requires { IsStrictlySortedBy chunk_cmp chunks.now }
+        ensures { result ≡ count_listed chunks.now self.now }
+    {
+        walks::count_in(&self.tasks, &Area::listed(chunks))
+    }
+
+    /// All tasks with their deadlines, in no stated order.
+    pub fn into_tasks(self) -> Vec<Dated>
+        ensures tasks { result.items ≡ self.tasks }
+        ensures distinct { Distinct result.items }
+    {
+        self.tasks
+    }
+
+    /// Moves the tasks in the area into another queue, each with its deadline moved where there is an offset.
+    fn move_area(&mut self, area: &Area, offset: Option<i64>, into: &mut Queues)
+        requires apart { (n : ℕ) → IsTrue (is_none (dated into.old n) || is_none (option_filter (is_covered (covers area.now)) (dated self.old n))) }
+        requires room { count_by (is_covered (covers area.now)) self.old.tasks ≤ into.old.spare }
+        requires deadlines { ForSome offset (λ o. (n : ℕ) → ForSome (option_filter (is_covered (covers area.now)) (dated self.old n)) (IsRaisable o)) }
+        ensures stayed { dated self.new ≡ λ n. option_filter (λ d. not (is_covered (covers area.now) d)) (dated self.old n) }
+        ensures moved { dated into.new ≡ λ n. option_or (dated into.old n) (option_map (shifted offset) (option_filter (is_covered (covers area.now)) (dated self.old n))) }
+        ensures len { len_of self.new + count_by (is_covered (covers area.now)) self.old.tasks ≡ len_of self.old }
+        ensures into_len { len_of into.new ≡ len_of into.old + count_by (is_covered (covers area.now)) self.old.tasks }
+        ensures spare { self.old.spare ≤ self.new.spare }
+        ensures into_spare { into.old.spare ≤ into.new.spare + count_by (is_covered (covers area.now)) self.old.tasks }
+    {
+        walks::move_area(&mut self.tasks, area, offset, &mut into.tasks);
+        heap::build(&mut self.tasks);
     }
 }

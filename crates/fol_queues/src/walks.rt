@@ -1,29 +1,27 @@
 //! Walks over the tasks of a queue.
 
-ghost use Rattle.std.specs.Prelude.{◌≡◌, ◌≤◌, ℤ, pos, nat_abs, ◌+ℤ◌, ◌≤ℤ◌, ◌^◌, [], All, map, count_by};
+ghost use Rattle.std.specs.Prelude.{◌≡◌, ◌+◌, ◌≤◌, ℤ, pos, nat_abs, ◌+ℤ◌, ◌≤ℤ◌, ◌^◌, [], ◌++◌, All, map, count_by, vec_len};
 ghost use Rattle.std.specs.List.{list_any};
+ghost use Rattle.std.specs.List.Sorted.{IsPermutation};
+ghost use Rattle.std.specs.Option.{ForSome};
 ghost use Rattle.std.specs.Vec.{vec_capacity};
-ghost use Rattle.fol_queues.specs.Waiting.{is_due, lies_in, lies_on, raised, IsRaisable};
-ghost use Rattle.fol_queues.specs.Parted.{Parted, DueParted};
+ghost use Rattle.std.specs.BinaryHeap.{IsHeap};
+ghost use Rattle.fol_keyed.specs.Areas.{covers};
+ghost use Rattle.fol_queues.specs.Waiting.{is_due, lies_on, raised, shifted, is_covered, IsRaisable, CanShift};
+ghost use Rattle.fol_queues.specs.Parted.{MovedInto, DueParted};
+ghost use Rattle.fol_queues.specs.Turn.{by_turn};
 
-use crate::Dated;
-use crate::part::is_in_part;
-use fol_model::{ChunkPos, Grid, SectionPos, Task};
+use crate::{Dated, heap};
+use fol_keyed::Area;
+use fol_model::{ChunkPos, Task};
 
-/// How many of the tasks are due.
-pub fn count_due(tasks: &[Dated], now: u64) -> u64
-    ensures { result ≡ count_by (is_due now) tasks.now }
-{
-    tasks.iter().filter(|task| task.deadline <= now).count() as u64
-}
-
-/// How many of the tasks lie in the part.
-pub fn count_in(tasks: &[Dated], grid: &Grid, part: &[SectionPos]) -> u64
-    ensures { result ≡ count_by (lies_in grid.now part.now) tasks.now }
+/// How many of the tasks lie in the area.
+pub fn count_in(tasks: &[Dated], area: &Area) -> u64
+    ensures { result ≡ count_by (is_covered (covers area.now)) tasks.now }
 {
     tasks
         .iter()
-        .filter(|task| is_in_part(grid, part, task.task.chunk))
+        .filter(|task| area.covers(task.task.chunk))
         .count() as u64
 }
 
@@ -35,39 +33,53 @@ pub fn any_on(tasks: &[Dated], chunk: ChunkPos) -> bool
     tasks.iter().any(|task| task.task.chunk == chunk)
 }
 
-/// Moves the due tasks into `out`, in no stated order.
+/// Moves the due tasks into `out`, those that are due first before the others.
 pub fn move_due(tasks: &mut Vec<Dated>, now: u64, out: &mut Vec<Task>)
     requires empty { out.old.items ≡ [] }
     requires room { count_by (is_due now) tasks.old.items ≤ vec_capacity out.old }
+    requires order { IsHeap by_turn tasks.old.items }
     ensures parted { DueParted now tasks.old.items tasks.new.items out.new.items }
+    ensures order { IsHeap by_turn tasks.new.items }
     ensures capacity { vec_capacity tasks.new ≡ vec_capacity tasks.old }
+{
+    while !tasks.is_empty() && tasks[0].deadline <= now {
+        let Dated { task, deadline: _ } = heap::take_first(tasks);
+        out.push_reserved(task);
+    }
+}
+
+/// Moves the tasks that lie in the area into another heap, each with its deadline moved where there is an offset. What stays is a
+/// heap no more.
+pub fn move_area(tasks: &mut Vec<Dated>, area: &Area, offset: Option<i64>, into: &mut Vec<Dated>)
+    requires room { vec_len into.old + count_by (is_covered (covers area.now)) tasks.old.items ≤ vec_capacity into.old }
+    requires order { IsHeap by_turn into.old.items }
+    requires deadlines { CanShift (is_covered (covers area.now)) offset tasks.old.items }
+    ensures moved { MovedInto (is_covered (covers area.now)) (shifted offset) tasks.old.items tasks.new.items into.old.items into.new.items }
+    ensures order { IsHeap by_turn into.new.items }
+    ensures capacity { vec_capacity tasks.new ≡ vec_capacity tasks.old }
+    ensures into_capacity { vec_capacity into.new ≡ vec_capacity into.old }
 {
     let mut i = 0;
     while i < tasks.len() {
-        if tasks[i].deadline <= now {
-            let Dated { task, deadline: _ } = tasks.swap_remove(i);
-            out.push_reserved(task);
+        if area.covers(tasks[i].task.chunk) {
+            let task = tasks.swap_remove(i);
+            heap::push(into, shifted(task, offset));
         } else {
             i += 1;
         }
     }
 }
 
-/// Moves the tasks of the part into `into`.
-pub fn move_part(tasks: &mut Vec<Dated>, grid: &Grid, part: &[SectionPos], into: &mut Vec<Dated>)
-    requires empty { into.old.items ≡ [] }
-    requires room { count_by (lies_in grid.now part.now) tasks.old.items ≤ vec_capacity into.old }
-    ensures parted { Parted (lies_in grid.now part.now) tasks.old.items tasks.new.items into.new.items }
+/// Moves the tasks of another list into a heap.
+pub fn join(tasks: &mut Vec<Dated>, mut others: Vec<Dated>)
+    requires room { vec_len tasks.old + vec_len others ≤ vec_capacity tasks.old }
+    requires order { IsHeap by_turn tasks.old.items }
+    ensures same { IsPermutation (tasks.old.items ++ others.items) tasks.new.items }
+    ensures order { IsHeap by_turn tasks.new.items }
     ensures capacity { vec_capacity tasks.new ≡ vec_capacity tasks.old }
 {
-    let mut i = 0;
-    while i < tasks.len() {
-        if is_in_part(grid, part, tasks[i].task.chunk) {
-            let task = tasks.swap_remove(i);
-            into.push_reserved(task);
-        } else {
-            i += 1;
-        }
+    while let Some(task) = others.pop() {
+        heap::push(tasks, task);
     }
 }
 
@@ -78,6 +90,23 @@ pub fn raise_all(tasks: &mut [Dated], offset: i64)
 {
     for i in 0..tasks.len() {
         tasks[i].deadline = raised_deadline(tasks[i].deadline, offset);
+    }
+}
+
+/// The task with its deadline moved, where there is an offset.
+fn shifted(task: Dated, offset: Option<i64>) -> Dated
+    requires { ForSome offset (λ o. IsRaisable o task) }
+    ensures { result ≡ shifted offset task }
+{
+    match offset {
+        None => task,
+        Some(offset) => {
+            let Dated { task, deadline } = task;
+            Dated {
+                task,
+                deadline: raised_deadline(deadline, offset),
+            }
+        }
     }
 }
 

@@ -1,7 +1,6 @@
-use Rattle.std.proofs.Common.{◌++◌, ℕ, not, refl, ◌∙◌, ap, arith, length, length-append}
+use Rattle.std.proofs.Common.{ℕ, not, refl, ◌∙◌, ap, arith, length, length-append}
 use Rattle.std.specs.Prelude.{nat_eq, if◌then◌else◌}
 use Rattle.std.specs.List.{filter}
-use Rattle.std.specs.List.Sorted.{IsPermutation}
 use Rattle.std.proofs.lemmas.List.Sorted.{length_permutation}
 use Rattle.std.proofs.lemmas.List.Sums.{length-filter}
 use Rattle.std.proofs.lemmas.List.Filters.{length-filter_both}
@@ -9,35 +8,37 @@ use Rattle.fol_model.specs.Geometry.{chunk_of}
 use Rattle.fol_model.specs.World.{block_in}
 use Rattle.fol_model.specs.declared.openings.BlockAt.{BlockAt}
 use Rattle.fol_model.specs.declared.places.BlockPos.{BlockPos}
-use Rattle.fol_chunks.specs.Area.{covers}
-use Rattle.fol_chunks.proofs.BlockLists.{block_filtered, blocks_filtered, block_joined, blocks_joined, NoneInBoth}
+use Rattle.fol_keyed.specs.Areas.{covers}
+use Rattle.fol_chunks.proofs.BlockLists.{block_filtered, blocks_filtered, block_joined, blocks_joined, blocks_untied, none_passes}
 use Rattle.fol_chunks.proofs.blocks.move_area.Goals as goal
 
-none : (c : goal.After-sort) → NoneInBoth c.args.into.now.items (filter (λ (b : BlockAt). covers c.args.area.now (chunk_of b.at)) c.args.blocks.now.items) c.sort.new.blocks.items
-none c = λ b. rw (ap (λ (f : BlockPos → ℕ). f b) (block_filtered (covers c.args.area.now) c.args.blocks.now.items)) (c.requires.apart b)
+pub move_covered-requires-clause-apart : goal.move_covered-requires-clause-apart
+move_covered-requires-clause-apart c =
+    blocks_untied c.args.into.now.items _ c.args.into.now.items c.requires.into_kept (blocks_filtered (covers c.args.area.now) c.args.blocks.now.items c.requires.kept)
+    (none_passes (covers c.args.area.now) c.args.into.now.items c.args.blocks.now.items c.args.into.now.items c.requires.apart)
 
 pub returns-clause-left : goal.returns-clause-left
-returns-clause-left c = rw c.move_behind.ensures.left (block_filtered (λ q. not (covers c.args.area.now q)) c.args.blocks.now.items)
+returns-clause-left c = rw c.move_covered.ensures.left (block_filtered (λ q. not (covers c.args.area.now q)) c.args.blocks.now.items)
 
 pub returns-clause-moved : goal.returns-clause-moved
 returns-clause-moved c =
-    block_joined c.args.into.now.items _ c.sort.new.blocks.items c.requires.into_kept (blocks_filtered (covers c.args.area.now) c.args.blocks.now.items c.requires.kept) (none c) (rw c.move_behind.ensures.moved at c.sort.ensures.same)
+    block_joined c.args.into.now.items _ c.move_covered.new.into.items c.requires.into_kept (blocks_filtered (covers c.args.area.now) c.args.blocks.now.items c.requires.kept)
+    (none_passes (covers c.args.area.now) c.args.into.now.items c.args.blocks.now.items c.move_covered.new.into.items c.requires.apart) c.move_covered.ensures.moved
     ∙ ap (λ (f : BlockPos → ℕ). λ (b : BlockPos). if nat_eq (block_in c.args.into.now.items b) 0 then f b else block_in c.args.into.now.items b) (block_filtered (covers c.args.area.now) c.args.blocks.now.items)
 
 pub returns-clause-kept : goal.returns-clause-kept
-returns-clause-kept c = rw c.move_behind.ensures.left (blocks_filtered (λ q. not (covers c.args.area.now q)) c.args.blocks.now.items c.requires.kept)
+returns-clause-kept c = rw c.move_covered.ensures.left (blocks_filtered (λ q. not (covers c.args.area.now q)) c.args.blocks.now.items c.requires.kept)
 
 pub returns-clause-into_kept : goal.returns-clause-into_kept
 returns-clause-into_kept c =
-    blocks_joined c.args.into.now.items _ c.sort.new.blocks.items c.requires.into_kept (blocks_filtered (covers c.args.area.now) c.args.blocks.now.items c.requires.kept) (none c) (rw c.move_behind.ensures.moved at c.sort.ensures.same) c.sort.ensures.order
+    blocks_joined c.args.into.now.items _ c.move_covered.new.into.items c.requires.into_kept (blocks_filtered (covers c.args.area.now) c.args.blocks.now.items c.requires.kept) c.move_covered.ensures.moved c.move_covered.ensures.into_order
 
 pub returns-clause-len : goal.returns-clause-len
 returns-clause-len c =
     let all = length-filter_both (λ (b : BlockAt). covers c.args.area.now (chunk_of b.at)) (λ b. not (covers c.args.area.now (chunk_of b.at))) (λ b. refl) c.args.blocks.now.items in
-    omega (arith, all, length-filter (λ (b : BlockAt). covers c.args.area.now (chunk_of b.at)) c.args.blocks.now.items, ap length c.move_behind.ensures.left)
+    omega (arith, all, length-filter (λ (b : BlockAt). covers c.args.area.now (chunk_of b.at)) c.args.blocks.now.items, ap length c.move_covered.ensures.left)
 
 pub returns-clause-into_len : goal.returns-clause-into_len
 returns-clause-into_len c =
     let passing = filter (λ (b : BlockAt). covers c.args.area.now (chunk_of b.at)) c.args.blocks.now.items in
-    let same : IsPermutation (c.args.into.now.items ++ filter (λ (b : BlockAt). covers c.args.area.now (chunk_of b.at)) c.args.blocks.now.items) c.sort.new.blocks.items = rw c.move_behind.ensures.moved at c.sort.ensures.same in
-    omega (arith, length_permutation _ _ same, length-append c.args.into.now.items passing, length-filter (λ (b : BlockAt). covers c.args.area.now (chunk_of b.at)) c.args.blocks.now.items)
+    omega (arith, length_permutation _ _ c.move_covered.ensures.moved, length-append c.args.into.now.items passing, length-filter (λ (b : BlockAt). covers c.args.area.now (chunk_of b.at)) c.args.blocks.now.items)

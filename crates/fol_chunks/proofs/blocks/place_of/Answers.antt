@@ -2,8 +2,8 @@ use Rattle.std.proofs.Common.{rules}
 use Rattle.std.proofs.lemmas.Fn.{always_returns_same}
 use Rattle.fol_model.specs.Universe.{block_cmp}
 use Rattle.fol_model.specs.declared.openings.BlockAt.{BlockAt}
-use Rattle.fol_chunks.proofs.Sorted.{searched_by}
-use Rattle.fol_chunks.proofs.Places.{block_cmp_total, block_cmp_tells}
+use Rattle.fol_keyed.proofs.Sorted.{searched_by}
+use Rattle.fol_keyed.proofs.Places.{block_cmp_total, block_cmp_tells}
 use Rattle.fol_chunks.proofs.blocks.place_of.Goals as goal
 
 pub returns : goal.returns

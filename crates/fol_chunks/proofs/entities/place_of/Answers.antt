@@ -3,8 +3,8 @@ use Rattle.std.proofs.lemmas.Fn.{always_returns_same}
 use Rattle.std.specs.Ordering.{nat_cmp}
 use Rattle.std.specs.Cmp.{nat_cmp_total}
 use Rattle.fol_model.specs.declared.entities.Entity.{Entity}
-use Rattle.fol_chunks.proofs.Sorted.{searched_by}
-use Rattle.fol_chunks.proofs.Places.{nat_cmp_tells}
+use Rattle.fol_keyed.proofs.Sorted.{searched_by}
+use Rattle.fol_keyed.proofs.Places.{nat_cmp_tells}
 use Rattle.fol_chunks.proofs.entities.place_of.Goals as goal
 
 pub returns : goal.returns

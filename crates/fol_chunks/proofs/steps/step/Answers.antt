@@ -10,7 +10,7 @@ use Rattle.fol_chunks.proofs.steps.step.Goals as goal
 
 pub returns-in-Some-Some : goal.returns-in-Some-Some
 returns-in-Some-Some c =
-    let recorded : c.is_recorded.result ≡ true = elim (cases_Bool c.is_recorded.result) [ inl e ↦ e | inr e ↦ let w = rw e at c.if-not-is_recorded.false in cc ] in
+    let recorded : c.has.result ≡ true = elim (cases_Bool c.has.result) [ inl e ↦ e | inr e ↦ let w = rw e at c.if-not-has.false in cc ] in
     let x : FitsSigned w32 c.args.entity.at.x = search rules in
     let vx : FitsSigned w32 c.args.entity.vx = search rules in
     let z : FitsSigned w32 c.args.entity.at.z = search rules in
@@ -21,19 +21,19 @@ returns-in-Some-Some c =
     let new_x : FitsSigned w32 c.in-Some-Some.x = search rules in
     let new_z : FitsSigned w32 c.in-Some-Some.z = search rules in
     let moved = rw (to_z-of_z w32 c.in-Some-Some.x new_x, to_z-of_z w32 c.args.entity.at.y y, to_z-of_z w32 c.in-Some-Some.z new_z) at c.moved_to.ensures in
-    step_moves (is_recorded c.args.chunks.now) c.args.entity _ c.in-Some-Some.x c.in-Some-Some.z
-    (ap (λ (q : ChunkPos). is_recorded c.args.chunks.now q) (sym c.chunk_of.ensures) ∙ sym c.is_recorded.ensures ∙ recorded) sum_x sum_z moved
+    step_moves (is_recorded c.args.recorded.now.chunks.now) c.args.entity _ c.in-Some-Some.x c.in-Some-Some.z
+    (ap (λ (q : ChunkPos). is_recorded c.args.recorded.now.chunks.now q) (sym c.chunk_of.ensures) ∙ sym c.has.ensures ∙ recorded) sum_x sum_z moved
 
 pub returns-in_default : goal.returns-in_default
 returns-in_default c =
     let z : FitsSigned w32 c.args.entity.at.z = search rules in
     let vz : FitsSigned w32 c.args.entity.vz = search rules in
     let misfit = rw (c.in_default.is-1, to_z-of_z w32 c.args.entity.at.z z, to_z-of_z w32 c.args.entity.vz vz) at c.checked_add-2.ensures in
-    step_stays (is_recorded c.args.chunks.now) c.args.entity (misfit_stays c.args.chunks.now (ahead c.args.entity.vx c.args.entity.vz c.args.entity.at) c.requires.places (λ f. misfit f.1))
+    step_stays (is_recorded c.args.recorded.now.chunks.now) c.args.entity (misfit_stays c.args.recorded.now.chunks.now (ahead c.args.entity.vx c.args.entity.vz c.args.entity.at) c.requires (λ f. misfit f.1))
 
 pub returns-in_default-2 : goal.returns-in_default-2
 returns-in_default-2 c =
     let x : FitsSigned w32 c.args.entity.at.x = search rules in
     let vx : FitsSigned w32 c.args.entity.vx = search rules in
     let misfit = rw (c.in_default.is-0, to_z-of_z w32 c.args.entity.at.x x, to_z-of_z w32 c.args.entity.vx vx) at c.checked_add.ensures in
-    step_stays (is_recorded c.args.chunks.now) c.args.entity (misfit_stays c.args.chunks.now (ahead c.args.entity.vx c.args.entity.vz c.args.entity.at) c.requires.places (λ f. misfit f.0))
+    step_stays (is_recorded c.args.recorded.now.chunks.now) c.args.entity (misfit_stays c.args.recorded.now.chunks.now (ahead c.args.entity.vx c.args.entity.vz c.args.entity.at) c.requires (λ f. misfit f.0))

@@ -4,4 +4,4 @@ use Rattle.fol_chunks.specs.Rows.{stepped}
 use Rattle.fol_chunks.proofs.steps.step_all.Given as goal
 
 abbrev pub invariant-loop-i : goal.invariant-loop-i
-invariant-loop-i l = l.entities ≡ map (stepped (is_recorded l.chunks)) (take l.i l.fn.entities) ++ drop l.i l.fn.entities
+invariant-loop-i l = l.entities ≡ map (stepped (is_recorded l.recorded.chunks.now)) (take l.i l.fn.entities) ++ drop l.i l.fn.entities

@@ -1,26 +1,8 @@
-use Rattle.std.proofs.Common.{◌≡◌, ℕ, inl, inr, sym, refl, subst, arith, Option, Some, None}
-use Rattle.std.specs.Prelude.{nat_eq}
-use Rattle.std.specs.Option.{ForSome}
-use Rattle.std.proofs.lemmas.Bool.{cases_Bool}
-use Rattle.fol_model.specs.ActionStep.{Flat, at_id}
-use Rattle.fol_queues.specs.declared.dated.Dated.{Dated}
+use Rattle.std.proofs.Common.{arith}
 use Rattle.fol_queues.specs.Waiting.{dated}
-use Rattle.fol_chunks.specs.Contents.{flat_of, nothing, Apart}
-use Rattle.fol_data.specs.Rests.{IsInTime}
+use Rattle.fol_chunks.specs.Contents.{flat_of}
+use Rattle.fol_data.proofs.OneTask.{one_in_time, apart_from_nothing}
 use Rattle.fol_data.proofs.tests.merged.Goals as goal
-
--- where one task is in time, all are
-one_in_time : (tick number : ℕ) (d : Dated) (tasks : ℕ → Option Dated) → tasks ≡ at_id (λ n. None) number (Some d) → IsInTime tick d → (n : ℕ) → ForSome (tasks n) (IsInTime tick)
-one_in_time tick number d tasks e h n x is =
-    let one = rw e at is in
-    elim (cases_Bool (nat_eq number n)) [
-      | inl t ↦ let same = rw t at one in let own : d ≡ x = cc in subst (IsInTime tick) own h
-      | inr t ↦ let none = rw t at one in absurd cc
-    ]
-
--- nothing is apart from anything
-apart_from_nothing : (f g : Flat) → f ≡ nothing → Apart f g
-apart_from_nothing f g e = subst (λ (h : Flat). Apart h g) (sym e) (record { blocks = λ b. refl; standing = λ id. refl })
 
 pub merge_from-requires-clause-other_in_time : goal.merge_from-requires-clause-other_in_time
 merge_from-requires-clause-other_in_time c =

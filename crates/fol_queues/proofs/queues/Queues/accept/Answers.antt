@@ -3,9 +3,11 @@ use Rattle.fol_queues.proofs.Queued.{accepts, accepts_distinct}
 use Rattle.fol_queues.proofs.queues.Queues.accept.Goals as goal
 
 pub invariant_of-self : goal.invariant_of-self
-invariant_of-self c =
-    accepts_distinct _ _ (record { task = c.args.task; deadline = c.args.begun + c.args.delay }) c.self.invariant (rw (← c.self.view_is) at c.requires.fresh) c.push_reserved.ensures.items
+invariant_of-self c = record {
+  distinct = accepts_distinct _ _ (record { task = c.args.task; deadline = c.args.begun + c.args.delay }) c.self.invariant.distinct (rw (← c.self.view_is) at c.requires.fresh) c.push.ensures.same;
+  order = c.push.ensures.order;
+}
 
 pub returns-clause-tasks : goal.returns-clause-tasks
 returns-clause-tasks c =
-    rw (← c.self.view_is) (accepts _ _ (record { task = c.args.task; deadline = c.args.begun + c.args.delay }) (rw (← c.self.view_is) at c.requires.fresh) c.push_reserved.ensures.items)
+    rw (← c.self.view_is) (accepts _ _ (record { task = c.args.task; deadline = c.args.begun + c.args.delay }) c.self.invariant.distinct (rw (← c.self.view_is) at c.requires.fresh) c.push.ensures.same)

@@ -7,4 +7,4 @@ use Rattle.fol_queues.proofs.queues.Queues.has.Goals as goal
 pub returns : goal.returns
 returns c =
     let e : c.any_on.result ≡ list_any (lies_on c.args.c) c.self.inside.tasks.items = cc in
-    rw (← c.self.view_is, e) (has_on _ (lies_on c.args.c) c.self.invariant, on_has _ (lies_on c.args.c))
+    rw (← c.self.view_is, e) (has_on _ (lies_on c.args.c) c.self.invariant.distinct, on_has _ (lies_on c.args.c))

@@ -6,17 +6,17 @@ use Rattle.fol_queues.proofs.Queued.{left_of, left_distinct, takes, takes_in_ord
 use Rattle.fol_queues.proofs.queues.Queues.take_due.Goals as goal
 
 pub invariant_of-self : goal.invariant_of-self
-invariant_of-self c = left_distinct _ (is_due c.args.now) _ _ c.move_due.ensures.parted.parted c.self.invariant
+invariant_of-self c = record { distinct = left_distinct _ (is_due c.args.now) _ _ c.move_due.ensures.parted.parted c.self.invariant.distinct; order = c.move_due.ensures.order }
 
 pub returns-clause-left : goal.returns-clause-left
-returns-clause-left c = rw (← c.self.view_is) (left_of _ (is_due c.args.now) _ _ c.move_due.ensures.parted.parted c.self.invariant)
+returns-clause-left c = rw (← c.self.view_is) (left_of _ (is_due c.args.now) _ _ c.move_due.ensures.parted.parted c.self.invariant.distinct)
 
 pub returns-clause-taken : goal.returns-clause-taken
-returns-clause-taken c = rw (← c.self.view_is) (takes _ c.args.now _ _ _ c.move_due.ensures.parted c.sort_unstable_by_key.ensures.permutation c.self.invariant)
+returns-clause-taken c = rw (← c.self.view_is) (takes _ c.args.now _ _ _ c.move_due.ensures.parted c.sort_unstable_by_key.ensures.permutation c.self.invariant.distinct)
 
 pub returns-clause-order : goal.returns-clause-order
 returns-clause-order c =
-    takes_in_order _ c.args.now _ _ _ c.move_due.ensures.parted c.sort_unstable_by_key.ensures.permutation c.self.invariant
+    takes_in_order _ c.args.now _ _ _ c.move_due.ensures.parted c.sort_unstable_by_key.ensures.permutation c.self.invariant.distinct
     (IsNonDecreasingBy-from_sort_by_key (λ (t : Task). t.number) _ c.sort_unstable_by_key.ensures.sorted (λ a r q k. search rules))
 
 pub returns-clause-len : goal.returns-clause-len

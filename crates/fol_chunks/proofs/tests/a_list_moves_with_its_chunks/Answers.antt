@@ -1,0 +1,26 @@
+use Rattle.std.proofs.Common.{ℕ, ap, refl, Option, [], ◌∷◌, pos, List}
+use Rattle.std.specs.List.Sorted.{IsStrictlySortedBy}
+use Rattle.fol_model.specs.declared.places.ChunkPos.{ChunkPos}
+use Rattle.fol_model.specs.Geometry.{chunk_of}
+use Rattle.fol_model.specs.ActionStep.{Standing}
+use Rattle.fol_chunks.specs.Contents.{flat_of, within, is_listed, option_filter}
+use Rattle.fol_chunks.proofs.Flats.{apart_kinds}
+use Rattle.fol_chunks.proofs.tests.a_list_moves_with_its_chunks.Goals as goal
+
+-- the two chunks
+chunks : List ChunkPos
+chunks = record { x = pos 0; z = pos 0 } ∷ record { x = pos 1; z = pos 0 } ∷ []
+
+pub size_listed-requires : goal.size_listed-requires
+unfolding IsStrictlySortedBy
+size_listed-requires g c = ((refl, tt), (tt, tt))
+
+pub move_listed-requires-clause-order : goal.move_listed-requires-clause-order
+unfolding IsStrictlySortedBy
+move_listed-requires-clause-order g c = ((refl, tt), (tt, tt))
+
+pub move_listed-requires-clause-apart : goal.move_listed-requires-clause-apart
+unfolding chunks
+move_listed-requires-clause-apart g c =
+    apart_kinds (flat_of c.in_ok-into.into) (within (is_listed chunks) (flat_of c.in_ok-chunks.chunks)) c.in_ok-into.ensures.blocks
+    (ap (λ (f : ℕ → Option Standing). λ (id : ℕ). option_filter (λ (s : Standing). is_listed chunks (chunk_of s.at)) (f id)) c.in_ok-chunks.ensures)

@@ -1,0 +1,9 @@
+pub mod Keyed
+pub mod Sorted
+pub mod Places
+pub mod Searched
+pub mod Written
+pub mod Merged
+pub mod Rooms
+pub mod Behind
+pub mod Filtered

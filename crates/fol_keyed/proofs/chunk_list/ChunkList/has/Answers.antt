@@ -1,0 +1,16 @@
+use Rattle.std.proofs.Common.{◌∙◌, rules}
+use Rattle.std.proofs.lemmas.Fn.{always_returns_same}
+use Rattle.fol_model.specs.declared.places.ChunkPos.{ChunkPos}
+use Rattle.fol_model.specs.Geometry.{same_chunk}
+use Rattle.fol_keyed.specs.Order.{chunk_cmp}
+use Rattle.fol_keyed.proofs.Places.{same_chunk-true, same_chunk-self, chunk_cmp_total, chunk_cmp_tells}
+use Rattle.fol_keyed.proofs.Searched.{search_tells}
+use Rattle.fol_keyed.proofs.Sorted.{searched_by}
+use Rattle.fol_keyed.proofs.chunk_list.ChunkList.has.Goals as goal
+
+pub returns : goal.returns
+returns c =
+    c.is_ok.ensures.value
+    ∙ search_tells same_chunk same_chunk-true same_chunk-self chunk_cmp chunk_cmp_total _ c.args.c c.binary_search_by.result
+    (searched_by (λ (q : ChunkPos). q) chunk_cmp chunk_cmp_total chunk_cmp_tells _ c.args.c c.binary_search_by.result c.args.self.now.order c.binary_search_by.ensures.bound
+    (c.binary_search_by.ensures.position (λ q. chunk_cmp q c.args.c) (always_returns_same _ _ _ (λ a r f k. search rules))))

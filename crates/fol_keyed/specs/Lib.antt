@@ -1,0 +1,7 @@
+pub mod Options
+pub mod Parted
+pub mod Order
+pub mod Members
+pub mod Areas
+pub mod Apart
+pub mod Total
