@@ -1,38 +1,27 @@
--- How many chunks there are.
-use Rattle.std.proofs.Common.{◌≡◌, ℕ, zero, suc, ◌*◌, ◌<◌, ◌^◌, refl, ◌∙◌, ap, arith, List, [], ◌∷◌, length, length-append}
-use Rattle.std.specs.Prelude.{ℤ, pos, ◌+ℤ◌, neg_ℤ, map, flat_map}
+-- How many loaded chunks a section has at most.
+use Rattle.std.proofs.Common.{ℕ, ◌≤◌, ◌^◌, arith, List}
+use Rattle.std.specs.Prelude.{ℤ, pos, ◌*ℤ◌}
 use Rattle.std.proofs.lemmas.List.Sums.{count_by-le-length}
-use Rattle.std.proofs.lemmas.List.{length-map}
-use Rattle.std.proofs.lemmas.List.Concat.{flat_map-cons}
 use Rattle.fol_model.specs.declared.places.ChunkPos.{ChunkPos}
 use Rattle.fol_model.specs.declared.places.SectionPos.{SectionPos}
 use Rattle.fol_model.specs.declared.grids.Grid.{Grid}
-use Rattle.fol_model.specs.Universe.{from, coordinates, all_chunks}
-use Rattle.fol_sections.specs.Places.{chunks_at}
-use Rattle.fol_sections.specs.Kept.{IsKept, is_loaded_in}
+use Rattle.fol_sections.specs.Kept.{IsKept, is_held}
+use Rattle.fol_sections.specs.Pages.{chunks_at}
+use Rattle.fol_sections.specs.Rows.{chunk_at, rows_of}
+use Rattle.fol_sections.specs.declared.pages.Page.{Page}
+use Rattle.fol_sections.proofs.Lengths.{length-rows}
+use Rattle.fol_sections.proofs.Quotients.{area_few, side_some}
+use Rattle.fol_sections.proofs.SectionChunks.{section_chunks}
 
-length-from : (z : ℤ) (n : ℕ) → length (from z n) ≡ n
-unfolding from
-length-from z zero = refl
-length-from z (suc n) = ap suc (length-from (z +ℤ pos 1) n)
-
-length-plane : (xs ys : List ℤ) → length xs ≡ 2000001 → length (flat_map (λ z. map (λ x. let c : ChunkPos = record { x = x; z = z } in c) xs) ys) ≡ length ys * 2000001
-length-plane xs [] h = refl
-length-plane xs (y ∷ ys) h =
-    ap length (flat_map-cons {A = ChunkPos} (λ z. map (λ x. record { x = x; z = z }) xs) y ys)
-    ∙ omega (
+pub chunks_few : (grid : Grid) (holds : List ((ℤ × ℤ) × ℕ)) (pages : List ((ℤ × ℤ) × Page)) (count : ℕ) (s : SectionPos) → IsKept grid holds pages count → chunks_at pages s ≤ 1024
+chunks_few grid holds pages count s kept =
+    let all = section_chunks grid s (side_some grid.shift) (is_held holds) kept.chunk_limits in
+    let rows : List ChunkPos = rows_of chunk_at (s.x *ℤ pos (2 ^ grid.shift)) (s.z *ℤ pos (2 ^ grid.shift)) (2 ^ grid.shift) (2 ^ grid.shift) in
+    omega (
       arith,
-      length-append (map (λ x. let c : ChunkPos = record { x = x; z = y } in c) xs) (flat_map (λ z. map (λ x. let c : ChunkPos = record { x = x; z = z } in c) xs) ys),
-      length-map xs (λ x. let c : ChunkPos = record { x = x; z = y } in c),
-      length-plane xs ys h,
-      h,
+      kept.chunks s,
+      all.1,
+      count_by-le-length (is_held holds) rows,
+      length-rows chunk_at (s.x *ℤ pos (2 ^ grid.shift)) (s.z *ℤ pos (2 ^ grid.shift)) (2 ^ grid.shift) (2 ^ grid.shift),
+      area_few grid.shift kept.numbers.shift,
     )
-
-chunks_in_all : length all_chunks ≡ 4000004000001
-unfolding all_chunks coordinates
-chunks_in_all =
-    let n = length-from (neg_ℤ (pos 1000000)) 2000001 in
-    length-plane (from (neg_ℤ (pos 1000000)) 2000001) (from (neg_ℤ (pos 1000000)) 2000001) n ∙ ap (λ k. k * 2000001) n
-
-pub chunks_few : (grid : Grid) (holds cells : List ((ℤ × ℤ) × ℕ)) (s : SectionPos) → IsKept grid holds cells → chunks_at cells s < 2 ^ 63
-chunks_few grid holds cells s kept = omega (arith, kept.chunks s, count_by-le-length (is_loaded_in grid holds s) all_chunks, chunks_in_all)

@@ -1,5 +1,5 @@
 pub mod Results
-pub mod RowsOf
+pub mod Lengths
 pub mod Views
 pub mod Margins
 pub mod KeptSteps
@@ -8,3 +8,11 @@ pub mod NumberSteps
 pub mod Bounds
 pub mod AddTable
 pub mod DeadSteps
+pub mod Rows
+pub mod Quotients
+pub mod SectionChunks
+pub mod PageSteps
+pub mod SquareRows
+pub mod TurnSteps
+pub mod NinePages
+pub mod UsedPages

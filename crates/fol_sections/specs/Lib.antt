@@ -1,4 +1,6 @@
 pub mod Table
 pub mod Places
-pub mod Squares
 pub mod Kept
+pub mod Rows
+pub mod Pages
+pub mod Turns

@@ -1,10 +1,9 @@
 -- Numbers by place.
-use Rattle.std.specs.Prelude.{ℕ, ℤ, Bool, ◌&&◌, Option, List, is_some}
+use Rattle.std.specs.Prelude.{ℕ, ℤ, Bool, ◌&&◌, Option, List}
 use Rattle.std.specs.Map.{lookup}
 use Rattle.std.specs.Option.{unwrap_or}
 use Rattle.std.specs.Ordering.{int_eq}
 use Rattle.fol_model.specs.declared.places.ChunkPos.{ChunkPos}
-use Rattle.fol_model.specs.declared.places.SectionPos.{SectionPos}
 
 -- the two places are one
 unfoldable pub is_same : ℤ → ℤ → ℤ → ℤ → Bool
@@ -17,11 +16,3 @@ number_at entries x z = lookup (λ key. int_eq x key.0 && int_eq z key.1) entrie
 -- the number at a chunk, or 0
 unfoldable pub count_at : List ((ℤ × ℤ) × ℕ) → ChunkPos → ℕ
 count_at entries c = unwrap_or (number_at entries c.x c.z) 0
-
--- the section has a number
-unfoldable pub is_here : List ((ℤ × ℤ) × ℕ) → SectionPos → Bool
-is_here entries s = is_some (number_at entries s.x s.z)
-
--- the number at a section, or 0
-unfoldable pub chunks_at : List ((ℤ × ℤ) × ℕ) → SectionPos → ℕ
-chunks_at entries s = unwrap_or (number_at entries s.x s.z) 0

@@ -1,12 +1,12 @@
 -- What contracts see of a table of sections: which chunks are held, which sections are present, and what follows from the two.
 use Rattle.std.specs.Prelude.{◌≡◌, ℕ, ◌+◌, Bool, false, not, ◌&&◌, ◌||◌, nat_eq, nat_lt, if◌then◌else◌, List, [], ◌∷◌, filter}
-use Rattle.std.specs.List.{list_any}
+use Rattle.std.specs.List.{count_by, list_any}
 use Rattle.fol_model.specs.declared.places.ChunkPos.{ChunkPos}
 use Rattle.fol_model.specs.declared.places.SectionPos.{SectionPos}
 use Rattle.fol_model.specs.declared.grids.Grid.{Grid}
 use Rattle.fol_model.specs.Geometry.{is_within, section_of, same_chunk, same_section}
 use Rattle.fol_model.specs.GridState.{at_chunk}
-use Rattle.fol_model.specs.Universe.{some_chunk, count_sections, all_sections}
+use Rattle.fol_model.specs.Universe.{all_chunks, some_chunk, count_sections, all_sections}
 use Rattle.fol_sections.specs.declared.answers.Added.{Added}
 use Rattle.fol_sections.specs.declared.answers.Added.TheVariants.{Counted, Filled, Full}
 use Rattle.fol_sections.specs.declared.answers.Removed.{Removed}
@@ -56,6 +56,14 @@ neighbours_of t s = count_sections (λ q. is_filled_in t.grid (holds_of t) q && 
 -- the section is within the create radius of one that holds a loaded chunk
 unfoldable pub in_margin_of : Table → SectionPos → Bool
 in_margin_of t s = some_chunk (λ c. nat_lt 0 (holds_of t c) && is_within (section_of t.grid c) t.grid.create s)
+
+-- the chunk has a hold and lies in the section
+unfoldable pub is_loaded_chunk_of : Table → SectionPos → ChunkPos → Bool
+is_loaded_chunk_of t s c = nat_lt 0 (holds_of t c) && same_section (section_of t.grid c) s
+
+-- how many loaded chunks lie in the section
+unfoldable pub loaded_count : Table → SectionPos → ℕ
+loaded_count t s = count_by (is_loaded_chunk_of t s) all_chunks
 
 -- a missing section that the chunk needs
 unfoldable pub is_missing : Table → ChunkPos → SectionPos → Bool

@@ -3,17 +3,25 @@
 //! A [`Sections`] stands for a grid and two functions: how many holds each chunk has, and which sections are present. A hold
 //! more of a chunk makes the sections within the create radius of the chunk's own present, unless more than 16,384 would be
 //! present; a hold less changes no section; and `drop_dead` takes out those sections of a list that are not within the create
-//! radius of any section with a held chunk. Each call costs the area of the create radius, whatever else is in the table.
+//! radius of any section with a held chunk. A call costs at most the area of the create radius, whatever else is in the table.
+//!
+//! The present sections stand in pages of 8 by 8, and a page is there only where one of its sections is. A section has its number
+//! of loaded chunks and the number of sections near it that hold one; the latter is kept at a section's first and last loaded
+//! chunk, so that whether a section is dead is one look.
 //!
 //! The region table stands above it: it says which region owns each present section.
 #![tactic(auto)]
 
 mod answers;
+mod chunks;
+mod pages;
 mod places;
 mod sections;
 mod squares;
 #[cfg(test)]
 mod tests;
+mod turns;
 
 pub use answers::{Added, Removed};
-pub use sections::Sections;
+pub use places::Numbers;
+pub use sections::{Sections, count_hold, drop_hold};

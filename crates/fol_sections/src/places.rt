@@ -1,4 +1,4 @@
-//! Numbers by place: for each chunk its holds, and for each present section its loaded chunks.
+//! Numbers by place: how many holds each chunk has.
 
 ghost use Rattle.std.specs.Prelude.{◌≡◌, ℤ, ◌+◌, ◌<◌, ◌≤◌, ◌&&◌, cond, Some, None, is_some, IsTrue, if◌then◌else◌};
 ghost use Rattle.std.specs.Ordering.{int_eq};

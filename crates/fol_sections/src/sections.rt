@@ -1,18 +1,23 @@
 //! A table of holds and present sections.
 
-ghost use Rattle.std.specs.Prelude.{◌≡◌, ℤ, ◌+◌, ◌-◌, ◌*◌, ◌<◌, ◌≤◌, ◌^◌, not, ◌&&◌, ◌||◌, false, IsTrue, IfOk, OnOk, [], ◌++◌, length, nat_eq, nat_lt, cond, Some, None, if◌then◌else◌};
+ghost use Rattle.std.specs.Prelude.{◌≡◌, ℤ, ◌+◌, ◌-◌, ◌*◌, ◌<◌, ◌≤◌, ◌^◌, not, ◌&&◌, ◌||◌, false, None, IsTrue, IfOk, OnOk, [], ◌++◌, length, nat_eq, nat_lt, cond, Some, nat_abs, if◌then◌else◌};
 ghost use Rattle.std.specs.List.{All, IsDistinct, filter};
 ghost use Rattle.std.specs.Vec.{vec_capacity};
-ghost use Rattle.std.specs.HashMap.{hash_map_len, spare as room_of};
+ghost use Rattle.std.specs.HashMap.{spare as room_of};
 ghost use Rattle.fol_model.specs.declared.places.ChunkPos.{ChunkPos};
 ghost use Rattle.fol_model.specs.declared.places.SectionPos.{SectionPos};
-ghost use Rattle.fol_sections.specs.Places.{number_at, count_at, chunks_at, is_here, is_same};
+ghost use Rattle.fol_sections.specs.Places.{count_at};
+ghost use Rattle.fol_sections.specs.Pages.{AllUsed, InNine, chunks_at, counts_at, is_here, near_at, no_counts};
 ghost use Rattle.fol_sections.specs.Table.{is_among};
-ghost use Rattle.fol_model.specs.Geometry.{is_chunk, same_section};
+ghost use Rattle.fol_sections.specs.Turns.{fall, rise};
+ghost use Rattle.fol_model.specs.Geometry.{is_chunk, is_within, same_section};
 ghost use Rattle.fol_model.specs.GridState.{at_chunk};
 
-use crate::places::{Numbers, change, number, put, take_out};
-use crate::squares::{chunks, count_loaded, find_missing, is_present};
+use crate::chunks::list_section;
+use crate::pages::{self, Counts, Pages, is_present, loaded, near};
+use crate::places::{self, Numbers, number};
+use crate::squares::find_missing;
+use crate::turns::{Turn, turn_square, turned};
 use crate::{Added, Removed};
 use fol_model::{ChunkPos, Grid, SectionPos, section_of};
 use std::alloc::{AllocError, Global};
@@ -25,6 +30,9 @@ const MOST: usize = 16_384;
 /// The most sections within a create radius of a section, which is at most 8.
 const AREA: usize = 289;
 
+/// The most pages that sections within a create radius of a section are in.
+const NEAR_PAGES: usize = 9;
+
 /// Which chunks are held, how often, and which sections are present.
 ///
 /// Contracts see a `Table`: its words `holds_of` and `presence_of` are the two functions that the table stands for.
@@ -33,8 +41,10 @@ pub struct Sections {
     grid: Grid,
     /// The holds of each chunk that has one.
     holds: Numbers,
-    /// The number of loaded chunks in each present section.
-    cells: Numbers,
+    /// The present sections, with the numbers that are kept of them.
+    pages: Pages,
+    /// How many sections are present.
+    count: u32,
     /// What the last `add` made.
     filled: Vec<SectionPos>,
     /// How many calls of `add` there is memory for.
@@ -50,13 +60,14 @@ impl Model for Sections {
     ghost use Rattle.std.specs.Vec.{vec_capacity};
     ghost use Rattle.fol_sections.specs.Kept.{held_in, present_in, IsKept, HasRoom};
 
-    ghost view = { λ s. record { grid = s.grid; held = held_in s.holds.entries; present = present_in s.cells.entries; filled = s.filled.items; spare = s.spare } };
+    ghost view = { λ s. record { grid = s.grid; held = held_in s.holds.entries; present = present_in s.pages.entries; filled = s.filled.items; spare = s.spare } };
 
-    ghost invariant = { λ s. IsKept s.grid s.holds.entries s.cells.entries × HasRoom s.spare (room_of s.holds) (room_of s.cells) (vec_capacity s.filled) };
+    ghost invariant = { λ s. IsKept s.grid s.holds.entries s.pages.entries s.count × HasRoom s.spare (room_of s.holds) (room_of s.pages) (vec_capacity s.filled) };
 }
 
 impl Sections {
-    ghost use Rattle.fol_sections.specs.Table.{Table, holds_of, presence_of, neighbours_of, in_margin_of, present_count, is_full_for, added, removed, Adds, IsSame, IsEmpty, is_missing};
+    ghost use Rattle.fol_model.specs.Universe.{all_chunks};
+    ghost use Rattle.fol_sections.specs.Table.{Table, holds_of, presence_of, neighbours_of, in_margin_of, present_count, is_full_for, is_loaded_chunk_of, loaded_count, added, removed, Adds, IsSame, IsEmpty, is_missing};
 
     /// Nothing is held and no section is present. Takes the memory for 16,384 present sections.
     pub fn new(alloc: Global, grid: Grid) -> Result<Sections, AllocError>
@@ -67,7 +78,8 @@ impl Sections {
         Ok(Sections {
             grid,
             holds: HashMap::new(alloc),
-            cells: HashMap::with_capacity(alloc, MOST + AREA)?,
+            pages: HashMap::with_capacity(alloc, MOST + NEAR_PAGES)?,
+            count: 0,
             filled: Vec::with_capacity(alloc, AREA)?,
             spare: 0,
         })
@@ -98,14 +110,14 @@ impl Sections {
     pub fn is_present(&self, s: SectionPos) -> bool
         ensures { result ≡ presence_of self.now s }
     {
-        is_present(&self.cells, s)
+        is_present(&self.pages, s)
     }
 
     /// How many sections are present.
     pub fn count(&self) -> u32
         ensures { result ≡ present_count self.now }
     {
-        self.cells.len() as u32
+        self.count
     }
 
     /// How many sections that hold a loaded chunk are within the create radius of a present section.
@@ -113,7 +125,7 @@ impl Sections {
         requires { IsTrue (presence_of self.now s) }
         ensures { result ≡ neighbours_of self.now s }
     {
-        count_loaded(&self.cells, s, create_radius(&self.grid))
+        near(&self.pages, s)
     }
 
     /// Whether a present section is within the create radius of no section that holds a loaded chunk.
@@ -121,8 +133,25 @@ impl Sections {
         requires { IsTrue (presence_of self.now s) }
         ensures { result ≡ not (in_margin_of self.now s) }
     {
-        let _grid = &self.grid;
-        self.neighbours(s) == 0
+        near(&self.pages, s) == 0
+    }
+
+    /// How many loaded chunks a section has; 0 for one that is not present.
+    pub fn loaded_in(&self, s: SectionPos) -> u64
+        ensures { result ≡ loaded_count self.now s }
+    {
+        loaded(&self.pages, s)
+    }
+
+    /// Adds the loaded chunks of a section to a list, by `(z, x)`. The list has room for them, and no memory is taken.
+    pub fn chunks_in(&self, s: SectionPos, out: &mut Vec<ChunkPos>)
+        requires room { length out.old.items + loaded_count self.now s ≤ vec_capacity out.old }
+        ensures chunks { out.new.items ≡ out.old.items ++ filter (is_loaded_chunk_of self.now s) all_chunks }
+        ensures room { vec_capacity out.old ≤ vec_capacity out.new }
+    {
+        if loaded(&self.pages, s) > 0 {
+            list_section(&self.holds, out, &self.grid, s);
+        }
     }
 
     /// Makes `spare` at least `n`. Takes memory; what the table stands for stays either way.
@@ -134,7 +163,7 @@ impl Sections {
     {
         if n > self.spare {
             self.holds.reserve(n as usize)?;
-            self.cells.reserve(n as usize * AREA)?;
+            self.pages.reserve(n as usize * NEAR_PAGES)?;
             self.spare = n;
         }
         Ok(())
@@ -154,23 +183,24 @@ impl Sections {
         ensures grid { self.new.grid ≡ self.old.grid }
     {
         let home = section_of(&self.grid, c);
+        let radius = create_radius(&self.grid);
         self.filled.clear();
-        find_missing(
-            &self.cells,
-            &mut self.filled,
-            home,
-            create_radius(&self.grid),
-        );
-        let present = self.cells.len();
-        let wanted = self.filled.len();
-        if present + wanted > MOST {
+        find_missing(&self.pages, &mut self.filled, home, radius);
+        let present = self.count;
+        let wanted = self.filled.len() as u32;
+        if present + wanted > MOST as u32 {
             self.filled.clear();
-            return Added::Full {
-                present: present as u32,
-                wanted: wanted as u32,
-            };
+            return Added::Full { present, wanted };
         }
-        take_hold(&mut self.holds, &mut self.cells, &self.filled, home, c);
+        take_hold(
+            &mut self.holds,
+            &mut self.pages,
+            &self.filled,
+            home,
+            radius,
+            c,
+        );
+        self.count += wanted;
         self.spare -= 1;
         if wanted == 0 {
             Added::Counted
@@ -188,7 +218,8 @@ impl Sections {
     {
         let count = drop_hold(&mut self.holds, c);
         if count == 1 {
-            drop_chunk(&mut self.cells, section_of(&self.grid, c));
+            let home = section_of(&self.grid, c);
+            drop_chunk(&mut self.pages, home, create_radius(&self.grid));
         }
         answer_for(count)
     }
@@ -205,13 +236,13 @@ impl Sections {
         ensures holds { holds_of self.new ≡ holds_of self.old }
         ensures stays { (self.new.grid ≡ self.old.grid) × (self.new.filled ≡ self.old.filled) × (self.new.spare ≡ self.old.spare) }
     {
-        let radius = create_radius(&self.grid);
         for s in list.as_slice() {
-            if count_loaded(&self.cells, *s, radius) == 0 {
-                take_section(&mut self.cells, *s);
+            if near(&self.pages, *s) == 0 {
+                pages::take_out(&mut self.pages, *s);
+                self.count -= 1;
             }
         }
-        keep_present(list, &self.cells);
+        keep_present(list, &self.pages);
     }
 
     /// The same table, with at least the same spare. Takes memory.
@@ -222,35 +253,27 @@ impl Sections {
     {
         let mut holds = self.holds.clone()?;
         holds.reserve(self.spare as usize)?;
-        let mut cells = self.cells.clone()?;
-        cells.reserve(self.spare as usize * AREA)?;
+        let mut pages = self.pages.clone()?;
+        pages.reserve(self.spare as usize * NEAR_PAGES)?;
         let mut filled = Vec::with_capacity(alloc, AREA)?;
         filled.extend_from_slice(&self.filled)?;
         Ok(Sections {
             grid: self.grid,
             holds,
-            cells,
+            pages,
+            count: self.count,
             filled,
             spare: self.spare,
         })
     }
 }
 
-/// Takes a section out of the table.
-fn take_section(cells: &mut Numbers, s: SectionPos)
-    ensures out { (a b : ℤ) → number_at cells.new.entries a b ≡ cond (is_same s.x s.z a b) None (number_at cells.old.entries a b) }
-    ensures len { hash_map_len cells.new + cond (is_here cells.old.entries s) 1 0 ≡ hash_map_len cells.old }
-    ensures room { room_of cells.old ≤ room_of cells.new }
-{
-    take_out(cells, s.x, s.z);
-}
-
 /// Keeps those sections of a list that are present.
-fn keep_present(list: &mut Vec<SectionPos>, cells: &Numbers)
-    ensures list { list.new.items ≡ filter (is_here cells.now.entries) list.old.items }
+fn keep_present(list: &mut Vec<SectionPos>, pages: &Pages)
+    ensures list { list.new.items ≡ filter (is_here pages.now.entries) list.old.items }
     ensures room { vec_capacity list.new ≡ vec_capacity list.old }
 {
-    list.retain(|s| is_present(cells, *s));
+    list.retain(|s| is_present(pages, *s));
 }
 
 /// The answer to a hold less of a chunk that had so many.
@@ -266,29 +289,34 @@ fn answer_for(count: u64) -> Removed
     }
 }
 
-/// Counts a hold more of a chunk of the section `home`, and makes the missing sections present.
+/// Makes the missing sections present that a chunk of the section `home` needs, and counts a hold more of the chunk.
 fn take_hold(
     holds: &mut Numbers,
-    cells: &mut Numbers,
+    pages: &mut Pages,
     missing: &[SectionPos],
     home: SectionPos,
+    radius: u8,
     c: ChunkPos,
 )
     requires hold { (1 ≤ room_of holds.old) × (count_at holds.old.entries c < 2 ^ 62) }
-    requires room { length missing.now ≤ room_of cells.old }
-    requires absent { (s : SectionPos) → IsTrue (is_among missing.now s) → number_at cells.old.entries s.x s.z ≡ None }
-    requires distinct { IsDistinct same_section missing.now }
-    requires home { IsTrue (is_here cells.old.entries home || is_among missing.now home) }
-    requires few { chunks_at cells.old.entries home < 2 ^ 63 }
+    requires room { 9 ≤ room_of pages.old }
+    requires nine { InNine missing.now }
+    requires near { (nat_abs home.x ≤ 1000008) × (nat_abs home.z ≤ 1000008) }
+    requires few { radius ≤ 8 }
+    requires absent { (s : SectionPos) → IsTrue (is_among missing.now s) → counts_at pages.old.entries s ≡ None }
+    requires around { (s : SectionPos) → IsTrue (is_within home radius s) → IsTrue (is_here pages.old.entries s || is_among missing.now s) }
+    requires chunks_high { chunks_at pages.old.entries home ≤ 1024 }
+    requires near_high { (s : SectionPos) → near_at pages.old.entries s ≤ 289 }
     ensures counts { (q : ChunkPos) → count_at holds.new.entries q ≡ at_chunk (count_at holds.old.entries) c (count_at holds.old.entries c + 1) q }
-    ensures here { (s : SectionPos) → is_here cells.new.entries s ≡ (is_here cells.old.entries s || is_among missing.now s) }
-    ensures chunks { (s : SectionPos) → chunks_at cells.new.entries s ≡ cond (same_section home s && not (nat_lt 0 (count_at holds.old.entries c))) 1 0 + chunks_at cells.old.entries s }
-    ensures len { hash_map_len cells.new ≡ hash_map_len cells.old + length missing.now }
-    ensures rooms { (room_of holds.old ≤ room_of holds.new + 1) × (room_of cells.old ≤ room_of cells.new + length missing.now) }
+    ensures here { (s : SectionPos) → is_here pages.new.entries s ≡ (is_here pages.old.entries s || is_among missing.now s) }
+    ensures chunks { (s : SectionPos) → chunks_at pages.new.entries s ≡ cond (same_section home s && not (nat_lt 0 (count_at holds.old.entries c))) 1 0 + chunks_at pages.old.entries s }
+    ensures near { (s : SectionPos) → near_at pages.new.entries s ≡ near_at pages.old.entries s + cond (not (nat_lt 0 (count_at holds.old.entries c)) && (nat_eq (chunks_at pages.old.entries home) 0 && is_within home radius s)) 1 0 }
+    ensures rooms { (room_of holds.old ≤ room_of holds.new + 1) × (room_of pages.old ≤ room_of pages.new + 9) }
+    ensures used { AllUsed pages.old.entries → AllUsed pages.new.entries }
 {
-    fill(cells, missing);
+    fill(pages, missing);
     if count_hold(holds, c) == 0 {
-        add_chunk(cells, home);
+        add_chunk(pages, home, radius);
     }
 }
 
@@ -299,22 +327,22 @@ fn create_radius(grid: &Grid) -> u8
     grid.create
 }
 
-/// Makes missing sections present, with no loaded chunk.
-fn fill(cells: &mut Numbers, missing: &[SectionPos])
-    requires room { length missing.now ≤ room_of cells.old }
-    requires absent { (s : SectionPos) → IsTrue (is_among missing.now s) → number_at cells.old.entries s.x s.z ≡ None }
-    requires distinct { IsDistinct same_section missing.now }
-    ensures filled { (s : SectionPos) → number_at cells.new.entries s.x s.z ≡ cond (is_among missing.now s) (Some 0) (number_at cells.old.entries s.x s.z) }
-    ensures len { hash_map_len cells.new ≡ hash_map_len cells.old + length missing.now }
-    ensures room { room_of cells.old ≤ room_of cells.new + length missing.now }
+/// Makes missing sections present, with no loaded chunk near them.
+fn fill(pages: &mut Pages, missing: &[SectionPos])
+    requires room { 9 ≤ room_of pages.old }
+    requires near { InNine missing.now }
+    ensures filled { (s : SectionPos) → counts_at pages.new.entries s ≡ cond (is_among missing.now s) (Some no_counts) (counts_at pages.old.entries s) }
+    ensures room { room_of pages.old ≤ room_of pages.new + 9 }
+    ensures used { AllUsed pages.old.entries → AllUsed pages.new.entries }
 {
     for s in missing {
-        put(cells, s.x, s.z, 0);
+        let none = Counts { loaded: 0, near: 0 };
+        pages::put(pages, *s, none);
     }
 }
 
-/// Counts a hold more of a chunk, and gives the count before.
-fn count_hold(holds: &mut Numbers, c: ChunkPos) -> u64
+/// Counts a hold more of a chunk in a table of such counts, and gives the count before. Takes no memory.
+pub fn count_hold(holds: &mut Numbers, c: ChunkPos) -> u64
     requires room { 1 ≤ room_of holds.old }
     requires few { count_at holds.old.entries c < 2 ^ 62 }
     ensures before { result ≡ count_at holds.old.entries c }
@@ -322,46 +350,82 @@ fn count_hold(holds: &mut Numbers, c: ChunkPos) -> u64
     ensures room { room_of holds.old ≤ room_of holds.new + 1 }
 {
     let count = number(holds, c.x, c.z).unwrap_or(0);
-    put(holds, c.x, c.z, count + 1);
+    places::put(holds, c.x, c.z, count + 1);
     count
 }
 
-/// Counts a hold less of a chunk, and gives the count before.
-fn drop_hold(holds: &mut Numbers, c: ChunkPos) -> u64
+/// Counts a hold less of a chunk in a table of such counts, and gives the count before; a count of 0 stays. Takes no memory.
+pub fn drop_hold(holds: &mut Numbers, c: ChunkPos) -> u64
     ensures before { result ≡ count_at holds.old.entries c }
     ensures counts { (q : ChunkPos) → count_at holds.new.entries q ≡ at_chunk (count_at holds.old.entries) c (count_at holds.old.entries c - 1) q }
     ensures room { room_of holds.old ≤ room_of holds.new }
 {
     let count = number(holds, c.x, c.z).unwrap_or(0);
     if count > 1 {
-        change(holds, c.x, c.z, count - 1);
+        places::change(holds, c.x, c.z, count - 1);
     } else {
-        take_out(holds, c.x, c.z);
+        places::take_out(holds, c.x, c.z);
     }
     count
 }
 
-/// Counts a loaded chunk more of a present section.
-fn add_chunk(cells: &mut Numbers, home: SectionPos)
-    requires here { IsTrue (is_here cells.old.entries home) }
-    requires few { chunks_at cells.old.entries home < 2 ^ 63 }
-    ensures here { (s : SectionPos) → is_here cells.new.entries s ≡ is_here cells.old.entries s }
-    ensures chunks { (s : SectionPos) → chunks_at cells.new.entries s ≡ cond (same_section home s) 1 0 + chunks_at cells.old.entries s }
-    ensures len { hash_map_len cells.new ≡ hash_map_len cells.old }
-    ensures room { room_of cells.new ≡ room_of cells.old }
+/// Changes the number of loaded chunks of a present section by one, and gives the number after.
+fn count_chunk(pages: &mut Pages, home: SectionPos, turn: Turn) -> u16
+    requires here { IsTrue (is_here pages.old.entries home) }
+    requires low { fall turn 1 ≤ chunks_at pages.old.entries home }
+    requires high { chunks_at pages.old.entries home ≤ 1024 }
+    ensures after { result ≡ chunks_at pages.new.entries home }
+    ensures chunks { (s : SectionPos) → chunks_at pages.new.entries s + fall turn (cond (same_section home s) 1 0) ≡ chunks_at pages.old.entries s + rise turn (cond (same_section home s) 1 0) }
+    ensures here { (s : SectionPos) → is_here pages.new.entries s ≡ is_here pages.old.entries s }
+    ensures near { (s : SectionPos) → near_at pages.new.entries s ≡ near_at pages.old.entries s }
+    ensures room { room_of pages.new ≡ room_of pages.old }
+    ensures used { AllUsed pages.old.entries → AllUsed pages.new.entries }
 {
-    let count = chunks(cells, home);
-    change(cells, home.x, home.z, count + 1);
+    match pages::find(pages, home) {
+        Some(counts) => {
+            let loaded = turned(counts.loaded, turn);
+            let near = counts.near;
+            pages::change(pages, home, Counts { loaded, near });
+            loaded
+        }
+        None => 0,
+    }
 }
 
-/// Counts a loaded chunk less of a section that has one.
-fn drop_chunk(cells: &mut Numbers, home: SectionPos)
-    requires { 0 < chunks_at cells.old.entries home }
-    ensures here { (s : SectionPos) → is_here cells.new.entries s ≡ is_here cells.old.entries s }
-    ensures chunks { (s : SectionPos) → chunks_at cells.old.entries s ≡ cond (same_section home s) 1 0 + chunks_at cells.new.entries s }
-    ensures len { hash_map_len cells.new ≡ hash_map_len cells.old }
-    ensures room { room_of cells.new ≡ room_of cells.old }
+/// Counts a loaded chunk more of a section round which all are present.
+fn add_chunk(pages: &mut Pages, home: SectionPos, radius: u8)
+    requires near { (nat_abs home.x ≤ 1000008) × (nat_abs home.z ≤ 1000008) }
+    requires few { radius ≤ 8 }
+    requires here { (s : SectionPos) → IsTrue (is_within home radius s) → IsTrue (is_here pages.old.entries s) }
+    requires chunks_high { chunks_at pages.old.entries home ≤ 1024 }
+    requires near_high { (s : SectionPos) → near_at pages.old.entries s ≤ 289 }
+    ensures chunks { (s : SectionPos) → chunks_at pages.new.entries s ≡ cond (same_section home s) 1 0 + chunks_at pages.old.entries s }
+    ensures near { (s : SectionPos) → near_at pages.new.entries s ≡ near_at pages.old.entries s + cond (nat_eq (chunks_at pages.old.entries home) 0 && is_within home radius s) 1 0 }
+    ensures here { (s : SectionPos) → is_here pages.new.entries s ≡ is_here pages.old.entries s }
+    ensures room { room_of pages.new ≡ room_of pages.old }
+    ensures used { AllUsed pages.old.entries → AllUsed pages.new.entries }
 {
-    let count = chunks(cells, home);
-    change(cells, home.x, home.z, count - 1);
+    if count_chunk(pages, home, Turn::Filled) == 1 {
+        turn_square(pages, home, radius, Turn::Filled);
+    }
+}
+
+/// Counts a loaded chunk less of a section that has one, and round which all are present.
+fn drop_chunk(pages: &mut Pages, home: SectionPos, radius: u8)
+    requires near { (nat_abs home.x ≤ 1000008) × (nat_abs home.z ≤ 1000008) }
+    requires few { radius ≤ 8 }
+    requires here { (s : SectionPos) → IsTrue (is_within home radius s) → IsTrue (is_here pages.old.entries s) }
+    requires some { 0 < chunks_at pages.old.entries home }
+    requires chunks_high { chunks_at pages.old.entries home ≤ 1024 }
+    requires near_low { (s : SectionPos) → cond (is_within home radius s) 1 0 ≤ near_at pages.old.entries s }
+    requires near_high { (s : SectionPos) → near_at pages.old.entries s ≤ 289 }
+    ensures chunks { (s : SectionPos) → chunks_at pages.old.entries s ≡ cond (same_section home s) 1 0 + chunks_at pages.new.entries s }
+    ensures near { (s : SectionPos) → near_at pages.old.entries s ≡ near_at pages.new.entries s + cond (nat_eq (chunks_at pages.old.entries home) 1 && is_within home radius s) 1 0 }
+    ensures here { (s : SectionPos) → is_here pages.new.entries s ≡ is_here pages.old.entries s }
+    ensures room { room_of pages.new ≡ room_of pages.old }
+    ensures used { AllUsed pages.old.entries → AllUsed pages.new.entries }
+{
+    if count_chunk(pages, home, Turn::Emptied) == 0 {
+        turn_square(pages, home, radius, Turn::Emptied);
+    }
 }

@@ -1,26 +1,22 @@
-use Rattle.std.proofs.Common.{◌-◌, ap, rules}
-use Rattle.std.proofs.lemmas.Int.{to_z-of_z}
-use mir.Val.{SFits}
-use mir.Syntax.{w32}
-use Rattle.fol_sections.specs.Places.{is_here}
-use Rattle.fol_sections.proofs.NumberSteps.{here-put, chunks-less, chunks_here}
+use Rattle.std.proofs.Common.{◌≡◌, ◌+◌, sym, ◌∙◌, ap, arith, true, false, cond}
+use Rattle.std.specs.Prelude.{nat_eq}
+use Rattle.std.proofs.lemmas.Bool.{eq-eqb, ne_eqb, le-leb}
+use Rattle.fol_laws.proofs.Distances.{self_distance}
+use Rattle.fol_laws.proofs.SamePlaces.{same_section-self}
+use Rattle.fol_sections.specs.Pages.{chunks_at}
 use Rattle.fol_sections.proofs.sections.drop_chunk.Goals as goal
 
-pub change-requires : goal.change-requires
-unfolding is_here
-change-requires c =
-    let fx : SFits w32 c.args.home.x = search rules in
-    let fz : SFits w32 c.args.home.z = search rules in
-    record { there = simp to_z-of_z (chunks_here c.args.cells.now.entries c.args.home c.requires) }
+pub count_chunk-requires-clause-here : goal.count_chunk-requires-clause-here
+count_chunk-requires-clause-here c = c.requires.here c.args.home (le-leb _ _ (omega (arith, self_distance c.args.home)))
 
-pub returns-clause-here : goal.returns-clause-here
-returns-clause-here c =
-    let fx : SFits w32 c.args.home.x = search rules in
-    let fz : SFits w32 c.args.home.z = search rules in
-    here-put _ _ c.args.home _ (chunks_here c.args.cells.now.entries c.args.home c.requires) (simp to_z-of_z at c.change.ensures.put)
+pub returns-then-count_chunk-eq0-clause-near : goal.returns-then-count_chunk-eq0-clause-near
+returns-then-count_chunk-eq0-clause-near c = λ s.
+    let home = ap (λ b. chunks_at c.count_chunk.new.pages.entries c.args.home + cond b 1 0) (sym (same_section-self c.args.home)) ∙ c.count_chunk.ensures.chunks c.args.home in
+    let last : nat_eq (chunks_at c.args.pages.now.entries c.args.home) 1 ≡ true = eq-eqb _ _ (omega (arith, home, c.count_chunk.ensures.after, c.if-count_chunk-eq0.true)) in
+    rw last (omega (arith, c.turn_square.ensures.near s, c.count_chunk.ensures.near s))
 
-pub returns-clause-chunks : goal.returns-clause-chunks
-returns-clause-chunks c =
-    let fx : SFits w32 c.args.home.x = search rules in
-    let fz : SFits w32 c.args.home.z = search rules in
-    chunks-less _ _ c.args.home _ (chunks_here c.args.cells.now.entries c.args.home c.requires) (simp to_z-of_z at c.change.ensures.put) c.requires (ap (λ n. n - 1) c.chunks-count.ensures)
+pub returns-else-count_chunk-eq0-clause-near : goal.returns-else-count_chunk-eq0-clause-near
+returns-else-count_chunk-eq0-clause-near c = λ s.
+    let home = ap (λ b. chunks_at c.count_chunk.new.pages.entries c.args.home + cond b 1 0) (sym (same_section-self c.args.home)) ∙ c.count_chunk.ensures.chunks c.args.home in
+    let other : nat_eq (chunks_at c.args.pages.now.entries c.args.home) 1 ≡ false = ne_eqb _ _ (λ e. c.if-count_chunk-eq0.false (omega (arith, home, c.count_chunk.ensures.after, e))) in
+    rw other (omega (arith, c.count_chunk.ensures.near s))

@@ -1,7 +1,7 @@
 use Rattle.std.proofs.Common.{rules}
 use Rattle.std.proofs.lemmas.Fn.{filter_same}
-use Rattle.fol_sections.specs.Places.{is_here}
+use Rattle.fol_sections.specs.Pages.{is_here}
 use Rattle.fol_sections.proofs.sections.keep_present.Goals as goal
 
 pub returns-clause-list : goal.returns-clause-list
-returns-clause-list c = filter_same _ (is_here c.args.cells.now.entries) _ (λ x b f' k. search rules) _ _ c.retain.ensures.filtered
+returns-clause-list c = filter_same _ (is_here c.args.pages.now.entries) _ (λ x b f' k. search rules) _ _ c.retain.ensures.filtered

@@ -9,7 +9,7 @@ invariant_of-result c =
       kept_none _ _ _ numbers c.new.ensures.empty c.in_ok-with_capacity.ensures.empty,
       record {
         holds = omega arith;
-        cells = omega arith;
+        pages = omega arith;
         filled = omega (arith, c.in_ok-with_capacity-2.ensures.exact);
         fits = omega arith;
       },

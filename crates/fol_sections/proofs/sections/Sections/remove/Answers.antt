@@ -3,13 +3,18 @@ use Rattle.std.specs.Prelude.{nat_eq, if◌then◌else◌}
 use Rattle.std.proofs.Math.Path.{fun_ext}
 use Rattle.std.proofs.lemmas.Bool.{lt-ltb, eq-eqb, ne_eqb}
 use Rattle.fol_model.specs.declared.places.ChunkPos.{ChunkPos}
-use Rattle.fol_model.specs.Geometry.{same_section, section_of}
+use Rattle.fol_model.specs.Geometry.{is_within, same_section, section_of}
 use Rattle.fol_model.specs.GridState.{at_chunk}
 use Rattle.fol_sections.specs.declared.answers.Removed.{Removed}
 use Rattle.fol_sections.specs.declared.answers.Removed.TheVariants.{Gone, Lowered, NotLoaded}
-use Rattle.fol_sections.specs.Places.{chunks_at, count_at}
+use Rattle.fol_sections.specs.Kept.{is_held}
+use Rattle.fol_sections.specs.Pages.{chunks_at, near_at}
+use Rattle.fol_sections.specs.Places.{count_at}
 use Rattle.fol_sections.specs.Table.{removed}
+use Rattle.fol_sections.proofs.AddTable.{home_near}
+use Rattle.fol_sections.proofs.Bounds.{chunks_few}
 use Rattle.fol_sections.proofs.KeptSteps.{kept_remove}
+use Rattle.fol_sections.proofs.Margins.{near_few, near_home}
 use Rattle.fol_sections.proofs.NumberSteps.{chunks_positive}
 use Rattle.fol_sections.proofs.Tables.{table-holds, table-presence}
 use Rattle.fol_sections.proofs.sections.Sections.remove.Goals as goal
@@ -23,20 +28,37 @@ nothing : (b : Bool) (n : ℕ) → n ≡ cond (b && false) 1 0 + n
 nothing true n = omega arith
 nothing false n = omega arith
 
+plain : (n : ℕ) → n ≡ n + 0
+plain n = omega arith
+
 pub drop_chunk-requires : goal.drop_chunk-requires
-drop_chunk-requires c = rw c.section_of.ensures (chunks_positive _ _ _ c.args.c c.self.invariant.0 (lt-ltb _ _ (omega (arith, c.drop_hold-count.ensures.before, c.if-count-eq1.true))))
+drop_chunk-requires c =
+    let held : is_held c.self.inside.holds.entries c.args.c ≡ true = lt-ltb _ _ (omega (arith, c.drop_hold-count.ensures.before, c.if-count-eq1.true)) in
+    let home = section_of c.self.inside.grid c.args.c in
+    let kept = c.self.invariant.0 in
+    rw (c.section_of-home.ensures, c.create_radius.ensures) (record {
+      near = home_near _ _ _ _ c.self.inside.filled.items c.self.inside.spare kept c.args.c (kept.chunk_limits c.args.c held);
+      few = kept.numbers.create_high;
+      here = λ s w. kept.margin c.args.c s held w;
+      some = chunks_positive c.self.inside.grid c.self.inside.holds.entries c.self.inside.pages.entries c.self.inside.count c.args.c kept held;
+      chunks_high = chunks_few _ _ _ _ home kept;
+      near_low = near_home c.self.inside.grid c.self.inside.holds.entries c.self.inside.pages.entries c.self.inside.count kept c.args.c held;
+      near_high = near_few _ _ _ _ kept;
+    })
 
 pub invariant_of-self : goal.invariant_of-self
 invariant_of-self c =
     let one : nat_eq (count_at c.self.inside.holds.entries c.args.c) 1 ≡ true = eq-eqb _ _ (omega (arith, c.drop_hold-count.ensures.before, c.if-count-eq1.true)) in
-    let fell = rw c.section_of.ensures at c.drop_chunk.ensures.chunks in (
-      kept_remove _ _ _ _ _ c.args.c c.self.invariant.0 c.drop_hold-count.ensures.counts c.drop_chunk.ensures.here
-          (λ s. fell s ∙ ap (λ b. cond b 1 0 + chunks_at c.drop_chunk.new.cells.entries s)
-          (sym (ap (λ b. same_section (section_of c.self.inside.grid c.args.c) s && b) one ∙ always (same_section (section_of c.self.inside.grid c.args.c) s))))
-          c.drop_chunk.ensures.len,
+    let fell = rw c.section_of-home.ensures at c.drop_chunk.ensures.chunks in
+    let near = rw (c.section_of-home.ensures, c.create_radius.ensures) at c.drop_chunk.ensures.near in
+    let home = section_of c.self.inside.grid c.args.c in (
+      kept_remove _ _ _ _ _ _ c.args.c c.self.invariant.0 c.drop_hold-count.ensures.counts c.drop_chunk.ensures.here
+          (λ s. fell s ∙ ap (λ b. cond b 1 0 + chunks_at c.drop_chunk.new.pages.entries s) (sym (ap (λ b. same_section home s && b) one ∙ always (same_section home s))))
+          (λ s. near s ∙ ap (λ b. near_at c.drop_chunk.new.pages.entries s + cond (b && (nat_eq (chunks_at c.self.inside.pages.entries home) 1 && is_within home c.self.inside.grid.create s)) 1 0) (sym one))
+          c.drop_chunk.ensures.used,
       record {
         holds = omega (arith, c.drop_hold-count.ensures.room, c.self.invariant.1.holds);
-        cells = omega (arith, c.drop_chunk.ensures.room, c.self.invariant.1.cells);
+        pages = omega (arith, c.drop_chunk.ensures.room, c.self.invariant.1.pages);
         filled = c.self.invariant.1.filled;
         fits = c.self.invariant.1.fits;
       },
@@ -44,14 +66,17 @@ invariant_of-self c =
 
 pub invariant_of-self-else-count-eq1 : goal.invariant_of-self-else-count-eq1
 invariant_of-self-else-count-eq1 c =
-    let other : nat_eq (count_at c.self.inside.holds.entries c.args.c) 1 ≡ false = ne_eqb _ _ (λ e. c.if-count-eq1.false (c.drop_hold-count.ensures.before ∙ e)) in (
-      kept_remove _ _ _ _ _ c.args.c c.self.invariant.0 c.drop_hold-count.ensures.counts (λ s. refl)
-          (λ s. nothing (same_section (section_of c.self.inside.grid c.args.c) s) (chunks_at c.self.inside.cells.entries s)
-          ∙ ap (λ b. cond (same_section (section_of c.self.inside.grid c.args.c) s && b) 1 0 + chunks_at c.self.inside.cells.entries s) (sym other))
-          refl,
+    let other : nat_eq (count_at c.self.inside.holds.entries c.args.c) 1 ≡ false = ne_eqb _ _ (λ e. c.if-count-eq1.false (c.drop_hold-count.ensures.before ∙ e)) in
+    let home = section_of c.self.inside.grid c.args.c in (
+      kept_remove _ _ _ _ _ _ c.args.c c.self.invariant.0 c.drop_hold-count.ensures.counts (λ s. refl)
+          (λ s. nothing (same_section home s) (chunks_at c.self.inside.pages.entries s)
+          ∙ ap (λ b. cond (same_section home s && b) 1 0 + chunks_at c.self.inside.pages.entries s) (sym other))
+          (λ s. plain (near_at c.self.inside.pages.entries s)
+          ∙ ap (λ b. near_at c.self.inside.pages.entries s + cond (b && (nat_eq (chunks_at c.self.inside.pages.entries home) 1 && is_within home c.self.inside.grid.create s)) 1 0) (sym other))
+          (λ u. u),
       record {
         holds = omega (arith, c.drop_hold-count.ensures.room, c.self.invariant.1.holds);
-        cells = c.self.invariant.1.cells;
+        pages = c.self.invariant.1.pages;
         filled = c.self.invariant.1.filled;
         fits = c.self.invariant.1.fits;
       },
@@ -60,13 +85,13 @@ invariant_of-self-else-count-eq1 c =
 pub returns-clause-answer : goal.returns-clause-answer
 unfolding removed
 returns-clause-answer c =
-    let is = c.drop_hold-count.ensures.before ∙ sym (ap (λ (f : ChunkPos → ℕ). f c.args.c) (table-holds c.self.inside.grid c.self.inside.holds.entries c.self.inside.cells.entries c.self.inside.filled.items c.self.inside.spare)) in
+    let is = c.drop_hold-count.ensures.before ∙ sym (ap (λ (f : ChunkPos → ℕ). f c.args.c) (table-holds c.self.inside.grid c.self.inside.holds.entries c.self.inside.pages.entries c.self.inside.filled.items c.self.inside.spare)) in
     let answer : ℕ → Removed = λ n. if nat_eq n 0 then NotLoaded else (if nat_eq n 1 then Gone else Lowered) in
     rw (← c.self.view_is) (c.answer_for.ensures ∙ ap answer is)
 
 pub returns-clause-holds : goal.returns-clause-holds
 returns-clause-holds c =
-    let before = table-holds c.self.inside.grid c.self.inside.holds.entries c.self.inside.cells.entries c.self.inside.filled.items c.self.inside.spare in
+    let before = table-holds c.self.inside.grid c.self.inside.holds.entries c.self.inside.pages.entries c.self.inside.filled.items c.self.inside.spare in
     let step = fun_ext c.drop_hold-count.ensures.counts ∙ ap (λ (f : ChunkPos → ℕ). at_chunk f c.args.c (f c.args.c - 1)) (sym before) in
     elim c.if-count-eq1.branch [
       | then-count-eq1 w ↦ rw (w.self-is, ← c.self.view_is) (table-holds _ _ _ _ _ ∙ step)
@@ -75,8 +100,9 @@ returns-clause-holds c =
 
 pub returns-clause-presence : goal.returns-clause-presence
 returns-clause-presence c =
-    let before = table-presence c.self.inside.grid c.self.inside.holds.entries c.self.inside.cells.entries c.self.inside.filled.items c.self.inside.spare in
+    let limits = c.self.invariant.0.section_limits in
+    let before = table-presence c.self.inside.grid c.self.inside.holds.entries c.self.inside.pages.entries c.self.inside.filled.items c.self.inside.spare limits in
     elim c.if-count-eq1.branch [
-      | then-count-eq1 w ↦ rw (w.self-is, ← c.self.view_is) (table-presence _ _ _ _ _ ∙ fun_ext w.drop_chunk.ensures.here ∙ sym before)
-      | else-count-eq1 w ↦ rw (w.self-is, ← c.self.view_is) (table-presence _ _ _ _ _ ∙ sym before)
+      | then-count-eq1 w ↦ rw (w.self-is, ← c.self.view_is) (table-presence _ _ _ _ _ (λ s h. limits s (sym (w.drop_chunk.ensures.here s) ∙ h)) ∙ fun_ext w.drop_chunk.ensures.here ∙ sym before)
+      | else-count-eq1 w ↦ rw (w.self-is, ← c.self.view_is) (table-presence _ _ _ _ _ limits ∙ sym before)
     ]

@@ -1,0 +1,86 @@
+-- Numbers over the turn of a section.
+use Rattle.std.proofs.Common.{◌≡◌, ℕ, ◌+◌, ◌≤◌, refl, sym, ◌∙◌, ap, arith, cond, inl, inr, List}
+use Rattle.std.specs.Prelude.{ℤ, Some}
+use Rattle.std.proofs.lemmas.Bool.{cases_Bool}
+use Rattle.fol_model.specs.declared.places.SectionPos.{SectionPos}
+use Rattle.fol_model.specs.Geometry.{same_section}
+use Rattle.fol_laws.proofs.SamePlaces.{same_section-true}
+use Rattle.fol_sections.specs.Pages.{chunks_at, counts_at, near_at}
+use Rattle.fol_sections.specs.Turns.{fall, rise}
+use Rattle.fol_sections.specs.declared.pages.Counts.{Counts}
+use Rattle.fol_sections.specs.declared.pages.Page.{Page}
+use Rattle.fol_sections.specs.declared.turns.Turn.{Turn}
+use Rattle.fol_sections.specs.declared.turns.Turn.TheVariants.{Filled, Emptied}
+use Rattle.fol_sections.proofs.NumberSteps.{chunks-put, near-put, chunks-are, near-are}
+use Rattle.fol_sections.proofs.Views.{same_section-swap}
+
+pub rise_none : (turn : Turn) → rise turn 0 ≡ 0
+rise_none Filled = refl
+rise_none Emptied = refl
+
+pub fall_none : (turn : Turn) → fall turn 0 ≡ 0
+fall_none Filled = refl
+fall_none Emptied = refl
+
+pub rise_more : (turn : Turn) (a b : ℕ) → rise turn (a + b) ≡ rise turn a + rise turn b
+rise_more Filled a b = refl
+rise_more Emptied a b = refl
+
+pub fall_more : (turn : Turn) (a b : ℕ) → fall turn (a + b) ≡ fall turn a + fall turn b
+fall_more Filled a b = refl
+fall_more Emptied a b = refl
+
+pub rise_few : (turn : Turn) (a : ℕ) → rise turn a ≤ a
+rise_few Filled a = omega arith
+rise_few Emptied a = omega arith
+
+pub fall_rises : (turn : Turn) (a b : ℕ) → a ≤ b → fall turn a ≤ fall turn b
+fall_rises Filled a b h = omega arith
+fall_rises Emptied a b h = h
+
+module _ (before after : List ((ℤ × ℤ) × Page)) (s : SectionPos) (was now : Counts) (turn : Turn) (is : counts_at before s ≡ Some was)
+    (step : (q : SectionPos) → counts_at after q ≡ cond (same_section s q) (Some now) (counts_at before q)) where
+  -- the number of sections near it turned
+  module _ (turned : now.near + fall turn 1 ≡ was.near + rise turn 1) where
+    pub near-turned : (q : SectionPos) → near_at after q + fall turn (cond (same_section q s) 1 0) ≡ near_at before q + rise turn (cond (same_section q s) 1 0)
+    near-turned q =
+        let put = near-put before after s now step q in
+        let swap = same_section-swap q s in
+        elim (cases_Bool (same_section s q)) [
+          | inl e ↦
+              let k = same_section-true s q e in
+              let old : near_at before q ≡ was.near = ap (near_at before) (sym k) ∙ near-are before s was is in
+              let new : near_at after q ≡ now.near = put ∙ ap (λ b. cond b now.near (near_at before q)) e in
+              rw (swap, e, new, old) turned
+          | inr e ↦
+              let new : near_at after q ≡ near_at before q = put ∙ ap (λ b. cond b now.near (near_at before q)) e in
+              rw (swap, e, new) (omega (arith, rise_none turn, fall_none turn))
+        ]
+
+  pub chunks-kept : now.loaded ≡ was.loaded → (q : SectionPos) → chunks_at after q ≡ chunks_at before q
+  chunks-kept same q = chunks-put before after s now step q ∙ elim (cases_Bool (same_section s q)) [
+    | inl e ↦ let k = same_section-true s q e in rw e (same ∙ sym (ap (chunks_at before) (sym k) ∙ chunks-are before s was is))
+    | inr e ↦ rw e refl
+  ]
+
+  -- and the same for the number of loaded chunks
+  module _ (turned : now.loaded + fall turn 1 ≡ was.loaded + rise turn 1) where
+    pub chunks-turned : (q : SectionPos) → chunks_at after q + fall turn (cond (same_section s q) 1 0) ≡ chunks_at before q + rise turn (cond (same_section s q) 1 0)
+    chunks-turned q =
+        let put = chunks-put before after s now step q in
+        elim (cases_Bool (same_section s q)) [
+          | inl e ↦
+              let k = same_section-true s q e in
+              let old : chunks_at before q ≡ was.loaded = ap (chunks_at before) (sym k) ∙ chunks-are before s was is in
+              let new : chunks_at after q ≡ now.loaded = put ∙ ap (λ b. cond b now.loaded (chunks_at before q)) e in
+              rw (e, new, old) turned
+          | inr e ↦
+              let new : chunks_at after q ≡ chunks_at before q = put ∙ ap (λ b. cond b now.loaded (chunks_at before q)) e in
+              rw (e, new) (omega (arith, rise_none turn, fall_none turn))
+        ]
+
+  pub near-kept : now.near ≡ was.near → (q : SectionPos) → near_at after q ≡ near_at before q
+  near-kept same q = near-put before after s now step q ∙ elim (cases_Bool (same_section s q)) [
+    | inl e ↦ let k = same_section-true s q e in rw e (same ∙ sym (ap (near_at before) (sym k) ∙ near-are before s was is))
+    | inr e ↦ rw e refl
+  ]

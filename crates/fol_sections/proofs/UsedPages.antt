@@ -1,0 +1,99 @@
+-- Each page has a present section, over the changes of pages.
+use Rattle.std.proofs.Common.{◌≡◌, ℕ, suc, ◌<◌, ◌/◌, ◌%◌, refl, sym, ◌∙◌, ap, arith, Bool, true, false, cond, not, ◌||◌, inl, inr, List, [], ◌∷◌, length}
+use Rattle.std.specs.Prelude.{ℤ, pos, ◌+ℤ◌, ◌*ℤ◌, nat_abs, Option, Some, None, is_some, slice_index_or}
+use Rattle.std.specs.Int.{int_rem_euclid}
+use Rattle.std.specs.List.{list_all}
+use Rattle.std.specs.Option.{option_and_then}
+use Rattle.std.proofs.lemmas.Bool.{cases_Bool, or_cases, true≢false}
+use borrow.Author.Differences.{ints}
+use Rattle.fol_model.specs.declared.places.SectionPos.{SectionPos}
+use Rattle.fol_model.specs.Geometry.{same_section}
+use Rattle.fol_laws.proofs.SamePlaces.{same_section-true, same_section-self}
+use Rattle.fol_sections.specs.Pages.{AllUsed, HasSection, counts_at, has_page, is_here, page_at, page_of, place_of}
+use Rattle.fol_sections.specs.Places.{is_same}
+use Rattle.fol_sections.specs.declared.pages.Counts.{Counts}
+use Rattle.fol_sections.specs.declared.pages.Page.{Page}
+use Rattle.fol_sections.proofs.PageSteps.{in_page, in_this, page_self, same_place}
+use Rattle.fol_sections.proofs.Quotients.{quotient_of_row}
+
+-- ---- a section that comes or changes
+module _ (before after : List ((ℤ × ℤ) × Page)) (s : SectionPos) (counts : Counts)
+    (step : (q : SectionPos) → counts_at after q ≡ cond (same_section s q) (Some counts) (counts_at before q)) where
+  still_here : (q : SectionPos) → is_here before q ≡ true → is_here after q ≡ true
+  unfolding is_here
+  still_here q h = ap is_some (step q) ∙ elim (cases_Bool (same_section s q)) [ inl e ↦ rw e refl | inr e ↦ rw e h ]
+
+  here_now : is_here after s ≡ true
+  unfolding is_here
+  here_now = ap is_some (step s) ∙ ap (λ b. is_some (cond b (Some counts) (counts_at before s))) (same_section-self s)
+
+  pub used-put : ((x z : ℤ) → has_page after x z ≡ (is_same (page_of s.x) (page_of s.z) x z || has_page before x z)) → AllUsed before → AllUsed after
+  used-put pages used x z h = elim (or_cases (is_same (page_of s.x) (page_of s.z) x z) (has_page before x z) (sym (pages x z) ∙ h)) [
+    | inl e ↦ let k = same_place (page_of s.x) (page_of s.z) x z e in (s, k.0, k.1, here_now)
+    | inr e ↦ let w = used x z e in (w.0, w.1, w.2, still_here w.0 w.3)
+  ]
+
+  pub used-change : ((x z : ℤ) → has_page after x z ≡ has_page before x z) → AllUsed before → AllUsed after
+  used-change pages used x z h = let w = used x z (sym (pages x z) ∙ h) in (w.0, w.1, w.2, still_here w.0 w.3)
+
+-- ---- a section that leaves: its page is looked at alone
+pub used-out : (before after : List ((ℤ × ℤ) × Page)) (s : SectionPos) → ((q : SectionPos) → counts_at after q ≡ cond (same_section s q) None (counts_at before q))
+    → ((x z : ℤ) → has_page after x z ≡ true → has_page before x z ≡ true) → (has_page after (page_of s.x) (page_of s.z) ≡ true → HasSection after (page_of s.x) (page_of s.z)) → AllUsed before → AllUsed after
+unfolding is_here
+used-out before after s out pages own used x z h = elim (cases_Bool (is_same (page_of s.x) (page_of s.z) x z)) [
+  | inl e ↦
+      let k = same_place (page_of s.x) (page_of s.z) x z e in
+      let w = own ((λ i. has_page after (k.0 i) (k.1 i)) ∙ h) in
+      (w.0, w.1 ∙ k.0, w.2 ∙ k.1, w.3)
+  | inr e ↦
+      let w = used x z (pages x z h) in
+      let other : same_section s w.0 ≡ false = elim (cases_Bool (same_section s w.0)) [
+        | inr f ↦ f
+        | inl f ↦
+            let k = same_section-true s w.0 f in
+            let same : is_same (page_of s.x) (page_of s.z) x z ≡ true = (λ i. is_same (page_of s.x) (page_of s.z) (sym (ap (λ (q : SectionPos). page_of q.x) k ∙ w.1) i) (sym (ap (λ (q : SectionPos). page_of q.z) k ∙ w.2) i)) ∙ page_self s in
+            absurd (true≢false (sym same ∙ e))
+      ] in
+      (w.0, w.1, w.2, ap is_some (out w.0 ∙ ap (λ b. cond b None (counts_at before w.0)) other) ∙ w.3)
+]
+
+-- ---- a page that is not empty
+some_in : (xs : List (Option Counts)) → list_all (λ counts. not (is_some counts)) xs ≡ false → (k : ℕ) × (k < length xs) × (is_some (slice_index_or xs k None) ≡ true)
+some_in [] h = absurd (true≢false h)
+some_in (Some x ∷ xs) h = (0, omega arith, refl)
+some_in (None ∷ xs) h = let r = some_in xs h in (suc r.0, omega (arith, r.1), r.2)
+
+-- the section at a place of a page
+at_place : (x z : ℤ) (k : ℕ) → k < 64 → (s : SectionPos) × (page_of s.x ≡ x) × (page_of s.z ≡ z) × (place_of s ≡ k)
+unfolding place_of
+at_place x z k l =
+    let s : SectionPos = record { x = (x *ℤ pos 8) +ℤ pos (k % 8); z = (z *ℤ pos 8) +ℤ pos (k / 8) } in
+    let px : page_of s.x ≡ x = quotient_of_row s.x x 8 (k % 8) (omega arith) refl in
+    let pz : page_of s.z ≡ z = quotient_of_row s.z z 8 (k / 8) (omega arith) refl in
+    let ix = rw px at (in_page s.x).0 in
+    let iz = rw pz at (in_page s.z).0 in
+    let rx : nat_abs (int_rem_euclid s.x (pos 8)) ≡ k % 8 = omega (arith, ints, ix) in
+    let rz : nat_abs (int_rem_euclid s.z (pos 8)) ≡ k / 8 = omega (arith, ints, iz) in
+    (s, px, pz, omega (arith, rx, rz))
+
+pub used-busy : (entries : List ((ℤ × ℤ) × Page)) (x z : ℤ) (p : Page) → page_at entries x z ≡ Some p → length p.sections ≡ 64 → list_all (λ counts. not (is_some counts)) p.sections ≡ false → HasSection entries x z
+unfolding is_here counts_at
+used-busy entries x z p is n busy =
+    let k = some_in p.sections busy in
+    let w = at_place x z k.0 (omega (arith, k.1, n)) in
+    let found : page_at entries (page_of (w.0).x) (page_of (w.0).z) ≡ Some p = (λ i. page_at entries (w.1 i) (w.2 i)) ∙ is in
+    (w.0, w.1, w.2, ap (λ o. is_some (option_and_then (λ p. in_this p w.0) o)) found ∙ ap (λ m. is_some (slice_index_or p.sections m None)) w.3 ∙ k.2)
+
+-- ---- a page that left
+module _ (before after : List ((ℤ × ℤ) × Page)) (x z : ℤ) (step : (a b : ℤ) → page_at after a b ≡ cond (is_same x z a b) None (page_at before a b)) where
+  pub pages-less : (a b : ℤ) → has_page after a b ≡ true → has_page before a b ≡ true
+  unfolding has_page
+  pages-less a b h = less (is_same x z a b) (page_at before a b) (sym (ap is_some (step a b)) ∙ h)
+    where
+      less : (e : Bool) (o : Option Page) → is_some (cond e None o) ≡ true → is_some o ≡ true
+      less true o h = absurd (true≢false (sym h))
+      less false o h = h
+
+  pub page-gone : is_same x z x z ≡ true → has_page after x z ≡ false
+  unfolding has_page
+  page-gone e = ap is_some (step x z) ∙ ap (λ b. is_some (cond b None (page_at before x z))) e

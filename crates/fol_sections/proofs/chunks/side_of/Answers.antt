@@ -1,0 +1,5 @@
+use Rattle.fol_sections.proofs.Quotients.{row_few}
+use Rattle.fol_sections.proofs.chunks.side_of.Goals as goal
+
+pub returns-clause-few : goal.returns-clause-few
+returns-clause-few c = row_few c.args.shift c.requires

@@ -1,0 +1,181 @@
+//! Present sections in pages of 8 by 8.
+
+ghost use Rattle.std.specs.Prelude.{◌≡◌, ℤ, ◌+◌, ◌<◌, ◌≤◌, not, ◌||◌, false, cond, is_some, Some, None, IsTrue, length, slice_set, replicate};
+ghost use Rattle.std.specs.List.{list_all};
+ghost use Rattle.std.specs.HashMap.{spare};
+ghost use Rattle.fol_model.specs.declared.places.SectionPos.{SectionPos};
+ghost use Rattle.fol_model.specs.Geometry.{same_section};
+ghost use Rattle.fol_sections.specs.Pages.{AllUsed, HasSection, counts_at, has_page, is_here, chunks_at, near_at, page_of as page, place_of as place};
+ghost use Rattle.fol_sections.specs.Places.{is_same};
+
+use fol_model::SectionPos;
+use std::collections::HashMap;
+
+/// What is kept of a present section.
+#[derive(Clone, Copy, Debug, PartialEq, Eq)]
+pub struct Counts {
+    /// Its loaded chunks.
+    pub loaded: u16,
+    /// The sections within the create radius that hold a loaded chunk.
+    pub near: u16,
+}
+
+/// The sections of a square of 8 by 8, row by row; `None` for one that is not present.
+#[derive(Clone, Copy)]
+pub struct Page {
+    pub sections: [Option<Counts>; 64],
+}
+
+/// Pages by their column and row.
+pub type Pages = HashMap<(i32, i32), Page>;
+
+/// The column and the row of a section's page.
+fn page_of(s: SectionPos) -> (i32, i32)
+    ensures { result ≡ (page s.x, page s.z) }
+{
+    (s.x.div_euclid(8), s.z.div_euclid(8))
+}
+
+/// The place of a section in its page.
+fn place_of(s: SectionPos) -> usize
+    ensures value { result ≡ place s }
+    ensures few { result < 64 }
+{
+    (8 * s.z.rem_euclid(8) + s.x.rem_euclid(8)) as usize
+}
+
+/// What is kept of a section, if it is present.
+pub fn find(pages: &Pages, s: SectionPos) -> Option<Counts>
+    ensures { result ≡ counts_at pages.now.entries s }
+{
+    match pages.get(&page_of(s)) {
+        Some(page) => page.sections[place_of(s)],
+        None => None,
+    }
+}
+
+/// Whether a section is present.
+#[tactic(auto, unfolding(crate::specs::Pages::is_here))]
+pub fn is_present(pages: &Pages, s: SectionPos) -> bool
+    ensures { result ≡ is_here pages.now.entries s }
+{
+    find(pages, s).is_some()
+}
+
+/// How many loaded chunks a section holds; 0 where it is not present.
+#[tactic(auto, unfolding(crate::specs::Pages::chunks_at))]
+pub fn loaded(pages: &Pages, s: SectionPos) -> u64
+    ensures { result ≡ chunks_at pages.now.entries s }
+{
+    match find(pages, s) {
+        Some(counts) => counts.loaded as u64,
+        None => 0,
+    }
+}
+
+/// How many sections with a loaded chunk are near a section; 0 where it is not present.
+#[tactic(auto, unfolding(crate::specs::Pages::near_at))]
+pub fn near(pages: &Pages, s: SectionPos) -> u32
+    ensures { result ≡ near_at pages.now.entries s }
+{
+    match find(pages, s) {
+        Some(counts) => counts.near as u32,
+        None => 0,
+    }
+}
+
+/// Changes what is kept of a section whose page is there.
+fn write(pages: &mut Pages, s: SectionPos, counts: Option<Counts>)
+    requires there { IsTrue (has_page pages.old.entries (page s.x) (page s.z)) }
+    ensures put { (q : SectionPos) → counts_at pages.new.entries q ≡ cond (same_section s q) counts (counts_at pages.old.entries q) }
+    ensures pages { (x z : ℤ) → has_page pages.new.entries x z ≡ has_page pages.old.entries x z }
+    ensures room { spare pages.new ≡ spare pages.old }
+{
+    match pages.get_mut(&page_of(s)) {
+        Some(page) => page.sections[place_of(s)] = counts,
+        None => {}
+    }
+}
+
+/// A page with one section.
+fn page_with(place: usize, counts: Counts) -> Page
+    requires { place < 64 }
+    ensures { result ≡ record { sections = slice_set (replicate 64 None) place (Some counts) } }
+{
+    let mut page = Page {
+        sections: [None; 64],
+    };
+    page.sections[place] = Some(counts);
+    page
+}
+
+/// Adds the page of a section, with this section alone.
+fn add_page(pages: &mut Pages, s: SectionPos, counts: Counts)
+    requires room { 0 < spare pages.old }
+    requires absent { has_page pages.old.entries (page s.x) (page s.z) ≡ false }
+    ensures put { (q : SectionPos) → counts_at pages.new.entries q ≡ cond (same_section s q) (Some counts) (counts_at pages.old.entries q) }
+    ensures pages { (x z : ℤ) → has_page pages.new.entries x z ≡ (is_same (page s.x) (page s.z) x z || has_page pages.old.entries x z) }
+    ensures room { spare pages.old ≤ spare pages.new + 1 }
+{
+    let _ = pages.insert(page_of(s), page_with(place_of(s), counts));
+}
+
+/// Makes a section present with these numbers.
+pub fn put(pages: &mut Pages, s: SectionPos, counts: Counts)
+    requires room { has_page pages.old.entries (page s.x) (page s.z) ≡ false → 0 < spare pages.old }
+    ensures put { (q : SectionPos) → counts_at pages.new.entries q ≡ cond (same_section s q) (Some counts) (counts_at pages.old.entries q) }
+    ensures pages { (x z : ℤ) → has_page pages.new.entries x z ≡ (is_same (page s.x) (page s.z) x z || has_page pages.old.entries x z) }
+    ensures room { spare pages.old ≤ spare pages.new + cond (has_page pages.old.entries (page s.x) (page s.z)) 0 1 }
+    ensures used { AllUsed pages.old.entries → AllUsed pages.new.entries }
+{
+    if pages.contains_key(&page_of(s)) {
+        write(pages, s, Some(counts));
+    } else {
+        add_page(pages, s, counts);
+    }
+}
+
+/// Changes the numbers of a present section.
+pub fn change(pages: &mut Pages, s: SectionPos, counts: Counts)
+    requires here { IsTrue (is_here pages.old.entries s) }
+    ensures put { (q : SectionPos) → counts_at pages.new.entries q ≡ cond (same_section s q) (Some counts) (counts_at pages.old.entries q) }
+    ensures room { spare pages.new ≡ spare pages.old }
+    ensures used { AllUsed pages.old.entries → AllUsed pages.new.entries }
+{
+    write(pages, s, Some(counts));
+}
+
+/// Whether a page has no present section.
+fn is_empty(page: &Page) -> bool
+    ensures value { result ≡ list_all (λ counts. not (is_some counts)) page.now.sections }
+    ensures whole { length page.now.sections ≡ 64 }
+{
+    page.sections.iter().all(|counts| counts.is_none())
+}
+
+/// Takes a present section out, and its page with it where no other section of the page is present.
+pub fn take_out(pages: &mut Pages, s: SectionPos)
+    requires here { IsTrue (is_here pages.old.entries s) }
+    ensures out { (q : SectionPos) → counts_at pages.new.entries q ≡ cond (same_section s q) None (counts_at pages.old.entries q) }
+    ensures room { spare pages.old ≤ spare pages.new }
+    ensures used { AllUsed pages.old.entries → AllUsed pages.new.entries }
+{
+    write(pages, s, None);
+    drop_if_empty(pages, page_of(s));
+}
+
+/// Takes a page out that has no present section.
+fn drop_if_empty(pages: &mut Pages, key: (i32, i32))
+    ensures same { (q : SectionPos) → counts_at pages.new.entries q ≡ counts_at pages.old.entries q }
+    ensures others { (x z : ℤ) → IsTrue (has_page pages.new.entries x z) → IsTrue (has_page pages.old.entries x z) }
+    ensures used { IsTrue (has_page pages.new.entries key.0 key.1) → HasSection pages.new.entries key.0 key.1 }
+    ensures room { spare pages.old ≤ spare pages.new }
+{
+    let is_done = match pages.get(&key) {
+        Some(page) => is_empty(page),
+        None => false,
+    };
+    if is_done {
+        let _ = pages.remove(&key);
+    }
+}

@@ -1,0 +1,100 @@
+//! A section that came to hold a loaded chunk, or that holds none any more, is counted by the sections near it.
+
+ghost use Rattle.std.specs.Prelude.{◌≡◌, ℕ, ◌+◌, ◌<◌, ◌≤◌, ◌^◌, IsTrue, cond, pos, ◌+ℤ◌, nat_abs};
+ghost use Rattle.std.specs.List.{count_by};
+ghost use Rattle.std.specs.HashMap.{spare};
+ghost use Rattle.fol_model.specs.declared.places.SectionPos.{SectionPos};
+ghost use Rattle.fol_model.specs.Geometry.{is_within, same_section};
+ghost use Rattle.fol_sections.specs.Pages.{AllUsed, chunks_at, is_here, near_at};
+ghost use Rattle.fol_sections.specs.Rows.{row_of, section_at};
+ghost use Rattle.fol_sections.specs.Turns.{fall, rise};
+
+use crate::pages::{Counts, Pages, change, find};
+use crate::squares::{beside, corner};
+use fol_model::SectionPos;
+
+/// What became of a section.
+#[derive(Clone, Copy, Debug, PartialEq, Eq)]
+pub enum Turn {
+    /// It holds its first loaded chunk.
+    Filled,
+    /// Its last loaded chunk is gone.
+    Emptied,
+}
+
+/// A number after one turn.
+pub fn turned(number: u16, turn: Turn) -> u16
+    requires low { fall turn 1 ≤ number }
+    requires few { number + 1 < 2 ^ 16 }
+    ensures { result + fall turn 1 ≡ number + rise turn 1 }
+{
+    match turn {
+        Turn::Filled => number + 1,
+        Turn::Emptied => number - 1,
+    }
+}
+
+/// Counts a turn at one present section.
+fn turn_one(pages: &mut Pages, s: SectionPos, turn: Turn)
+    requires here { IsTrue (is_here pages.old.entries s) }
+    requires low { fall turn 1 ≤ near_at pages.old.entries s }
+    requires few { near_at pages.old.entries s + 1 < 2 ^ 16 }
+    ensures near { (q : SectionPos) → near_at pages.new.entries q + fall turn (cond (same_section q s) 1 0) ≡ near_at pages.old.entries q + rise turn (cond (same_section q s) 1 0) }
+    ensures here { (q : SectionPos) → is_here pages.new.entries q ≡ is_here pages.old.entries q }
+    ensures chunks { (q : SectionPos) → chunks_at pages.new.entries q ≡ chunks_at pages.old.entries q }
+    ensures room { spare pages.new ≡ spare pages.old }
+    ensures used { AllUsed pages.old.entries → AllUsed pages.new.entries }
+{
+    match find(pages, s) {
+        Some(counts) => {
+            let near = turned(counts.near, turn);
+            change(
+                pages,
+                s,
+                Counts {
+                    loaded: counts.loaded,
+                    near,
+                },
+            );
+        }
+        None => {}
+    }
+}
+
+/// Counts a turn at `n` sections in a row.
+fn turn_row(pages: &mut Pages, first: SectionPos, row: u32, n: u32, turn: Turn)
+    requires near { (nat_abs first.x ≤ 1000016) × (nat_abs first.z ≤ 1000016) }
+    requires few { (row ≤ 17) × (n ≤ 17) }
+    requires here { (q : SectionPos) → 0 < count_by (same_section q) (row_of section_at first.x (first.z +ℤ pos row) n) → IsTrue (is_here pages.old.entries q) }
+    requires low { (q : SectionPos) → fall turn (count_by (same_section q) (row_of section_at first.x (first.z +ℤ pos row) n)) ≤ near_at pages.old.entries q }
+    requires high { (q : SectionPos) → near_at pages.old.entries q + count_by (same_section q) (row_of section_at first.x (first.z +ℤ pos row) n) < 2 ^ 16 }
+    ensures near { (q : SectionPos) → near_at pages.new.entries q + fall turn (count_by (same_section q) (row_of section_at first.x (first.z +ℤ pos row) n)) ≡ near_at pages.old.entries q + rise turn (count_by (same_section q) (row_of section_at first.x (first.z +ℤ pos row) n)) }
+    ensures here { (q : SectionPos) → is_here pages.new.entries q ≡ is_here pages.old.entries q }
+    ensures chunks { (q : SectionPos) → chunks_at pages.new.entries q ≡ chunks_at pages.old.entries q }
+    ensures room { spare pages.new ≡ spare pages.old }
+    ensures used { AllUsed pages.old.entries → AllUsed pages.new.entries }
+{
+    for i in 0..n {
+        turn_one(pages, beside(first, i, row), turn);
+    }
+}
+
+/// Counts a turn of a section at all sections within the radius.
+pub fn turn_square(pages: &mut Pages, s: SectionPos, radius: u8, turn: Turn)
+    requires near { (nat_abs s.x ≤ 1000008) × (nat_abs s.z ≤ 1000008) }
+    requires few { radius ≤ 8 }
+    requires here { (q : SectionPos) → IsTrue (is_within s radius q) → IsTrue (is_here pages.old.entries q) }
+    requires low { (q : SectionPos) → fall turn (cond (is_within s radius q) 1 0) ≤ near_at pages.old.entries q }
+    requires high { (q : SectionPos) → near_at pages.old.entries q ≤ 289 }
+    ensures near { (q : SectionPos) → near_at pages.new.entries q + fall turn (cond (is_within s radius q) 1 0) ≡ near_at pages.old.entries q + rise turn (cond (is_within s radius q) 1 0) }
+    ensures here { (q : SectionPos) → is_here pages.new.entries q ≡ is_here pages.old.entries q }
+    ensures chunks { (q : SectionPos) → chunks_at pages.new.entries q ≡ chunks_at pages.old.entries q }
+    ensures room { spare pages.new ≡ spare pages.old }
+    ensures used { AllUsed pages.old.entries → AllUsed pages.new.entries }
+{
+    let first = corner(s, radius);
+    let side = 2 * radius as u32 + 1;
+    for row in 0..side {
+        turn_row(pages, first, row, side, turn);
+    }
+}
