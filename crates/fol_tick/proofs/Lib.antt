@@ -1,0 +1,7 @@
+pub mod Outcomes
+pub mod Stages
+pub mod Freshness
+pub mod OneTask
+pub mod NextTask
+pub mod TickLaws
+pub mod ListCalls

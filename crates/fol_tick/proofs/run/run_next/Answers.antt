@@ -1,0 +1,18 @@
+use Rattle.std.proofs.Common.{◌<◌, length, ap}
+use Rattle.fol_model.specs.FlatTick.{FlatEnd}
+use Rattle.fol_tick.proofs.NextTask.{has_next, next_runs, next_may}
+use Rattle.fol_tick.proofs.run.run_next.Goals as goal
+
+pub returns-clause-runs : goal.returns-clause-runs
+returns-clause-runs g c =
+    let done = c.in_ok-run_task.ensures.ok in
+    let here : c.args.tick.now.next < length c.args.tick.now.due = has_next c.args.tick.now c.args.prepared c.requires.prepared in (
+      done.0,
+      done.1,
+      next_runs c.args.tick.now c.index-as_slice-tick.result c.requires.may_run here (rw c.as_slice.ensures at c.index-as_slice-tick.is) c.args.log.now c.run_task.new.log c.run_task.new.chunks done.0 (rw (c.of-recorded.ensures, c.as_slice-2.ensures) at done.2),
+    )
+
+pub returns-clause-may_run : goal.returns-clause-may_run
+returns-clause-may_run g c =
+    let here : c.args.tick.now.next < length c.args.tick.now.due = has_next c.args.tick.now c.args.prepared c.requires.prepared in
+    next_may c.args.tick.now c.index-as_slice-tick.result c.requires.may_run here (rw c.as_slice.ensures at c.index-as_slice-tick.is) c.run_task.new.chunks (ap (λ (s : FlatEnd). s.flat) (rw (c.of-recorded.ensures, c.as_slice-2.ensures) at c.in_ok-run_task.ensures.ok.2).stage)

@@ -1,0 +1,7 @@
+pub mod Calls
+pub mod Runs
+pub mod Prepared
+pub mod Effects
+pub mod ListAnswers
+pub mod Laws
+pub mod Logs

@@ -1,0 +1,23 @@
+-- The tasks that a task asks for whatever the world is like.
+use Rattle.std.specs.Prelude.{◌-◌, Option, Some, None, nat_le, if◌then◌else◌}
+use Rattle.fol_model.specs.Nesting.{action_of}
+use Rattle.fol_model.specs.ActionStep.{plain_of}
+use Rattle.fol_model.specs.declared.places.ChunkPos.{ChunkPos}
+use Rattle.fol_model.specs.declared.actions.Action.{Action}
+use Rattle.fol_model.specs.declared.actions.Action.TheVariants.{Post, Every}
+use Rattle.fol_model.specs.declared.tasks.Task.{Task}
+use Rattle.fol_model.specs.declared.tasks.Wish.{Wish}
+use Rattle.fol_tick.specs.declared.prepared.Prepared.{Prepared}
+
+-- the task that a `Post` asks for
+abbrev pub posted_by : Action → Option Wish
+posted_by (Post c d inner) = Some (record { chunk = c; delay = d; action = action_of inner; back = None })
+posted_by _ = None
+
+-- the task again, where it runs once more
+abbrev pub repeated_by : ChunkPos → Action → Option Wish
+repeated_by c (Every period left inner) = if nat_le 2 left then Some (record { chunk = c; delay = period; action = Every period (left - 1) inner; back = None }) else None
+repeated_by c _ = None
+
+abbrev pub prepared_of : Task → Prepared
+prepared_of t = record { own = posted_by (plain_of t.action); again = repeated_by t.chunk t.action }

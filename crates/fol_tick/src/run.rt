@@ -1,0 +1,104 @@
+//! A whole tick.
+
+ghost use Rattle.std.specs.Prelude.{◌≡◌, ◌+◌, ◌*◌, ◌≤◌, ◌<◌, ◌⊎◌, List, [], ◌∷◌, drop, length, map, IsTrue, OnErr, OnOk, vec_len};
+ghost use Rattle.std.specs.Vec.{vec_capacity};
+ghost use Rattle.std.specs.VecDeque.{deque_len};
+ghost use Rattle.fol_tick.specs.Calls.{HostCall};
+ghost use Rattle.fol_tick.specs.Prepared.{prepared_of};
+ghost use Rattle.fol_tick.specs.Runs.{MayRun, Runs, Finishes, StopsAtHost, next_task};
+ghost use Rattle.fol_tick.specs.Logs.{with_log};
+
+use crate::host::Host;
+use crate::log::{OpenLog, open};
+use crate::prepared::{Prepared, prepare};
+use crate::step::run_task;
+use fol_data::Tick;
+use fol_keyed::ChunkList;
+use std::alloc::{AllocError, Global};
+use std::collections::VecDeque;
+
+/// Runs what is left of a tick: the rest of its due tasks in order of number, and then the movement of the entities.
+///
+/// Takes all memory that it needs itself before the first of these tasks. After want of memory either nothing but spare room has
+/// changed, or it was the host that found none, for the task at `next`: the tasks before it have run, and another call goes on there.
+pub fn run_tick<H: Host>(alloc: Global, tick: &mut Tick, host: &mut H) -> Result<(), AllocError>
+    requires { MayRun tick.old }
+    ensures ok { OnOk result ((calls : List HostCall) × H.reaches host.old calls host.new × Finishes tick.old tick.new calls) }
+    ensures err { OnErr result ((calls : List HostCall) × H.reaches host.old calls host.new × Runs tick.old tick.new calls) }
+    ensures stop { OnErr result ((tick.new.next ≡ tick.old.next) ⊎ StopsAtHost tick.new) }
+    ensures again { OnErr result (MayRun tick.new) }
+{
+    let left = &tick.due.as_slice()[tick.next as usize..];
+    let count = left.len();
+    let prepared = prepare(alloc, left)?;
+    tick.body.chunks.reserve(count as u64)?;
+    let mut log = open(alloc, &mut tick.log, count)?;
+    let answer = run_tasks(alloc, tick, prepared, &mut log, host);
+    tick.log = log.close();
+    answer?;
+    tick.body.chunks.step_entities(tick.chunks.as_slice());
+    tick.moved = true;
+    Ok(())
+}
+
+/// Runs the rest of the tasks, whose wishes are prepared.
+fn run_tasks<H: Host>(
+    alloc: Global,
+    tick: &mut Tick,
+    mut prepared: VecDeque<Prepared>,
+    log: &mut OpenLog,
+    host: &mut H,
+) -> Result<(), AllocError>
+    requires may_run { MayRun tick.old }
+    requires prepared { prepared.items ≡ map prepared_of (drop tick.old.next tick.old.due) }
+    requires spare { deque_len prepared ≤ tick.old.body.chunks.spare }
+    requires room_for_ran { vec_len log.old.ran + deque_len prepared ≤ vec_capacity log.old.ran }
+    requires room_for_wishes { vec_len log.old.wishes + 2 * deque_len prepared ≤ vec_capacity log.old.wishes }
+    ensures runs { (calls : List HostCall) × H.reaches host.old calls host.new × Runs (with_log tick.old log.old) (with_log tick.new log.new) calls }
+    ensures may_run { MayRun tick.new }
+    ensures ok { OnOk result (tick.new.next ≡ length tick.new.due) }
+    ensures stop { OnErr result (StopsAtHost tick.new) }
+{
+    while let Some(first) = prepared.pop_front() {
+        run_next(alloc, tick, first, log, host)?;
+    }
+    Ok(())
+}
+
+/// Runs the next task, whose wishes are prepared.
+fn run_next<H: Host>(
+    alloc: Global,
+    tick: &mut Tick,
+    prepared: Prepared,
+    log: &mut OpenLog,
+    host: &mut H,
+) -> Result<(), AllocError>
+    requires may_run { MayRun tick.old }
+    requires prepared { prepared ∷ [] ≡ map prepared_of (next_task tick.old) }
+    requires spare { 1 ≤ tick.old.body.chunks.spare }
+    requires room_for_ran { vec_len log.old.ran < vec_capacity log.old.ran }
+    requires room_for_wishes { vec_len log.old.wishes + 2 ≤ vec_capacity log.old.wishes }
+    ensures runs { (calls : List HostCall) × H.reaches host.old calls host.new × Runs (with_log tick.old log.old) (with_log tick.new log.new) calls }
+    ensures may_run { MayRun tick.new }
+    ensures ok { OnOk result (tick.new.next ≡ tick.old.next + 1) }
+    ensures stop { OnErr result (StopsAtHost tick.new) }
+    ensures spare { tick.old.body.chunks.spare ≤ tick.new.body.chunks.spare + 1 }
+    ensures ran_len { vec_len log.new.ran ≤ vec_len log.old.ran + 1 }
+    ensures ran_capacity { vec_capacity log.new.ran ≡ vec_capacity log.old.ran }
+    ensures wishes_len { vec_len log.new.wishes ≤ vec_len log.old.wishes + 2 }
+    ensures wishes_capacity { vec_capacity log.new.wishes ≡ vec_capacity log.old.wishes }
+{
+    let task = &tick.due.as_slice()[tick.next as usize];
+    let recorded = ChunkList::of(tick.chunks.as_slice());
+    run_task(
+        alloc,
+        &recorded,
+        &mut tick.body.chunks,
+        task,
+        prepared,
+        log,
+        host,
+    )?;
+    tick.next += 1;
+    Ok(())
+}
