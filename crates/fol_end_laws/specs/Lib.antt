@@ -1,0 +1,5 @@
+pub mod KeptQueue
+pub mod FinishedTick
+pub mod DroppedHolds
+pub mod SentEntities
+pub mod OwedMost
