@@ -1,6 +1,7 @@
 //! The words of an action.
 
-ghost use Rattle.std.specs.Prelude.{◌≡◌, ◌++◌, IfOk, string_bytes};
+ghost use Rattle.std.specs.Prelude.{◌≡◌, ◌++◌, [], IfOk, string_bytes};
+ghost use Rattle.fol_model.specs.Nesting.{deed_of};
 ghost use Rattle.fol_model.specs.ReportWords.{action_words};
 ghost use Rattle.fol_report.specs.Spaced.{spaced};
 
@@ -8,9 +9,10 @@ use crate::words::{put_block, put_chunk, put_number, put_word};
 use fol_model::Action;
 use std::alloc::AllocError;
 
-/// Puts the words of an action, from the outside in.
+/// Puts the words of an action that has no other inside.
 #[tactic(auto, unfolding(fol_model::specs::ReportWords::action_words))]
-pub fn put_action(out: &mut String, action: &Action) -> Result<(), AllocError>
+fn put_plain(out: &mut String, action: &Action) -> Result<(), AllocError>
+    requires { (deed_of action.now).wraps ≡ [] }
     ensures { IfOk result (λ _. string_bytes out.new ≡ string_bytes out.old ++ spaced (action_words action.now)) }
 {
     match action {
@@ -32,16 +34,6 @@ pub fn put_action(out: &mut String, action: &Action) -> Result<(), AllocError>
             put_word(out, "unload")?;
             put_chunk(out, *chunk)
         }
-        Action::Post {
-            chunk,
-            delay,
-            action,
-        } => {
-            put_word(out, "post")?;
-            put_chunk(out, *chunk)?;
-            put_number(out, *delay)?;
-            put_action(out, action.get())
-        }
         Action::Send { entity, to } => {
             put_word(out, "send")?;
             put_number(out, *entity)?;
@@ -51,6 +43,26 @@ pub fn put_action(out: &mut String, action: &Action) -> Result<(), AllocError>
             put_word(out, "arrive")?;
             put_number(out, entity.id)?;
             put_block(out, entity.at)
+        }
+        Action::Post { .. } | Action::Every { .. } => unreachable!(),
+    }
+}
+
+/// Puts the words of an action, from the outside in.
+#[tactic(auto, unfolding(fol_model::specs::ReportWords::action_words))]
+pub fn put_action(out: &mut String, action: &Action) -> Result<(), AllocError>
+    ensures { IfOk result (λ _. string_bytes out.new ≡ string_bytes out.old ++ spaced (action_words action.now)) }
+{
+    match action {
+        Action::Post {
+            chunk,
+            delay,
+            action,
+        } => {
+            put_word(out, "post")?;
+            put_chunk(out, *chunk)?;
+            put_number(out, *delay)?;
+            put_action(out, action.get())
         }
         Action::Every {
             period,
@@ -62,5 +74,6 @@ pub fn put_action(out: &mut String, action: &Action) -> Result<(), AllocError>
             put_number(out, *left)?;
             put_action(out, action.get())
         }
+        _ => put_plain(out, action),
     }
 }

@@ -1,14 +1,14 @@
 //! The line of an event. The seat that recorded it is not written.
 
 ghost use Rattle.std.specs.Prelude.{◌≡◌, [], ◌∷◌, ◌++◌, codes, decimal, flat_map, length, IfOk, string_bytes};
-ghost use Rattle.fol_model.specs.ReportWords.{accept_words, end_words, entry_words, event_words, ran_words};
+ghost use Rattle.fol_model.specs.ReportWords.{accept_words, action_words, chunk_words, end_words, entry_words, event_words, loaded_words, ran_words, unloaded_words};
 ghost use Rattle.fol_report.specs.Spaced.{joined, spaced};
 
 use crate::actions::put_action;
 use crate::answers::{put_accept, put_all_accepts, put_all_ran, put_loaded, put_unloaded};
 use crate::lines::Line;
 use crate::words::{put_chunk, put_number};
-use fol_model::{Accept, Entry, Event, Ran};
+use fol_model::{Accept, Action, ChunkPos, Entry, Event, Loaded, Ran, Unloaded};
 use std::alloc::AllocError;
 
 /// Puts the line of a begin: one of the two most frequent lines.
@@ -66,6 +66,52 @@ fn put_end(
     put_accepted(out, accepts)
 }
 
+/// Puts the line of a load.
+fn put_load(
+    out: &mut String,
+    caller: u32,
+    chunk: ChunkPos,
+    answer: Loaded,
+) -> Result<(), AllocError>
+    ensures { IfOk result (λ _. string_bytes out.new ≡ string_bytes out.old ++ joined (codes "load" ∷ decimal caller ∷ chunk_words chunk ++ loaded_words answer)) }
+{
+    write!(out, "load {caller}")?;
+    put_chunk(out, chunk)?;
+    put_loaded(out, answer)
+}
+
+/// Puts the line of an unload.
+fn put_unload(
+    out: &mut String,
+    caller: u32,
+    chunk: ChunkPos,
+    answer: Unloaded,
+) -> Result<(), AllocError>
+    ensures { IfOk result (λ _. string_bytes out.new ≡ string_bytes out.old ++ joined (codes "unload" ∷ decimal caller ∷ chunk_words chunk ++ unloaded_words answer)) }
+{
+    write!(out, "unload {caller}")?;
+    put_chunk(out, chunk)?;
+    put_unloaded(out, answer)
+}
+
+/// Puts the line of a post.
+fn put_post(
+    out: &mut String,
+    caller: u32,
+    chunk: ChunkPos,
+    delay: u32,
+    action: &Action,
+    answer: Accept,
+) -> Result<(), AllocError>
+    ensures { IfOk result (λ _. string_bytes out.new ≡ string_bytes out.old ++ joined (codes "post" ∷ decimal caller ∷ chunk_words chunk ++ decimal delay ∷ accept_words answer ++ action_words action.now)) }
+{
+    write!(out, "post {caller}")?;
+    put_chunk(out, chunk)?;
+    put_number(out, delay)?;
+    put_accept(out, answer)?;
+    put_action(out, action)
+}
+
 /// Puts the line of an event without its end.
 fn put_event(out: &mut String, event: &Event) -> Result<(), AllocError>
     ensures { IfOk result (λ _. string_bytes out.new ≡ string_bytes out.old ++ joined (event_words event.now)) }
@@ -75,33 +121,19 @@ fn put_event(out: &mut String, event: &Event) -> Result<(), AllocError>
             caller,
             chunk,
             answer,
-        } => {
-            write!(out, "load {caller}")?;
-            put_chunk(out, *chunk)?;
-            put_loaded(out, *answer)
-        }
+        } => put_load(out, *caller, *chunk, *answer),
         Event::Unload {
             caller,
             chunk,
             answer,
-        } => {
-            write!(out, "unload {caller}")?;
-            put_chunk(out, *chunk)?;
-            put_unloaded(out, *answer)
-        }
+        } => put_unload(out, *caller, *chunk, *answer),
         Event::Post {
             caller,
             chunk,
             delay,
             action,
             answer,
-        } => {
-            write!(out, "post {caller}")?;
-            put_chunk(out, *chunk)?;
-            put_number(out, *delay)?;
-            put_accept(out, *answer)?;
-            put_action(out, action)
-        }
+        } => put_post(out, *caller, *chunk, *delay, action, *answer),
         Event::PhaseOpen(ticks) => write!(out, "open {ticks}"),
         Event::Begin { worker, region } => put_begin(out, *worker, *region),
         Event::End {

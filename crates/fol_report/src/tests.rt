@@ -152,44 +152,46 @@ fn a_history_of_one_finish(rt: HostRuntime) -> Result<(), Fail> {
     Ok(())
 }
 
-/// Each event and each answer once.
-fn every_event(alloc: Global) -> Result<Vec<Event>, AllocError> {
-    let mut events = Vec::new(alloc);
-    events.push(Event::Load {
-        caller: 2,
-        chunk: CHUNK,
-        answer: Loaded::Full {
-            present: 16_380,
-            wanted: 9,
-        },
-    })?;
-    events.push(Event::Unload {
-        caller: 0,
-        chunk: CHUNK,
-        answer: Unloaded::Lowered,
-    })?;
-    events.push(Event::Unload {
-        caller: 0,
-        chunk: CHUNK,
-        answer: Unloaded::NoTicket,
-    })?;
-    events.push(Event::Post {
-        caller: 0,
-        chunk: CHUNK,
-        delay: 6,
-        action: nested_set(alloc)?,
-        answer: Accept::Posted(1),
-    })?;
-    events.push(Event::Post {
-        caller: 65,
-        chunk: CHUNK,
-        delay: 1,
-        action: Action::Load(CHUNK),
-        answer: Accept::Full {
-            present: 16_384,
-            wanted: 3,
-        },
-    })?;
+/// Adds a load with each of these answers.
+fn push_loads(events: &mut Vec<Event>, answers: &[Loaded]) -> Result<(), AllocError> {
+    for answer in answers {
+        events.push(Event::Load {
+            caller: 2,
+            chunk: CHUNK,
+            answer: *answer,
+        })?;
+    }
+    Ok(())
+}
+
+/// Adds an unload with each answer.
+fn push_unloads(events: &mut Vec<Event>) -> Result<(), AllocError> {
+    for answer in [Unloaded::Lowered, Unloaded::NoTicket] {
+        events.push(Event::Unload {
+            caller: 0,
+            chunk: CHUNK,
+            answer,
+        })?;
+    }
+    Ok(())
+}
+
+/// Adds a post of a load with each of these answers.
+fn push_posts(events: &mut Vec<Event>, answers: &[Accept]) -> Result<(), AllocError> {
+    for answer in answers {
+        events.push(Event::Post {
+            caller: 65,
+            chunk: CHUNK,
+            delay: 1,
+            action: Action::Load(CHUNK),
+            answer: *answer,
+        })?;
+    }
+    Ok(())
+}
+
+/// Adds a phase with a tick in which tasks came to each outcome.
+fn push_phase(alloc: Global, events: &mut Vec<Event>) -> Result<(), AllocError> {
     let outcomes = [
         Outcome::Done,
         Outcome::Foreign,
@@ -197,7 +199,39 @@ fn every_event(alloc: Global) -> Result<Vec<Event>, AllocError> {
         Outcome::Full,
         Outcome::NoTicket,
     ];
+    events.push(Event::PhaseOpen(10))?;
+    events.push(Event::Begin {
+        worker: 64,
+        region: 300,
+    })?;
     events.push(busy_end(alloc, &outcomes)?)?;
+    events.push(Event::PhaseClose)?;
+    Ok(())
+}
+
+/// Each event with each of its answers.
+fn every_event(alloc: Global) -> Result<Vec<Event>, AllocError> {
+    let full_load = Loaded::Full {
+        present: 16_380,
+        wanted: 9,
+    };
+    let full_post = Accept::Full {
+        present: 16_384,
+        wanted: 3,
+    };
+    let mut events = Vec::new(alloc);
+    push_loads(&mut events, &[Loaded::Counted, full_load])?;
+    push_unloads(&mut events)?;
+    events.push(Event::Post {
+        caller: 0,
+        chunk: CHUNK,
+        delay: 6,
+        action: nested_set(alloc)?,
+        answer: Accept::Posted(1),
+    })?;
+    push_posts(&mut events, &[full_post])?;
+    push_phase(alloc, &mut events)?;
+    events.push(Event::Finish)?;
     events.push(Event::Stop { caller: 3 })?;
     Ok(events)
 }
@@ -243,9 +277,8 @@ fn busy_end(alloc: Global, outcomes: &[Outcome]) -> Result<Event, AllocError> {
     })
 }
 
-/// Each event, answer, outcome, action, state and place once.
-fn every_kind(alloc: Global) -> Result<Closing, AllocError> {
-    let mut closing = closing_of(alloc, every_event(alloc)?)?;
+/// Adds a region in each state but the usual one.
+fn push_regions(closing: &mut Closing) -> Result<(), AllocError> {
     for state in [State::Transient, State::Ticking] {
         closing.regions.push(RegionRow {
             id: 4,
@@ -256,6 +289,11 @@ fn every_kind(alloc: Global) -> Result<Closing, AllocError> {
             chunks: 12,
         })?;
     }
+    Ok(())
+}
+
+/// Adds a task with each action that no event has.
+fn push_tasks(closing: &mut Closing) -> Result<(), AllocError> {
     let actions = [
         Action::Copy {
             at: BLOCK,
@@ -281,6 +319,14 @@ fn every_kind(alloc: Global) -> Result<Closing, AllocError> {
         };
         closing.tasks.push(TaskRow { task, rest: 2 })?;
     }
+    Ok(())
+}
+
+/// Each event, answer, outcome, action, state and place.
+fn every_kind(alloc: Global) -> Result<Closing, AllocError> {
+    let mut closing = closing_of(alloc, every_event(alloc)?)?;
+    push_regions(&mut closing)?;
+    push_tasks(&mut closing)?;
     closing.entities.push(EntityRow {
         id: 5,
         place: Place::Transit(4),
@@ -298,14 +344,19 @@ fn every_kind_of_line(rt: HostRuntime) -> Result<(), Fail> {
     let closing = every_kind(rt.alloc())?;
     let text = report(rt.alloc(), &closing)?;
     let wanted = "report 1\n\
-        events 7\n\
+        events 12\n\
+        load 2 -1 20 counted\n\
         load 2 -1 20 full 16380 9\n\
         unload 0 -1 20 lowered\n\
         unload 0 -1 20 noticket\n\
         post 0 -1 20 6 posted 1 every 5 3 post -1 20 4 set -16 64 335 12\n\
         post 65 -1 20 1 full 16384 3 load -1 20\n\
+        open 10\n\
+        begin 64 300\n\
         end 64 300 tick 10000 ran 5 3 done 9 foreign 27 absent 81 full 243 noticket \
         accepted 2 posted 12345678901 full 16383 2\n\
+        close\n\
+        finish\n\
         stop 3\n\
         regions 2\n\
         region 4 transient tick 70 owed 5 sections 16 chunks 12\n\
@@ -332,13 +383,18 @@ fn every_kind_of_line_in_json(rt: HostRuntime) -> Result<(), Fail> {
     let form = report_json(rt.alloc(), &closing)?;
     let wanted = "{\"blocks\":[\"block -16 64 335 9\"],\
         \"entities\":[\"entity 5 transit 4\",\"entity 6 at -16 64 335\"],\
-        \"events\":[\"load 2 -1 20 full 16380 9\",\
+        \"events\":[\"load 2 -1 20 counted\",\
+        \"load 2 -1 20 full 16380 9\",\
         \"unload 0 -1 20 lowered\",\
         \"unload 0 -1 20 noticket\",\
         \"post 0 -1 20 6 posted 1 every 5 3 post -1 20 4 set -16 64 335 12\",\
         \"post 65 -1 20 1 full 16384 3 load -1 20\",\
+        \"open 10\",\
+        \"begin 64 300\",\
         \"end 64 300 tick 10000 ran 5 3 done 9 foreign 27 absent 81 full 243 noticket \
         accepted 2 posted 12345678901 full 16383 2\",\
+        \"close\",\
+        \"finish\",\
         \"stop 3\"],\
         \"owners\":[],\
         \"regions\":[\"region 4 transient tick 70 owed 5 sections 16 chunks 12\",\
@@ -352,50 +408,37 @@ fn every_kind_of_line_in_json(rt: HostRuntime) -> Result<(), Fail> {
     Ok(())
 }
 
-/// A made session of one cluster, in short: 3 loads, 4 posts, 8 ticks in which 4 tasks ran, 2 regions with 18 sections, and 4 blocks
-/// whose numbers are 1 to 4. A load and a post that were refused don't count.
-fn made_session(alloc: Global) -> Result<Closing, AllocError> {
+/// The events of a made session of one cluster, in short: 3 loads, 4 posts, and 8 ticks in which 4 tasks ran. A load and a post
+/// that were refused don't count.
+fn made_events(alloc: Global) -> Result<Vec<Event>, AllocError> {
     let mut events = Vec::new(alloc);
-    for answer in [
-        Loaded::Counted,
-        Loaded::Full {
-            present: 16_384,
-            wanted: 1,
-        },
-        Loaded::Counted,
-        Loaded::Counted,
-    ] {
-        events.push(Event::Load {
-            caller: 0,
-            chunk: CHUNK,
-            answer,
-        })?;
-    }
-    for answer in [
-        Accept::Posted(1),
-        Accept::Posted(2),
-        Accept::Full {
-            present: 16_384,
-            wanted: 1,
-        },
-        Accept::Posted(3),
-        Accept::Posted(4),
-    ] {
-        events.push(Event::Post {
-            caller: 0,
-            chunk: CHUNK,
-            delay: 1,
-            action: Action::Load(CHUNK),
-            answer,
-        })?;
-    }
+    let full_load = Loaded::Full {
+        present: 16_384,
+        wanted: 1,
+    };
+    let loads = [Loaded::Counted, full_load, Loaded::Counted, Loaded::Counted];
+    push_loads(&mut events, &loads)?;
+    let full_post = Accept::Full {
+        present: 16_384,
+        wanted: 1,
+    };
+    push_posts(
+        &mut events,
+        &[Accept::Posted(1), Accept::Posted(2), full_post],
+    )?;
+    push_posts(&mut events, &[Accept::Posted(3), Accept::Posted(4)])?;
     for outcome in [Outcome::Done, Outcome::Foreign] {
         events.push(busy_end(alloc, &[outcome, Outcome::Done])?)?;
     }
     for tick in 1u64..7 {
         events.push(quiet_end(alloc, tick))?;
     }
-    let mut closing = closing_of(alloc, events)?;
+    Ok(events)
+}
+
+/// These events, 2 regions with 18 sections, and 4 blocks whose numbers are 1 to 4.
+fn made_session(alloc: Global) -> Result<Closing, AllocError> {
+    let mut closing = closing_of(alloc, made_events(alloc)?)?;
     for _ in 0u32..2 {
         closing.regions.push(RegionRow {
             id: 2,

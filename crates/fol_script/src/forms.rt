@@ -5,6 +5,7 @@ ghost use Rattle.fol_model.specs.TextCauses.{form_of};
 ghost use Rattle.std.specs.Option.{option_map};
 ghost use Rattle.fol_model.specs.TextForms as spec;
 
+use crate::printing::spelling;
 use fol_model::{Field, Keyword, TextKind};
 
 const CHUNK: Field = Field::Number {
@@ -46,54 +47,30 @@ const POST: &[Field] = &[CHUNK, CHUNK, DELAY, Field::Action];
 
 const SEND: &[Field] = &[ENTITY, SIDE, HEIGHT, SIDE];
 
+/// The words that have a meaning.
+const KEYWORDS: &[Keyword] = &[
+    Keyword::World,
+    Keyword::Grid,
+    Keyword::Block,
+    Keyword::Entity,
+    Keyword::Load,
+    Keyword::Unload,
+    Keyword::Post,
+    Keyword::Every,
+    Keyword::Run,
+    Keyword::End,
+    Keyword::Set,
+    Keyword::Copy,
+    Keyword::Send,
+    Keyword::Arrive,
+];
+
 /// The key that a word is.
 #[tactic(auto, unfolding(fol_model::specs::TextForms::key_of))]
 pub fn key_of(word: &[u8]) -> Option<Keyword>
     ensures { result ≡ spec.key_of word.now }
 {
-    if word == b"world".as_slice() {
-        return Some(Keyword::World);
-    }
-    if word == b"grid".as_slice() {
-        return Some(Keyword::Grid);
-    }
-    if word == b"block".as_slice() {
-        return Some(Keyword::Block);
-    }
-    if word == b"entity".as_slice() {
-        return Some(Keyword::Entity);
-    }
-    if word == b"load".as_slice() {
-        return Some(Keyword::Load);
-    }
-    if word == b"unload".as_slice() {
-        return Some(Keyword::Unload);
-    }
-    if word == b"post".as_slice() {
-        return Some(Keyword::Post);
-    }
-    if word == b"every".as_slice() {
-        return Some(Keyword::Every);
-    }
-    if word == b"run".as_slice() {
-        return Some(Keyword::Run);
-    }
-    if word == b"end".as_slice() {
-        return Some(Keyword::End);
-    }
-    if word == b"set".as_slice() {
-        return Some(Keyword::Set);
-    }
-    if word == b"copy".as_slice() {
-        return Some(Keyword::Copy);
-    }
-    if word == b"send".as_slice() {
-        return Some(Keyword::Send);
-    }
-    if word == b"arrive".as_slice() {
-        return Some(Keyword::Arrive);
-    }
-    None
+    KEYWORDS.iter().copied().find(|key| word == spelling(*key))
 }
 
 /// What follows an action word; none where it is no action word.

@@ -2,14 +2,48 @@
 
 ghost use Rattle.std.specs.Prelude.{◌≡◌, ◌++◌, List, [], ◌∷◌, OnOk, IfOk, IfSome, map, false};
 ghost use Rattle.std.specs.List.{list_any};
+ghost use Rattle.fol_model.specs.ActionCells.{natural_cell, chunk_cells, deed_cells};
+ghost use Rattle.fol_model.specs.Nesting.{deed_of};
 ghost use Rattle.fol_model.specs.Texts.{IsScriptText, command_row};
 ghost use Rattle.fol_text_laws.specs.Printed.{line_text, script_text};
 ghost use Rattle.fol_text_laws.specs.Laws.{is_repeat};
 
 use crate::printing::push_row;
 use crate::value_cells::{push_action, push_chunk, push_natural};
-use fol_model::{Cell, Command, Keyword, Script};
+use fol_model::{Action, Cell, ChunkPos, Command, Keyword, Script};
 use std::alloc::{AllocError, Global};
+
+/// Adds the chunk, the delay and the action of a task.
+fn push_task(
+    cells: &mut Vec<Cell>,
+    chunk: ChunkPos,
+    delay: u32,
+    action: &Action,
+) -> Result<(), AllocError>
+    ensures { OnOk result (cells.new.items ≡ cells.old.items ++ chunk_cells chunk ++ natural_cell delay ∷ deed_cells (deed_of action.now)) }
+{
+    push_chunk(cells, chunk)?;
+    push_natural(cells, delay)?;
+    push_action(cells, action)
+}
+
+/// Adds the chunk, the delay, the period, the count and the action of a repeated task.
+fn push_repeated(
+    cells: &mut Vec<Cell>,
+    chunk: ChunkPos,
+    delay: u32,
+    period: u32,
+    count: u32,
+    action: &Action,
+) -> Result<(), AllocError>
+    ensures { OnOk result (cells.new.items ≡ cells.old.items ++ chunk_cells chunk ++ natural_cell delay ∷ natural_cell period ∷ natural_cell count ∷ deed_cells (deed_of action.now)) }
+{
+    push_chunk(cells, chunk)?;
+    push_natural(cells, delay)?;
+    push_natural(cells, period)?;
+    push_natural(cells, count)?;
+    push_action(cells, action)
+}
 
 /// The word of a command, and its cells into the empty `cells`.
 fn command_cells(command: &Command, cells: &mut Vec<Cell>) -> Result<Keyword, AllocError>
@@ -30,9 +64,7 @@ fn command_cells(command: &Command, cells: &mut Vec<Cell>) -> Result<Keyword, Al
             delay,
             action,
         } => {
-            push_chunk(cells, *chunk)?;
-            push_natural(cells, *delay)?;
-            push_action(cells, action)?;
+            push_task(cells, *chunk, *delay, action)?;
             Ok(Keyword::Post)
         }
         Command::Every {
@@ -42,11 +74,7 @@ fn command_cells(command: &Command, cells: &mut Vec<Cell>) -> Result<Keyword, Al
             count,
             action,
         } => {
-            push_chunk(cells, *chunk)?;
-            push_natural(cells, *delay)?;
-            push_natural(cells, *period)?;
-            push_natural(cells, *count)?;
-            push_action(cells, action)?;
+            push_repeated(cells, *chunk, *delay, *period, *count, action)?;
             Ok(Keyword::Every)
         }
         Command::Run(ticks) => {

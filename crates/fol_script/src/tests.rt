@@ -76,9 +76,8 @@ fn block_and_entity_lines(rt: HostRuntime) -> Result<(), Fail> {
 }
 
 #[test]
-fn scripts_and_their_first_bad_lines(rt: HostRuntime) {
+fn script_lines_by_themselves(rt: HostRuntime) {
     let cases = [
-        ("", None),
         ("load 00 0\n", bad(1, Cause::Number)),
         ("load -0 0\n", bad(1, Cause::Number)),
         ("load +1 0\n", bad(1, Cause::Number)),
@@ -90,19 +89,27 @@ fn scripts_and_their_first_bad_lines(rt: HostRuntime) {
         ("load 0 0 # no comment\n", bad(1, Cause::Count)),
         ("load 0 99999999999999999999999999\n", bad(1, Cause::Range)),
         ("load 0 -99999999999999999999999999\n", bad(1, Cause::Range)),
-        (
-            "load -1000000 1000000\nload 1000001 0\n",
-            bad(2, Cause::Range),
-        ),
+        ("load 1000001 0\n", bad(1, Cause::Range)),
+        ("load -1000000 1000000\n", None),
+        ("post 0 0 set 0 0 0 1\n", bad(1, Cause::Word)),
+        ("post 0 0 1\n", bad(1, Cause::Count)),
+        ("post 0 0 1 arrive 1 0 0 0\n", bad(1, Cause::Word)),
+        ("post 0 0 1 every 1 1 load 0 0\n", bad(1, Cause::Word)),
+    ];
+    for (text, fault) in cases {
+        assert_eq!(rt; script_fault(rt.alloc(), text), fault, "{text}");
+    }
+}
+
+#[test]
+fn scripts_and_their_first_bad_lines(rt: HostRuntime) {
+    let cases = [
+        ("", None),
         (
             "load 0 0\nload 0 0\nunload 9 9\npost 0 0 0 set 0 0 0 1",
             bad(4, Cause::Range),
         ),
         ("load 0 0\nload 0 0\nunload 9 9", None),
-        ("post 0 0 set 0 0 0 1\n", bad(1, Cause::Word)),
-        ("post 0 0 1\n", bad(1, Cause::Count)),
-        ("post 0 0 1 arrive 1 0 0 0\n", bad(1, Cause::Word)),
-        ("post 0 0 1 every 1 1 load 0 0\n", bad(1, Cause::Word)),
         (
             "load 0 0\nevery 0 0 1 2 3 set 0 0 0 4\nrun 5\nend\n",
             bad(2, Cause::Word),

@@ -80,36 +80,30 @@ fn push_plain(cells: &mut Vec<Cell>, action: &Action) -> Result<(), AllocError>
         Action::Set { at, id } => {
             push_key(cells, Keyword::Set)?;
             push_block(cells, *at)?;
-            push_natural(cells, u32::from(*id))?;
-            Ok(())
+            push_natural(cells, u32::from(*id))
         }
         Action::Copy { at, to } => {
             push_key(cells, Keyword::Copy)?;
             push_block(cells, *at)?;
-            push_block(cells, *to)?;
-            Ok(())
+            push_block(cells, *to)
         }
         Action::Load(chunk) => {
             push_key(cells, Keyword::Load)?;
-            push_chunk(cells, *chunk)?;
-            Ok(())
+            push_chunk(cells, *chunk)
         }
         Action::Unload(chunk) => {
             push_key(cells, Keyword::Unload)?;
-            push_chunk(cells, *chunk)?;
-            Ok(())
+            push_chunk(cells, *chunk)
         }
         Action::Send { entity, to } => {
             push_key(cells, Keyword::Send)?;
             push_natural(cells, *entity)?;
-            push_block(cells, *to)?;
-            Ok(())
+            push_block(cells, *to)
         }
         Action::Arrive(entity) => {
             push_key(cells, Keyword::Arrive)?;
             push_natural(cells, entity.id)?;
-            push_block(cells, entity.at)?;
-            Ok(())
+            push_block(cells, entity.at)
         }
         Action::Post { .. } | Action::Every { .. } => unreachable!(),
     }
