@@ -27,9 +27,9 @@ use Rattle.fol_model.specs.Counting.{some_below}
 use Rattle.fol_laws.proofs.LongerRuns.{world_more}
 use Rattle.fol_laws.proofs.NumbersBelow.{some_below-gives}
 use Rattle.fol_laws.proofs.RuleLaws.{rules_hold}
-use Rattle.fol_core.specs.Meaning.{Meaning, Records, world_of}
-use Rattle.fol_core.specs.Answers.{IsGiven, LoadRecords, close_result, is_busy, is_owing, load_result}
-use Rattle.fol_core.specs.declared.answers.Close.TheVariants as closes
+use Rattle.fol_plain.specs.Meaning.{Meaning, Records, world_of}
+use Rattle.fol_plain.specs.Answers.{IsGiven, LoadRecords, close_result, is_busy, is_owing, load_result}
+use Rattle.fol_plain.specs.declared.answers.Close.TheVariants as closes
 use Rattle.fol_top.specs.Calm.{Calm}
 use Rattle.fol_top.specs.Progress.{Did, Executes, Finishes, IsCalm, NoneOwes, phase_after}
 use Rattle.fol_top.specs.Today.{is_load}

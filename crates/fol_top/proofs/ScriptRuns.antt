@@ -25,8 +25,8 @@ use Rattle.fol_model.specs.declared.closings.Closing.{Closing}
 use Rattle.fol_model.specs.Counting.{some_below}
 use Rattle.fol_laws.proofs.ListCounts.{count_by-cons}
 use Rattle.fol_laws.proofs.NumbersBelow.{some_below-gives}
-use Rattle.fol_core.specs.Meaning.{Meaning, world_of}
-use Rattle.fol_core.specs.Answers.{is_ticking_in}
+use Rattle.fol_plain.specs.Meaning.{Meaning, world_of}
+use Rattle.fol_plain.specs.Answers.{is_ticking_in}
 use Rattle.fol_top.specs.Calm.{Calm}
 use Rattle.fol_top.specs.Progress.{Did, Executes, Finishes, IsCalm, MayExecute, ToDo, phase_after}
 use Rattle.fol_top.specs.Today.{Runnable, is_built, is_load}

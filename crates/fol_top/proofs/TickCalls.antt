@@ -17,9 +17,9 @@ use Rattle.fol_model.specs.Run.{Run, world}
 use Rattle.fol_model.specs.IsScript.{ticks_of}
 use Rattle.fol_model.specs.Legal.{order, orders}
 use Rattle.fol_laws.proofs.LongerRuns.{world_more}
-use Rattle.fol_core.specs.Meaning.{Meaning, Records, Stays, world_of}
-use Rattle.fol_core.specs.Answers.{IsGiven, IsOut, end_event, is_owing}
-use Rattle.fol_core.specs.declared.ticks.Tick.{Tick}
+use Rattle.fol_plain.specs.Meaning.{Meaning, Records, Stays, world_of}
+use Rattle.fol_plain.specs.Answers.{IsGiven, IsOut, end_event, is_owing}
+use Rattle.fol_plain.specs.declared.ticks.Tick.{Tick}
 use Rattle.fol_top.specs.Progress.{Continues, Did, Executes, IsCalm, Ticked, phase_after}
 use Rattle.fol_top.proofs.CoreCalls.{orders_more, owing_given}
 use Rattle.fol_top.proofs.Growth.{begin_by, calm_ticked, end_by, phase_ticked, with_tick}

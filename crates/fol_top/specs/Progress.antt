@@ -12,8 +12,8 @@ use Rattle.fol_model.specs.World.{World}
 use Rattle.fol_model.specs.Run.{Run, world}
 use Rattle.fol_model.specs.declared.regions.State.TheVariants.{Ticking}
 use Rattle.fol_model.specs.declared.events.Event.TheVariants as events
-use Rattle.fol_core.specs.Meaning.{Meaning, Records, world_of}
-use Rattle.fol_core.specs.Answers.{is_owing}
+use Rattle.fol_plain.specs.Meaning.{Meaning, Records, world_of}
+use Rattle.fol_plain.specs.Answers.{is_owing}
 use Rattle.fol_top.specs.Calm.{Calm}
 use Rattle.fol_top.specs.Today.{is_built, is_load}
 

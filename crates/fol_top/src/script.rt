@@ -5,14 +5,14 @@ ghost use Rattle.fol_model.specs.GridNumbers.{IsGrid};
 ghost use Rattle.fol_model.specs.IsScript.{IsScript};
 ghost use Rattle.fol_model.specs.Legal.{Legal};
 ghost use Rattle.fol_model.specs.Outputs.{Outputs};
-ghost use Rattle.fol_core.specs.Meaning.{world_of};
+ghost use Rattle.fol_plain.specs.Meaning.{world_of};
 ghost use Rattle.fol_top.specs.Progress.{Finishes, IsCalm};
 ghost use Rattle.fol_top.specs.Today.{Runnable};
 
 use crate::steps::execute;
-use fol_core::{CloseFault, Core, Finish};
 use fol_io::Gate;
 use fol_model::{Closing, Opening, Script};
+use fol_plain::{CloseFault, Core, Finish};
 use std::alloc::{AllocError, Global};
 use std::sync::Wait;
 

@@ -3,13 +3,13 @@
 ghost use Rattle.std.specs.Prelude.{◌≡◌, ◌+◌, ◌≤◌, IsTrue, OnOk, true, false};
 ghost use Rattle.fol_model.specs.declared.scripts.Command.TheVariants as commands;
 ghost use Rattle.fol_model.specs.Geometry.{is_chunk};
-ghost use Rattle.fol_core.specs.Meaning.{world_of};
+ghost use Rattle.fol_plain.specs.Meaning.{world_of};
 ghost use Rattle.fol_top.specs.Progress.{Did, IsCalm, MayExecute, NoneOwes};
 
 use crate::ticks::run_tick;
-use fol_core::{Close, Core, Phase};
 use fol_io::Gate;
 use fol_model::{ChunkPos, Command};
+use fol_plain::{Close, Core, Phase};
 use std::alloc::{AllocError, Global};
 use std::sync::Wait;
 

@@ -1,12 +1,12 @@
 //! The ticks of a phase, by one worker.
 
 ghost use Rattle.std.specs.Prelude.{◌≡◌, true, OnOk};
-ghost use Rattle.fol_core.specs.Answers.{is_owing};
-ghost use Rattle.fol_core.specs.Meaning.{world_of};
+ghost use Rattle.fol_plain.specs.Answers.{is_owing};
+ghost use Rattle.fol_plain.specs.Meaning.{world_of};
 ghost use Rattle.fol_top.specs.Progress.{IsCalm, Ticked};
 
-use fol_core::{BeginAnswer, Core};
 use fol_io::Gate;
+use fol_plain::{BeginAnswer, Core};
 use std::alloc::{AllocError, Global};
 
 /// The number of the one worker.

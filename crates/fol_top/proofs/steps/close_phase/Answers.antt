@@ -1,5 +1,5 @@
 use Rattle.std.proofs.Common.{◌≡◌, sym, ◌∙◌}
-use Rattle.fol_core.specs.declared.answers.Close.TheVariants.{Closed, NotYet}
+use Rattle.fol_plain.specs.declared.answers.Close.TheVariants.{Closed, NotYet}
 use Rattle.fol_top.proofs.CoreCalls.{closes_now, did_close}
 use Rattle.fol_top.proofs.steps.close_phase.Goals as goal
 

@@ -1,0 +1,127 @@
+-- What each call of a core answers in a world, and what it records.
+use Rattle.std.specs.Prelude.{◌≡◌, ℕ, ◌+◌, ◌<◌, Bool, true, false, ◌&&◌, ◌||◌, nat_lt, if◌then◌else◌, List, filter, length, Option, Some, None}
+use Rattle.fol_model.specs.declared.places.ChunkPos.{ChunkPos}
+use Rattle.fol_model.specs.declared.regions.State.{State}
+use Rattle.fol_model.specs.declared.regions.State.TheVariants.{Ticking}
+use Rattle.fol_model.specs.declared.events.Loaded.{Loaded}
+use Rattle.fol_model.specs.declared.events.Loaded.TheVariants as loads
+use Rattle.fol_model.specs.declared.events.Event.{Event}
+use Rattle.fol_model.specs.declared.events.Event.TheVariants as events
+use Rattle.fol_model.specs.declared.tasks.Ran.{Ran}
+use Rattle.fol_model.specs.Universe.{all_chunks}
+use Rattle.fol_model.specs.Counting.{some_below, least}
+use Rattle.fol_model.specs.GridState.{is_ready, is_ticking}
+use Rattle.fol_model.specs.World.{World}
+use Rattle.fol_model.specs.End.{answers, run_down, ticked}
+use Rattle.fol_model.specs.Run.{load_answer}
+use Rattle.fol_model.specs.Outputs.{is_chunk_of}
+use Rattle.fol_plain.specs.Meaning.{Meaning, Records, Stays, world_of}
+use Rattle.fol_plain.specs.declared.answers.Phase.{Phase}
+use Rattle.fol_plain.specs.declared.answers.Phase.TheVariants as phases
+use Rattle.fol_plain.specs.declared.answers.Close.{Close}
+use Rattle.fol_plain.specs.declared.answers.Close.TheVariants as closes
+use Rattle.fol_plain.specs.declared.answers.CloseFault.{CloseFault}
+use Rattle.fol_plain.specs.declared.answers.CloseFault.TheVariants as faults
+use Rattle.fol_plain.specs.declared.answers.Finish.{Finish}
+use Rattle.fol_plain.specs.declared.answers.Finish.TheVariants as finishes
+use Rattle.fol_plain.specs.declared.answers.BeginAnswer.{BeginAnswer}
+use Rattle.fol_plain.specs.declared.answers.BeginAnswer.TheVariants.{Got, NotReady, NotOwing, Over}
+use Rattle.fol_plain.specs.declared.ticks.Tick.{Tick}
+
+-- Finish or Stop stands in the history
+abbrev pub is_over : World → Bool
+is_over w = w.finished || w.stopped
+
+-- the region is Ready and owes a tick
+abbrev pub is_owing : World → ℕ → Bool
+is_owing w r = is_ready (w.grid.state r) && nat_lt 0 (w.owed r)
+
+-- a phase can't be closed for this region
+abbrev pub is_busy : World → ℕ → Bool
+is_busy w r = is_ticking (w.grid.state r) || is_owing w r
+
+-- ---- loads
+
+abbrev pub load_result : World → ChunkPos → Loaded
+load_result w c = if w.finished then loads.Over else load_answer w c
+
+-- every answer but Over is recorded
+abbrev pub LoadRecords : Meaning → Meaning → ℕ → ChunkPos → Loaded → Type 0
+LoadRecords old new caller c loads.Over = Stays old new
+LoadRecords old new caller c answer = Records old new caller (events.Load caller c answer)
+
+-- ---- phases
+
+abbrev pub phase_result : World → Phase
+phase_result w = if is_over w then phases.Over else (if w.in_phase then phases.InPhase else phases.Opened)
+
+abbrev pub PhaseRecords : Meaning → Meaning → ℕ → ℕ → Phase → Type 0
+PhaseRecords old new by n phases.Opened = Records old new by (events.PhaseOpen n)
+PhaseRecords old new by n answer = Stays old new
+
+abbrev pub close_result : World → Close
+close_result w =
+    if is_over w then closes.Over
+    else (if w.in_phase then (if some_below (is_busy w) w.grid.next then closes.NotYet (least (is_busy w) w.grid.next) else closes.Closed)
+    else closes.NoPhase)
+
+abbrev pub CloseRecords : Meaning → Meaning → ℕ → Close → Type 0
+CloseRecords old new by closes.Closed = Records old new by events.PhaseClose
+CloseRecords old new by answer = Stays old new
+
+abbrev pub finish_result : World → Finish
+finish_result w = if is_over w then finishes.Over else (if w.in_phase then finishes.InPhase else finishes.Finished)
+
+abbrev pub FinishRecords : Meaning → Meaning → ℕ → Finish → Type 0
+FinishRecords old new by finishes.Finished = Records old new by events.Finish
+FinishRecords old new by answer = Stays old new
+
+-- ---- ticks
+
+-- the tick of a Begin of this region by this worker
+pub record IsTick (m : Meaning) (by_worker id : ℕ) (tick : Tick) : Type 0 where
+  pub worker : tick.worker ≡ by_worker
+  pub region : tick.region ≡ id
+  pub begun : tick.begun ≡ length m.history
+  pub chunks : tick.chunks.items ≡ filter (is_chunk_of (world_of m).grid id) all_chunks
+
+-- each answer with what has to hold for it, and what it leaves
+abbrev pub Begins : Meaning → Meaning → ℕ → ℕ → ℕ → BeginAnswer → Type 0
+Begins old new by worker id (Got tick) = (is_over (world_of old) ≡ false) × (is_owing (world_of old) id ≡ true) × IsTick old worker id tick × Records old new by (events.Begin worker id)
+Begins old new by worker id (NotReady state) = (is_over (world_of old) ≡ false) × (is_ready state ≡ false) × (state ≡ (world_of old).grid.state id) × Stays old new
+Begins old new by worker id NotOwing = (is_over (world_of old) ≡ false) × (is_ready ((world_of old).grid.state id) ≡ true) × ((world_of old).owed id ≡ 0) × Stays old new
+Begins old new by worker id Over = (is_over (world_of old) ≡ true) × Stays old new
+
+-- the region of the tick ticks, for its worker
+pub record IsOut (w : World) (tick : Tick) : Type 0 where
+  pub ticks : w.grid.state tick.region ≡ Ticking
+  pub worker : w.worker tick.region ≡ tick.worker
+
+-- the End of the tick in which these tasks ran
+abbrev pub end_event : World → ℕ → ℕ → List Ran → Event
+end_event w worker r ran = events.End worker r (w.tick r + 1) ran (answers (run_down w r ran) (ticked w r ran).wishes)
+
+-- ---- the closing
+
+abbrev pub is_ticking_in : World → ℕ → Bool
+is_ticking_in w r = is_ticking (w.grid.state r)
+
+-- a region ticks, and this is the lowest such one; want of memory needs no cause
+abbrev pub Faults : World → CloseFault → Type 0
+Faults w (faults.Ticking r) = (some_below (is_ticking_in w) w.grid.next ≡ true) × (r ≡ least (is_ticking_in w) w.grid.next)
+Faults w faults.NoMemory = Unit {0}
+
+-- ---- queries
+
+-- the id was given out to a region
+pub record IsGiven (w : World) (id : ℕ) : Type 0 where
+  pub above : 0 < id
+  pub below : id < w.grid.next
+
+-- nothing for 0
+abbrev pub some_id : ℕ → Option ℕ
+some_id r = if nat_lt 0 r then Some r else None
+
+-- the state of an id that was given out
+abbrev pub state_result : World → ℕ → Option State
+state_result w id = if (nat_lt 0 id && nat_lt id w.grid.next) then Some (w.grid.state id) else None

@@ -1,0 +1,5 @@
+pub mod Meaning
+pub mod Answers
+pub mod OneRegion
+pub mod Room
+pub mod Rows

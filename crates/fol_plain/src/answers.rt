@@ -1,0 +1,58 @@
+//! What the calls of a core answer.
+
+use crate::ticks::Tick;
+use fol_model::State;
+
+/// What opening a phase came to.
+#[derive(Clone, Copy, Debug, PartialEq, Eq)]
+pub enum Phase {
+    Opened,
+    /// A phase is open already.
+    InPhase,
+    /// Finish or Stop stands in the history.
+    Over,
+}
+
+/// What beginning a tick came to.
+#[derive(Drop)]
+pub enum BeginAnswer {
+    /// The region ticks, and this is its tick.
+    Got(Tick),
+    /// The region has this state, which is not Ready.
+    NotReady(State),
+    /// The region is Ready and owes no tick.
+    NotOwing,
+    /// Finish or Stop stands in the history.
+    Over,
+}
+
+/// What closing a phase came to.
+#[derive(Clone, Copy, Debug, PartialEq, Eq)]
+pub enum Close {
+    Closed,
+    /// This region ticks, or is Ready and owes a tick; it is the lowest such one.
+    NotYet(u64),
+    /// No phase is open.
+    NoPhase,
+    /// Finish or Stop stands in the history.
+    Over,
+}
+
+/// What finishing came to.
+#[derive(Clone, Copy, Debug, PartialEq, Eq)]
+pub enum Finish {
+    Finished,
+    /// A phase is open.
+    InPhase,
+    /// Finish or Stop stands in the history.
+    Over,
+}
+
+/// Why there is no closing.
+#[derive(Clone, Copy, Debug, PartialEq, Eq)]
+pub enum CloseFault {
+    /// This region ticks; it is the lowest such one.
+    Ticking(u64),
+    /// Want of memory.
+    NoMemory,
+}
