@@ -1,29 +1,37 @@
 //! The program: `fol run WORLD SCRIPT 1`.
 //!
-//! It gives the top call the real files and the standard streams, and ends with the code of its status.
+//! It gives the top call the real files and the standard streams, and ends with the code of its status. Where memory for the words of
+//! the command line is not found, it ends as the top call does where it finds none.
 #![tactic(auto)]
 
-use fol_io::{FileShelf, QuietGate, StdSink};
+ghost use Rattle.std.specs.Prelude.{◌≡◌};
+
+use fol_io::{FileShelf, QuietGate, Sink, StdSink};
 use fol_top::run;
+use std::alloc::{AllocError, Global};
 use std::process::ExitCode;
 use std::{env, io};
 
+/// The exit code where memory was not found.
+const NO_MEMORY: u8 = 7;
+
 fn main(rt: HostRuntime) -> io::Result<ExitCode> {
-    let alloc = rt.alloc();
-    let mut arguments = Vec::new(alloc);
-    for argument in env::args(&rt)?.skip(1) {
-        arguments.push(argument)?;
-    }
-    let mut words = Vec::new(alloc);
-    for argument in arguments.iter() {
-        words.push(argument.as_str())?;
-    }
+    let arguments = match arguments(&rt) {
+        Ok(arguments) => arguments,
+        Err(error) if error.kind() == io::ErrorKind::OutOfMemory => {
+            return Ok(ExitCode::from(tell_no_memory(&rt)));
+        }
+        Err(error) => return Err(error),
+    };
+    let Ok(words) = words_of(rt.alloc(), &arguments) else {
+        return Ok(ExitCode::from(tell_no_memory(&rt)));
+    };
     let mut shelf = FileShelf::new(&rt);
     let mut out = StdSink::out(&rt);
     let mut err = StdSink::err(&rt);
     let status = run(
         &rt,
-        alloc,
+        rt.alloc(),
         words.as_slice(),
         &mut shelf,
         &mut out,
@@ -31,4 +39,30 @@ fn main(rt: HostRuntime) -> io::Result<ExitCode> {
         &QuietGate,
     );
     Ok(ExitCode::from(status.code))
+}
+
+/// The command line without the program's own name.
+fn arguments(rt: &HostRuntime) -> io::Result<Vec<String>> {
+    let mut arguments = Vec::new(rt.alloc());
+    for argument in env::args(rt)?.skip(1) {
+        arguments.push(argument)?;
+    }
+    Ok(arguments)
+}
+
+/// The arguments as the top call takes them.
+fn words_of<'a>(alloc: Global, arguments: &'a [String]) -> Result<Vec<&'a str>, AllocError> {
+    let mut words = Vec::new(alloc);
+    for argument in arguments.iter() {
+        words.push(argument.as_str())?;
+    }
+    Ok(words)
+}
+
+/// Tells that memory was not found, and returns the exit code for it. A fault of the standard error changes nothing.
+fn tell_no_memory(rt: &HostRuntime) -> u8
+    ensures { result ≡ 7 }
+{
+    let _answer = StdSink::err(rt).put("fol: no memory\n".as_bytes());
+    NO_MEMORY
 }
