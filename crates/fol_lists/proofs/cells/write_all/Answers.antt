@@ -1,0 +1,15 @@
+use Rattle.std.proofs.Common.{arith}
+use Rattle.fol_lists.proofs.Written.{next_fit, next_room, written_next}
+use Rattle.fol_lists.proofs.cells.write_all.Goals as goal
+
+pub write-requires-clause-fit : goal.write-requires-clause-fit
+write-requires-clause-fit g c = next_fit _ _ _ _ _ c.loop-i.invariant.written (omega arith) _ c.requires.fit
+
+pub write-requires-clause-room : goal.write-requires-clause-room
+write-requires-clause-room g c = omega (arith, next_room _ _ _ _ _ c.loop-i.invariant.written (omega arith) (record { from = 0; to = 0 }), c.requires.room)
+
+pub loop-i-preserved : goal.loop-i-preserved
+loop-i-preserved g c = record {
+  written = written_next _ _ _ _ _ c.loop-i.invariant.written (omega arith) _ _ _ c.write.ensures.written c.write.ensures.from c.write.ensures.to;
+  capacity = omega arith;
+}

@@ -1,0 +1,19 @@
+-- Lists by number.
+use Rattle.std.specs.Prelude.{ℕ, List, [], length, sum_by, slice_index_or, slice_set}
+
+-- a list for each number from 0 on, and how many elements they may hold together
+pub record Numbered (T : Type 0) : Type 0 where
+  pub lists : List (List T)
+  pub room : ℕ
+
+-- the list with this number; empty past the last
+abbrev pub list_at : {T : Type 0} → Numbered T → ℕ → List T
+list_at v n = slice_index_or v.lists n []
+
+-- how many elements the lists hold together
+abbrev pub total : {T : Type 0} → Numbered T → ℕ
+total v = sum_by length v.lists
+
+-- one list is another one now, and all else stays
+abbrev pub with_list : {T : Type 0} → Numbered T → ℕ → List T → Numbered T
+with_list v n xs = record v { lists = slice_set v.lists n xs }

@@ -1,0 +1,28 @@
+-- Lists by where they begin and end among all elements.
+use Rattle.std.specs.Prelude.{ℕ, ◌<◌, ◌≤◌, ◌*◌, ◌^◌, List, length, map, sum_by}
+use Rattle.std.specs.List.{All, slice_range}
+use Rattle.fol_lists.specs.declared.spans.Span.{Span}
+
+abbrev pub piece_of : {T : Type 0} → List T → Span → List T
+piece_of cells span = slice_range cells span.from span.to
+
+-- the lists, one for each span
+abbrev pub pieces_of : {T : Type 0} → List T → List Span → List (List T)
+pieces_of cells spans = map (piece_of cells) spans
+
+-- the span lies within so many elements
+pub record IsSpan (n : ℕ) (span : Span) : Type 0 where
+  pub rising : span.from ≤ span.to
+  pub within : span.to ≤ n
+
+-- the spans lie among the elements, and the lists hold at most `room` elements together
+pub record AreSpans {T : Type 0} (cells : List T) (spans : List Span) (room : ℕ) : Type 0 where
+  pub fit : All (IsSpan (length cells)) spans
+  pub few : sum_by length (pieces_of cells spans) ≤ room
+  pub used : length cells ≤ 2 * room
+
+-- the memory for the elements, and as much again to write them close together
+pub record HasRoom (room capacity other : ℕ) : Type 0 where
+  pub few : room < 2 ^ 62
+  pub cells : 2 * room ≤ capacity
+  pub spare : 2 * room ≤ other

@@ -1,0 +1,179 @@
+//! Elements in one vector, and the lists as spans of it.
+
+ghost use Rattle.std.specs.Prelude.{◌≡◌, ◌≢◌, ℕ, ◌+◌, ◌-◌, ◌*◌, ◌<◌, ◌≤◌, ◌^◌, List, [], ◌++◌, length, slice_set, sum_by, vec_len};
+ghost use Rattle.std.specs.List.{All, slice_range, slice_index_or};
+ghost use Rattle.std.specs.Vec.{vec_capacity};
+ghost use Rattle.fol_lists.specs.Spans.{AreSpans, HasRoom, IsSpan, piece_of, pieces_of};
+
+use crate::spans::Span;
+use std::mem;
+
+/// Writes one list behind those of another vector, and says where it is there.
+fn write<T: Copy>(cells: &[T], span: Span, into: &mut Vec<T>) -> Span
+    requires fit { IsSpan (length cells.now) span }
+    requires room { length into.old.items + length (piece_of cells.now span) ≤ vec_capacity into.old }
+    ensures written { into.new.items ≡ into.old.items ++ piece_of cells.now span }
+    ensures from { result.from ≡ length into.old.items }
+    ensures to { result.to ≡ length into.new.items }
+    ensures capacity { vec_capacity into.old ≤ vec_capacity into.new }
+{
+    let from = into.len();
+    let _ = into.extend_from_slice(&cells[span.from..span.to]);
+    Span {
+        from,
+        to: into.len(),
+    }
+}
+
+/// Writes all lists into an empty vector, one behind the other.
+fn write_all<T: Copy>(cells: &[T], spans: &mut [Span], into: &mut Vec<T>)
+    requires fit { All (IsSpan (length cells.now)) spans.old }
+    requires none { into.old.items ≡ [] }
+    requires room { sum_by length (pieces_of cells.now spans.old) ≤ vec_capacity into.old }
+    ensures lists { pieces_of into.new.items spans.new ≡ pieces_of cells.now spans.old }
+    ensures fit { All (IsSpan (length into.new.items)) spans.new }
+    ensures used { length into.new.items ≡ sum_by length (pieces_of cells.now spans.old) }
+    ensures capacity { vec_capacity into.old ≤ vec_capacity into.new }
+{
+    for i in 0..spans.len() {
+        spans[i] = write(cells, spans[i], into);
+    }
+}
+
+/// Writes the lists close together, where so many more elements would not find room otherwise.
+fn make_room<T: Copy>(
+    cells: &mut Vec<T>,
+    spare: &mut Vec<T>,
+    spans: &mut [Span],
+    room: usize,
+    more: usize,
+)
+    requires lists { AreSpans cells.old.items spans.old room }
+    requires none { spare.old.items ≡ [] }
+    requires capacity { 2 * room ≤ vec_capacity cells.old }
+    requires spare { 2 * room ≤ vec_capacity spare.old }
+    requires few { room < 2 ^ 62 }
+    requires more { more ≤ room }
+    ensures same { pieces_of cells.new.items spans.new ≡ pieces_of cells.old.items spans.old }
+    ensures fit { All (IsSpan (length cells.new.items)) spans.new }
+    ensures room { length cells.new.items + more ≤ 2 * room }
+    ensures none { spare.new.items ≡ [] }
+    ensures capacity { 2 * room ≤ vec_capacity cells.new }
+    ensures spare { 2 * room ≤ vec_capacity spare.new }
+{
+    if cells.len() + more > 2 * room {
+        write_all(cells, spans, spare);
+        mem::swap(cells, spare);
+        spare.clear();
+    }
+}
+
+/// Writes the elements of a span once more, behind all others.
+fn write_again<T: Copy>(cells: &mut Vec<T>, span: Span)
+    requires fit { IsSpan (length cells.old.items) span }
+    requires room { length cells.old.items + (span.to - span.from) ≤ vec_capacity cells.old }
+    ensures written { cells.new.items ≡ cells.old.items ++ piece_of cells.old.items span }
+    ensures capacity { vec_capacity cells.old ≤ vec_capacity cells.new }
+{
+    let _ = cells.extend_from_within(span.from..span.to);
+}
+
+/// Moves a list behind all others, unless it is the last already.
+fn make_last<T: Copy>(cells: &mut Vec<T>, spans: &mut [Span], n: usize)
+    requires fit { All (IsSpan (length cells.old.items)) spans.old }
+    requires number { n < length spans.old }
+    requires room { length cells.old.items + length (slice_index_or (pieces_of cells.old.items spans.old) n []) ≤ vec_capacity cells.old }
+    ensures same { pieces_of cells.new.items spans.new ≡ pieces_of cells.old.items spans.old }
+    ensures fit { All (IsSpan (length cells.new.items)) spans.new }
+    ensures last { (d : Span) → (slice_index_or spans.new n d).to ≡ length cells.new.items }
+    ensures used { length cells.new.items ≤ length cells.old.items + length (slice_index_or (pieces_of cells.old.items spans.old) n []) }
+    ensures capacity { vec_capacity cells.old ≤ vec_capacity cells.new }
+{
+    let span = spans[n];
+    if span.to != cells.len() {
+        let from = cells.len();
+        write_again(cells, span);
+        spans[n] = Span {
+            from,
+            to: cells.len(),
+        };
+    }
+}
+
+/// Makes a list the last one, with room for so many more elements behind it.
+fn open<T: Copy>(
+    cells: &mut Vec<T>,
+    spare: &mut Vec<T>,
+    spans: &mut [Span],
+    room: usize,
+    n: usize,
+    more: usize,
+)
+    requires lists { AreSpans cells.old.items spans.old room }
+    requires none { spare.old.items ≡ [] }
+    requires memory { HasRoom room (vec_capacity cells.old) (vec_capacity spare.old) }
+    requires number { n < length spans.old }
+    requires more { length (slice_index_or (pieces_of cells.old.items spans.old) n []) + more ≤ room }
+    ensures same { pieces_of cells.new.items spans.new ≡ pieces_of cells.old.items spans.old }
+    ensures fit { All (IsSpan (length cells.new.items)) spans.new }
+    ensures last { (d : Span) → (slice_index_or spans.new n d).to ≡ length cells.new.items }
+    ensures room { length cells.new.items + more ≤ 2 * room }
+    ensures none { spare.new.items ≡ [] }
+    ensures memory { HasRoom room (vec_capacity cells.new) (vec_capacity spare.new) }
+{
+    let len = spans[n].len();
+    make_room(cells, spare, spans, room, len + more);
+    make_last(cells, spans, n);
+}
+
+/// Puts elements behind those of a list.
+pub fn grow<T: Copy>(
+    cells: &mut Vec<T>,
+    spare: &mut Vec<T>,
+    spans: &mut [Span],
+    room: usize,
+    n: usize,
+    xs: &[T],
+)
+    requires lists { AreSpans cells.old.items spans.old room }
+    requires none { spare.old.items ≡ [] }
+    requires memory { HasRoom room (vec_capacity cells.old) (vec_capacity spare.old) }
+    requires number { n < length spans.old }
+    requires room { sum_by length (pieces_of cells.old.items spans.old) + length xs.now ≤ room }
+    ensures grown { pieces_of cells.new.items spans.new ≡ slice_set (pieces_of cells.old.items spans.old) n (slice_index_or (pieces_of cells.old.items spans.old) n [] ++ xs.now) }
+    ensures lists { AreSpans cells.new.items spans.new room }
+    ensures none { spare.new.items ≡ [] }
+    ensures memory { HasRoom room (vec_capacity cells.new) (vec_capacity spare.new) }
+{
+    open(cells, spare, spans, room, n, xs.len());
+    let _ = cells.extend_from_slice(xs);
+    spans[n].to = cells.len();
+}
+
+/// Puts the elements of another list behind those of a list, and leaves the other one empty.
+pub fn join<T: Copy>(
+    cells: &mut Vec<T>,
+    spare: &mut Vec<T>,
+    spans: &mut [Span],
+    room: usize,
+    n: usize,
+    other: usize,
+)
+    requires lists { AreSpans cells.old.items spans.old room }
+    requires none { spare.old.items ≡ [] }
+    requires memory { HasRoom room (vec_capacity cells.old) (vec_capacity spare.old) }
+    requires number { n < length spans.old }
+    requires other { other < length spans.old }
+    requires apart { n ≢ other }
+    ensures joined { pieces_of cells.new.items spans.new ≡ slice_set (slice_set (pieces_of cells.old.items spans.old) n (slice_index_or (pieces_of cells.old.items spans.old) n [] ++ slice_index_or (pieces_of cells.old.items spans.old) other [])) other [] }
+    ensures lists { AreSpans cells.new.items spans.new room }
+    ensures none { spare.new.items ≡ [] }
+    ensures memory { HasRoom room (vec_capacity cells.new) (vec_capacity spare.new) }
+{
+    let more = spans[other].len();
+    open(cells, spare, spans, room, n, more);
+    let moved = spans[other];
+    write_again(cells, moved);
+    spans[n].to = cells.len();
+    spans[other] = Span::EMPTY;
+}

@@ -1,0 +1,177 @@
+//! Lists by number.
+
+ghost use Rattle.std.specs.Prelude.{◌≡◌, ◌≢◌, ◌+◌, ◌<◌, ◌≤◌, ◌^◌, IfOk, OnOk, OnErr, [], ◌++◌, length, replicate, slice_set};
+ghost use Rattle.fol_lists.specs.Numbered.{Numbered, list_at, total, with_list};
+
+use crate::cells::{grow, join};
+use crate::spans::Span;
+use std::alloc::{AllocError, Global};
+use std::marker::Model;
+
+/// A list for each number from 0 on. Contracts see them as a list of lists, beside how many elements they may hold together.
+#[derive(Drop)]
+pub struct Lists<T: Copy> {
+    /// The elements. Each list is a span of them; what lies in no span was replaced.
+    cells: Vec<T>,
+    /// Where the lists are written close together once `cells` is used up. Empty between calls.
+    spare: Vec<T>,
+    spans: Vec<Span>,
+    /// How many elements the lists may hold together; the memory holds twice as many.
+    room: usize,
+}
+
+impl<T: Copy> Model for Lists<T> {
+    ghost use Rattle.std.specs.Prelude.{◌≡◌, []};
+    ghost use Rattle.std.specs.Vec.{vec_capacity};
+    ghost use Rattle.fol_lists.specs.Numbered.{Numbered};
+    ghost use Rattle.fol_lists.specs.Spans.{AreSpans, HasRoom, pieces_of};
+
+    ghost Value = { Numbered T };
+
+    ghost view = { λ s. record { lists = pieces_of s.cells.items s.spans.items; room = s.room } };
+
+    ghost invariant = { λ s. AreSpans s.cells.items s.spans.items s.room × (s.spare.items ≡ []) × HasRoom s.room (vec_capacity s.cells) (vec_capacity s.spare) };
+}
+
+impl<T: Copy> Lists<T> {
+    /// Empty lists with the numbers below `numbers`, with room for `room` elements together.
+    ///
+    /// Writing the lists close together goes over all numbers, so `room` should be no less than `numbers`.
+    pub fn new(alloc: Global, numbers: usize, room: usize) -> Result<Lists<T>, AllocError>
+        requires { room < 2 ^ 62 }
+        ensures { IfOk result (λ v. v ≡ record { lists = replicate numbers []; room = room }) }
+    {
+        let mut spans = Vec::with_capacity(alloc, numbers)?;
+        spans.resize(numbers, Span::EMPTY)?;
+        Ok(Lists {
+            cells: Vec::with_capacity(alloc, 2 * room)?,
+            spare: Vec::with_capacity(alloc, 2 * room)?,
+            spans,
+            room,
+        })
+    }
+
+    /// How many lists there are, the empty ones too.
+    pub fn numbers(&self) -> usize
+        ensures { result ≡ length self.now.lists }
+    {
+        self.spans.len()
+    }
+
+    /// How many elements the lists may hold together.
+    pub fn room(&self) -> usize
+        ensures { result ≡ self.now.room }
+    {
+        self.room
+    }
+
+    /// The list with this number.
+    pub fn get(&self, n: usize) -> &[T]
+        requires { n < length self.now.lists }
+        ensures { result.now ≡ list_at self.now n }
+    {
+        let span = self.spans[n];
+        &self.cells[span.from..span.to]
+    }
+
+    /// Makes a list empty.
+    pub fn clear(&mut self, n: usize)
+        requires { n < length self.old.lists }
+        ensures { self.new ≡ with_list self.old n [] }
+    {
+        self.spans[n] = Span::EMPTY;
+    }
+
+    /// Puts elements behind those of a list. Takes no memory.
+    pub fn extend(&mut self, n: usize, xs: &[T])
+        requires number { n < length self.old.lists }
+        requires room { total self.old + length xs.now ≤ self.old.room }
+        ensures { self.new ≡ with_list self.old n (list_at self.old n ++ xs.now) }
+    {
+        grow(
+            &mut self.cells,
+            &mut self.spare,
+            &mut self.spans,
+            self.room,
+            n,
+            xs,
+        );
+    }
+
+    /// Puts other elements in place of a list's own. Takes no memory.
+    pub fn put(&mut self, n: usize, xs: &[T])
+        requires number { n < length self.old.lists }
+        requires room { total (with_list self.old n xs.now) ≤ self.old.room }
+        ensures { self.new ≡ with_list self.old n xs.now }
+    {
+        self.clear(n);
+        self.extend(n, xs);
+    }
+
+    /// Puts the elements of another list behind those of a list, and leaves the other one empty. Takes no memory.
+    pub fn append(&mut self, n: usize, other: usize)
+        requires number { n < length self.old.lists }
+        requires other { other < length self.old.lists }
+        requires apart { n ≢ other }
+        ensures { self.new ≡ with_list (with_list self.old n (list_at self.old n ++ list_at self.old other)) other [] }
+    {
+        join(
+            &mut self.cells,
+            &mut self.spare,
+            &mut self.spans,
+            self.room,
+            n,
+            other,
+        );
+    }
+
+    /// Exchanges two lists.
+    pub fn swap(&mut self, n: usize, other: usize)
+        requires number { n < length self.old.lists }
+        requires other { other < length self.old.lists }
+        ensures { self.new ≡ with_list (with_list self.old n (list_at self.old other)) other (list_at self.old n) }
+    {
+        let span = self.spans[n];
+        self.spans[n] = self.spans[other];
+        self.spans[other] = span;
+    }
+
+    /// Makes room for so many elements together. The lists stay either way.
+    pub fn reserve_room(&mut self, room: usize) -> Result<(), AllocError>
+        requires { room < 2 ^ 62 }
+        ensures lists { self.new.lists ≡ self.old.lists }
+        ensures ok { OnOk result (room ≤ self.new.room) }
+        ensures room { self.old.room ≤ self.new.room }
+    {
+        if room > self.room {
+            self.cells.reserve(2 * room - self.cells.len())?;
+            self.spare.reserve(2 * room)?;
+            self.room = room;
+        }
+        Ok(())
+    }
+
+    /// Adds empty lists, as many as are wanted. Nothing changes where memory is short.
+    pub fn add_numbers(&mut self, more: usize) -> Result<(), AllocError>
+        requires { length self.old.lists + more < 2 ^ 62 }
+        ensures ok { OnOk result (self.new ≡ record self.old { lists = self.old.lists ++ replicate more [] }) }
+        ensures err { OnErr result (self.new ≡ self.old) }
+    {
+        self.spans.resize(self.spans.len() + more, Span::EMPTY)?;
+        Ok(())
+    }
+
+    /// The same lists with the same room, in memory of their own. Answers want of memory alone.
+    pub fn copy(&self, alloc: Global) -> Result<Lists<T>, AllocError>
+        ensures { IfOk result (λ v. v ≡ self.now) }
+    {
+        let mut cells = Vec::with_capacity(alloc, 2 * self.room)?;
+        cells.extend_from_slice(&self.cells)?;
+        Ok(Lists {
+            cells,
+            spare: Vec::with_capacity(alloc, 2 * self.room)?,
+            spans: Vec::from_slice(alloc, &self.spans)?,
+            room: self.room,
+        })
+    }
+}

@@ -1,0 +1,231 @@
+-- What the calls of a region table keep and say.
+use Rattle.std.proofs.Common.{◌≡◌, ℕ, ◌+◌, ◌-◌, ◌*◌, ◌≤◌, ◌<◌, refl, sym, ◌∙◌, ap, arith, Bool, true, false, inl, inr, not, ◌&&◌, List, [], length}
+use Rattle.std.specs.Prelude.{◌≢◌, nat_eq, nat_lt, if◌then◌else◌, Some, None, slice_index_or}
+use Rattle.std.proofs.Math.Path.{fun_ext}
+use Rattle.std.proofs.lemmas.Bool.{cases_Bool, cases_eq, eq-eqb, ne_eqb, eqb-true, true≢false, lt-ltb, le-ltb}
+use Rattle.fol_model.specs.declared.places.SectionPos.{SectionPos}
+use Rattle.fol_model.specs.declared.places.ChunkPos.{ChunkPos}
+use Rattle.fol_model.specs.declared.grids.Grid.{Grid}
+use Rattle.fol_model.specs.declared.regions.State.{State}
+use Rattle.fol_model.specs.declared.regions.State.TheVariants.{Transient, Ready, Ticking, Dead}
+use Rattle.fol_model.specs.GridNumbers.{IsGrid}
+use Rattle.fol_model.specs.GridState.{GridState, at_chunk, empty, with_state, is_ready}
+use Rattle.fol_model.specs.Begin.{begin}
+use Rattle.fol_model.specs.Drop.{drop_hold}
+use Rattle.fol_model.specs.Release.{release}
+use Rattle.fol_model.specs.Rules.{Rules}
+use Rattle.fol_laws.proofs.SmallSteps.{begin_keeps, drop_keeps, empty_keeps}
+use Rattle.fol_laws.proofs.ReleaseKeeps.{release_keeps}
+use Rattle.fol_sections.specs.Table.{IsEmpty, IsSame, holds_of, presence_of, removed}
+use Rattle.fol_sections.specs.Table as sections
+use Rattle.fol_regions.specs.Answers.{begin_answer, begun_state, remove_answer, some_id, state_answer}
+use Rattle.fol_regions.specs.Book.{Book, HasRoomFor, IsAlike, IsBook, KeepsRoom, SetsState, owner_of, state_of, waits_of, is_live, rows_of, ahead_of, behind_of}
+use Rattle.fol_regions.specs.Slots.{SlotTable, slot_of, slot_state}
+use Rattle.fol_lists.specs.Numbered.{Numbered, total}
+use Rattle.fol_regions.proofs.PartingSteps.{count_same}
+use Rattle.std.specs.List.{list_any}
+use Rattle.fol_regions.specs.Kept.{IsKept}
+use Rattle.fol_regions.specs.Released.{IsPresence, grid_of}
+use Rattle.fol_regions.specs.Table.{Table, grid_state}
+use Rattle.fol_regions.proofs.BookFacts.{waiter_lives}
+use Rattle.fol_regions.proofs.JoinTest.{grid_is}
+
+pub state_is : (t : Table) → grid_state t ≡ grid_of t.sections t.book
+unfolding grid_state grid_of
+state_is t = refl
+
+dead_if : (x : State) → ((x ≢ Dead) → ⊥) → x ≡ Dead
+dead_if Transient h = absurd (h (λ e. cc))
+dead_if Ready h = absurd (h (λ e. cc))
+dead_if Ticking h = absurd (h (λ e. cc))
+dead_if Dead h = refl
+
+-- ---- nothing yet
+module _ (grid : Grid) (s : sections.Table) (b : Book) (h : IsBook b) (same : s.grid ≡ grid) (none : IsEmpty s) (owner : (q : SectionPos) → owner_of b q ≡ 0) (live : (r : ℕ) → is_live b r ≡ false)
+    (lives : (r : ℕ) → state_of b r ≢ Dead → is_live b r ≡ true) (next : b.next ≡ 1) where
+  no_state : (r : ℕ) → state_of b r ≡ Dead
+  no_state r = dead_if (state_of b r) (λ n. true≢false (sym (lives r n) ∙ live r))
+
+  no_wait : (u t : ℕ) → waits_of b u t ≡ false
+  no_wait u t = elim (cases_Bool (waits_of b u t)) [ inl e ↦ absurd (true≢false (sym (waiter_lives b h u t e) ∙ live u)) | inr e ↦ e ]
+
+  pub new_state : grid_of s b ≡ empty grid
+  unfolding grid_of
+  new_state = grid_is (grid_of s b) (empty grid) same none.holds (fun_ext owner) (fun_ext no_state) (fun_ext (λ u. fun_ext (λ t. no_wait u t))) next
+
+  pub new_kept : (near made : ℕ) → IsGrid grid → 625 ≤ near → 625 ≤ made → IsKept grid s b 0 near made
+  new_kept near made ok n m = record {
+    same = sym same;
+    numbers = let e = same in rw e ok;
+    rules = let e = new_state in rw e (empty_keeps grid);
+    presence = λ q. let o = owner q in ap (λ f. f q) none.presence ∙ rw o refl;
+    spare = omega arith;
+    room = record { sections = omega arith; ahead = omega (arith, h.ahead_fits); behind = omega (arith, h.behind_fits) };
+    near = n;
+    made = m;
+  }
+
+module _ (grid : Grid) (s : sections.Table) (b : Book) (events near made : ℕ) (k : IsKept grid s b events near made) where
+  -- ---- a hold less
+  module _ (e : sections.Table) (c : ChunkPos) (same : e.grid ≡ s.grid) (spare : e.spare ≡ s.spare) (holds : holds_of e ≡ at_chunk (holds_of s) c (holds_of s c - 1)) (presence : presence_of e ≡ presence_of s) where
+    pub removed_state : grid_of e b ≡ drop_hold (grid_of s b) c
+    unfolding grid_of drop_hold
+    removed_state = grid_is (grid_of e b) (drop_hold (grid_of s b) c) same holds refl refl refl refl
+
+    pub removed_kept : IsKept grid e b events near made
+    removed_kept = record {
+      same = k.same ∙ sym same;
+      numbers = let g = same in rw g k.numbers;
+      rules = let g = removed_state in rw g (drop_keeps (grid_of s b) c k.rules);
+      presence = λ q. ap (λ f. f q) presence ∙ k.presence q;
+      spare = omega (arith, k.spare, spare);
+      room = k.room;
+      near = k.near;
+      made = k.made;
+    }
+
+  pub removed_answer : (c : ChunkPos) → removed s c ≡ remove_answer (grid_of s b) c
+  unfolding grid_of removed
+  removed_answer c = refl
+
+  -- ---- the same, with more room
+  module _ (e : sections.Table) (d : Book) (more : ℕ) (same : IsSame s e) (alike : IsAlike b d) where
+    pub alike_state : grid_of e d ≡ grid_of s b
+    unfolding grid_of
+    alike_state = grid_is (grid_of e d) (grid_of s b) same.grid same.holds alike.owner alike.state alike.waits alike.next
+
+    pub alike_kept : events ≤ more → more ≤ e.spare → HasRoomFor d (289 * more) (625 * more) → IsKept grid e d more near made
+    alike_kept l m r = record {
+      same = k.same ∙ sym same.grid;
+      numbers = let g = same.grid in rw g k.numbers;
+      rules = let g = alike_state in rw g k.rules;
+      presence = λ q. ap (λ f. f q) same.presence ∙ k.presence q ∙ ap (λ f. nat_lt 0 (f q)) (sym alike.owner);
+      spare = m;
+      room = r;
+      near = k.near;
+      made = k.made;
+    }
+
+  -- ---- a tick begins
+  module _ (d : Book) (id : ℕ) (ready : state_of b id ≡ Ready) (sets : SetsState b d id Ticking) where
+    begun_is : grid_of s d ≡ begin (grid_of s b) id
+    unfolding grid_of begin
+    begun_is = grid_is (grid_of s d) (begin (grid_of s b) id) refl refl sets.owner sets.state sets.waits sets.next
+
+    at_id : (grid_of s b).state id ≡ Ready
+    unfolding grid_of
+    at_id = ready
+
+    pub begun_kept : IsKept grid s d events near made
+    begun_kept = record {
+      same = k.same;
+      numbers = k.numbers;
+      rules = let g = begun_is in rw g (begin_keeps (grid_of s b) id k.rules at_id);
+      presence = λ q. k.presence q ∙ ap (λ f. nat_lt 0 (f q)) (sym sets.owner);
+      spare = k.spare;
+      room = record { sections = omega (arith, k.room.sections, sets.rooms.free); ahead = omega (arith, k.room.ahead, sets.rooms.ahead, sets.rooms.ahead_room); behind = omega (arith, k.room.behind, sets.rooms.behind, sets.rooms.behind_room) };
+      near = k.near;
+      made = k.made;
+    }
+
+    pub begun_state_is : grid_of s d ≡ begun_state (grid_of s b) id
+    unfolding grid_of
+    begun_state_is = let r = ready in begun_is ∙ rw r refl
+
+  -- ---- a tick ends
+  module _ (e : sections.Table) (d : Book) (id : ℕ) (ticks : (grid_of s b).state id ≡ Ticking) (state : grid_of e d ≡ release (grid_of s b) id) (presence : IsPresence e d) (rooms : KeepsRoom b d)
+      (same : e.grid ≡ s.grid) (spare : e.spare ≡ s.spare) where
+    ok : IsGrid (grid_of s b).grid
+    unfolding grid_of
+    ok = k.numbers
+
+    pub released_kept : IsKept grid e d events near made
+    released_kept = record {
+      same = k.same ∙ sym same;
+      numbers = let g = same in rw g k.numbers;
+      rules = let g = state in rw g (release_keeps (grid_of s b) id k.rules ok ticks);
+      presence = presence;
+      spare = omega (arith, k.spare, spare);
+      room = record { sections = omega (arith, k.room.sections, rooms.free); ahead = omega (arith, k.room.ahead, rooms.ahead, rooms.ahead_room); behind = omega (arith, k.room.behind, rooms.behind, rooms.behind_room) };
+      near = k.near;
+      made = k.made;
+    }
+
+-- ---- answers
+pub owner_none : (n : ℕ) → n ≡ 0 → None ≡ some_id n
+owner_none n e = rw e refl
+
+pub owner_some : (n : ℕ) → n ≢ 0 → Some n ≡ some_id n
+owner_some n e = let l : nat_lt 0 n ≡ true = lt-ltb 0 n (omega (arith, e)) in rw l refl
+
+pub not_ready : (x : State) → (x ≡ Ready → ⊥) → is_ready x ≡ false
+not_ready Transient h = refl
+not_ready Ready h = absurd (h refl)
+not_ready Ticking h = refl
+not_ready Dead h = refl
+
+-- ---- the same tables with more room
+module _ (b c : Book) (h : IsBook b) (owner : (q : SectionPos) → owner_of c q ≡ owner_of b q) (slots : c.slots ≡ b.slots) (rows : c.rows ≡ b.rows) (ahead : c.ahead.lists ≡ b.ahead.lists) (ahead_room : b.ahead.room ≤ c.ahead.room)
+    (behind : c.behind.lists ≡ b.behind.lists) (behind_room : b.behind.room ≤ c.behind.room) (next : c.next ≡ b.next) where
+  owner_r : owner_of c ≡ owner_of b
+  owner_r = fun_ext owner
+
+  ahead_r : ahead_of c ≡ ahead_of b
+  unfolding ahead_of
+  ahead_r = fun_ext (λ u. ap (λ (f : SlotTable). slice_index_or c.ahead.lists (slot_of f u) []) slots ∙ ap (λ ls. slice_index_or ls (slot_of b.slots u) []) ahead)
+
+  behind_r : behind_of c ≡ behind_of b
+  unfolding behind_of
+  behind_r = fun_ext (λ u. ap (λ (f : SlotTable). slice_index_or c.behind.lists (slot_of f u) []) slots ∙ ap (λ ls. slice_index_or ls (slot_of b.slots u) []) behind)
+
+  rows_r : rows_of c ≡ rows_of b
+  unfolding rows_of
+  rows_r = fun_ext (λ u. ap (λ (f : SlotTable). slice_index_or c.rows.lists (slot_of f u) []) slots ∙ ap (λ (v : Numbered SectionPos). slice_index_or v.lists (slot_of b.slots u) []) rows)
+
+  waits_r : waits_of c ≡ waits_of b
+  unfolding waits_of
+  waits_r = fun_ext (λ u. fun_ext (λ t. ap (λ (f : ℕ → List ℕ). list_any (nat_eq t) (f u)) ahead_r))
+
+  live_r : is_live c ≡ is_live b
+  unfolding is_live
+  live_r = fun_ext (λ r. ap (λ (f : SlotTable). nat_lt (slot_of f r) f.room) slots)
+
+  state_r : state_of c ≡ state_of b
+  unfolding state_of
+  state_r = fun_ext (λ r. ap (λ (f : SlotTable). slot_state f r) slots)
+
+  pub roomy_alike : IsAlike b c
+  roomy_alike = record { owner = owner_r; state = state_r; waits = waits_r; live = live_r; next = next }
+
+  pub roomy_book : IsBook c
+  roomy_book = record {
+    rows = λ r l. let x = rows_r in let o = owner_r in rw (x, o) (h.rows r l);
+    limits = let o = owner_r in rw o h.limits;
+    ahead = let x = ahead_r in let w = waits_r in rw (x, w, next) h.ahead;
+    behind = let x = behind_r in let w = waits_r in rw (x, w, next) h.behind;
+    given = let l = live_r in rw (l, next) h.given;
+    some = let l = live_r in let x = rows_r in rw (l, x) h.some;
+    next = rw next h.next;
+    unused = rw (slots, rows, ahead, behind) h.unused;
+    row_numbers = rw (slots, rows) h.row_numbers;
+    ahead_numbers = rw (slots, ahead) h.ahead_numbers;
+    behind_numbers = rw (slots, behind) h.behind_numbers;
+    ahead_fits = rw ahead (omega (arith, h.ahead_fits, ahead_room));
+    behind_fits = rw behind (omega (arith, h.behind_fits, behind_room));
+    total = ap (λ (v : Numbered SectionPos). total v) rows ∙ h.total ∙ count_same (λ q. nat_lt 0 (owner_of b q)) (λ q. nat_lt 0 (owner_of c q)) (λ q. ap (λ (f : SectionPos → ℕ). nat_lt 0 (f q)) (sym owner_r));
+    row_room = rw rows h.row_room;
+    room = rw slots h.room;
+  }
+
+pub state_some : (n next : ℕ) (x y : State) → n ≢ 0 → n < next → x ≡ y → Some x ≡ (if (nat_lt 0 n && nat_lt n next) then Some y else None)
+state_some n next x y e l same = let a : nat_lt 0 n ≡ true = lt-ltb 0 n (omega (arith, e)) in let b : nat_lt n next ≡ true = lt-ltb n next l in rw (a, b) (ap (λ (z : State). Some z) same)
+
+pub state_none : (n next : ℕ) (y : State) → next ≤ n → None ≡ (if (nat_lt 0 n && nat_lt n next) then Some y else None)
+state_none n next y l = let b : nat_lt n next ≡ false = le-ltb n next l in elim (cases_Bool (nat_lt 0 n)) [ inl a ↦ rw (a, b) refl | inr a ↦ rw a refl ]
+
+pub alike_same : (b : Book) → IsAlike b b
+alike_same b = record { owner = refl; state = refl; waits = refl; live = refl; next = refl }
+
+-- the room for as many events as before
+pub room_kept : (b d : Book) (sections pairs : ℕ) → HasRoomFor b sections pairs → b.free ≤ d.free → (total d.ahead ≡ total b.ahead) × (b.ahead.room ≤ d.ahead.room) → (total d.behind ≡ total b.behind) × (b.behind.room ≤ d.behind.room) → HasRoomFor d sections pairs
+room_kept b d n m h f a e = record { sections = omega (arith, h.sections, f); ahead = omega (arith, h.ahead, a.0, a.1); behind = omega (arith, h.behind, e.0, e.1) }

@@ -1,0 +1,24 @@
+-- How many elements the lists hold together.
+use Rattle.std.proofs.Common.{◌≡◌, ℕ, ◌+◌, ◌≤◌, ◌<◌, sym, ◌∙◌, ap, arith, List, [], ◌∷◌, length}
+use Rattle.std.specs.Prelude.{◌≢◌, sum_by, slice_index_or, slice_set}
+use Rattle.std.proofs.lemmas.List.{get_or-set_other, length-set}
+use Rattle.std.proofs.lemmas.List.Sums.{sum_by-set}
+use Rattle.fol_lists.specs.Numbered.{Numbered, list_at, total, with_list}
+
+module _ {T : Type 0} where
+  pub total_with : (v : Numbered T) (n : ℕ) (xs : List T) → n < length v.lists → total (with_list v n xs) + length (list_at v n) ≡ total v + length xs
+  total_with v n xs l = omega (arith, sum_by-set {X = List T} length v.lists n xs [] l)
+
+  pub list_le : (v : Numbered T) (n : ℕ) → n < length v.lists → length (list_at v n) ≤ total v
+  list_le v n l = omega (arith, total_with v n [] l)
+
+  -- two lists
+  pub total_two : (v : Numbered T) (n m : ℕ) (xs : List T) → n < length v.lists → m < length v.lists → n ≢ m → total (with_list (with_list v m []) n xs) + (length (list_at v n) + length (list_at v m)) ≡ total v + length xs
+  total_two v n m xs l k d =
+      let a = total_with v m [] k in
+      let b = total_with (with_list v m []) n xs (omega (arith, length-set {A = List T})) in
+      let e : list_at (with_list v m []) n ≡ list_at v n = get_or-set_other v.lists m n [] [] d in
+      omega (arith, a, b, ap length e)
+
+  pub two_le : (v : Numbered T) (n m : ℕ) → n < length v.lists → m < length v.lists → n ≢ m → length (list_at v n) + length (list_at v m) ≤ total v
+  two_le v n m l k d = omega (arith, total_two v n m [] l k d)

@@ -1,0 +1,29 @@
+use Rattle.std.proofs.Common.{◌≡◌, ◌≤◌, ◌∙◌, refl, sym, ap, arith}
+use Rattle.fol_regions.specs.Released.{grid_of}
+use Rattle.fol_regions.specs.Table.{grid_state}
+use Rattle.fol_regions.proofs.TableSteps as steps
+use Rattle.fol_regions.proofs.regions.Regions.reserve.Goals as goal
+
+pub invariant_of-self : goal.invariant_of-self
+invariant_of-self c = steps.alike_kept c.self.inside.grid c.self.inside.sections c.self.inside.tables c.self.inside.spare _ _ c.self.invariant c.reserve.new.self c.self.inside.tables c.self.inside.spare c.reserve.ensures.same (steps.alike_same c.self.inside.tables) (omega arith)
+    (omega (arith, c.self.invariant.spare, c.reserve.ensures.spare)) c.self.invariant.room
+
+pub returns-in_err-reserve-clause-state : goal.returns-in_err-reserve-clause-state
+unfolding grid_state grid_of
+returns-in_err-reserve-clause-state c = rw (← c.self.view_is) (steps.alike_state c.self.inside.grid c.self.inside.sections c.self.inside.tables c.self.inside.spare _ _ c.self.invariant c.reserve.new.self c.self.inside.tables c.self.inside.spare c.reserve.ensures.same (steps.alike_same c.self.inside.tables))
+
+pub invariant_of-self-in_err-reserve-2 : goal.invariant_of-self-in_err-reserve-2
+invariant_of-self-in_err-reserve-2 c = steps.alike_kept c.self.inside.grid c.self.inside.sections c.self.inside.tables c.self.inside.spare _ _ c.self.invariant c.reserve.new.self c.reserve-2.new.self c.self.inside.spare c.reserve.ensures.same c.reserve-2.ensures.same (omega arith)
+    (omega (arith, c.self.invariant.spare, c.reserve.ensures.spare)) (steps.room_kept _ _ _ _ c.self.invariant.room c.reserve-2.ensures.free c.reserve-2.ensures.ahead c.reserve-2.ensures.behind)
+
+pub returns-in_err-reserve-2-clause-state : goal.returns-in_err-reserve-2-clause-state
+unfolding grid_state grid_of
+returns-in_err-reserve-2-clause-state c = rw (← c.self.view_is) (steps.alike_state c.self.inside.grid c.self.inside.sections c.self.inside.tables c.self.inside.spare _ _ c.self.invariant c.reserve.new.self c.reserve-2.new.self c.self.inside.spare c.reserve.ensures.same c.reserve-2.ensures.same)
+
+pub invariant_of-self-2 : goal.invariant_of-self-2
+invariant_of-self-2 c = steps.alike_kept c.self.inside.grid c.self.inside.sections c.self.inside.tables c.self.inside.spare _ _ c.self.invariant c.reserve.new.self c.reserve-2.new.self c.args.n c.reserve.ensures.same c.reserve-2.ensures.same (omega arith)
+    (omega (arith, c.in_ok-reserve.ensures.ok)) c.in_ok-reserve-2.ensures.ok
+
+pub returns-clause-state : goal.returns-clause-state
+unfolding grid_state grid_of
+returns-clause-state c = rw (← c.self.view_is) (steps.alike_state c.self.inside.grid c.self.inside.sections c.self.inside.tables c.self.inside.spare _ _ c.self.invariant c.reserve.new.self c.reserve-2.new.self c.args.n c.reserve.ensures.same c.reserve-2.ensures.same)

@@ -1,0 +1,226 @@
+use Rattle.std.proofs.Common.{◌≡◌, ◌<◌, ◌≤◌, ◌∙◌, refl, sym, ap, arith, not, true, false, length, [], List, ◌+◌}
+use Rattle.fol_model.specs.GridNumbers.{GridNumbers, IsGrid}
+use Rattle.fol_model.specs.Release.{cleans, must_wait}
+use Rattle.fol_regions.specs.Book.{behind_of, is_live}
+use Rattle.fol_regions.specs.Changes.{Changes}
+use Rattle.fol_regions.specs.Released.{grid_of}
+use Rattle.fol_regions.proofs.JoinAll.{ids_few}
+use Rattle.fol_regions.proofs.JoinSteps.{rooms_both}
+use Rattle.fol_regions.proofs.ReleaseFacts as facts
+use Rattle.fol_regions.proofs.release.Releaser.release.Goals as goal
+
+pub list_waiting-requires : goal.list_waiting-requires
+list_waiting-requires c =
+    let h = c.keeps_lists.ensures in
+    let live = facts.t_live c.args.sections.now c.args.tables.now c.args.id c.requires.rules c.requires.ticks h c.keeps_states.ensures in
+    let most = ids_few c.args.tables.now c.args.id h live
+    (facts.alone c.args.sections.now c.args.tables.now c.args.id c.requires.rules c.requires.ticks h)
+    (facts.last c.args.sections.now c.args.tables.now c.args.id c.requires.rules c.requires.ticks h)
+    (facts.few c.args.sections.now c.args.tables.now c.args.id c.requires.rules c.requires.ticks h) (behind_of c.args.tables.now c.args.id) refl in
+    omega (arith, most, c.self.invariant.0)
+
+pub join_all-requires-clause-region : goal.join_all-requires-clause-region
+join_all-requires-clause-region c = facts.t_live c.args.sections.now c.args.tables.now c.args.id c.requires.rules c.requires.ticks c.keeps_lists.ensures c.keeps_states.ensures
+
+pub join_all-requires-clause-ids : goal.join_all-requires-clause-ids
+join_all-requires-clause-ids c = c.deref.ensures.value ∙ c.list_waiting.ensures.ids
+
+pub join_all-requires-clause-alone : goal.join_all-requires-clause-alone
+join_all-requires-clause-alone c = facts.alone c.args.sections.now c.args.tables.now c.args.id c.requires.rules c.requires.ticks c.keeps_lists.ensures
+
+pub join_all-requires-clause-last : goal.join_all-requires-clause-last
+join_all-requires-clause-last c = facts.last c.args.sections.now c.args.tables.now c.args.id c.requires.rules c.requires.ticks c.keeps_lists.ensures
+
+pub join_all-requires-clause-few : goal.join_all-requires-clause-few
+join_all-requires-clause-few c = facts.few c.args.sections.now c.args.tables.now c.args.id c.requires.rules c.requires.ticks c.keeps_lists.ensures
+
+pub set_state-requires : goal.set_state-requires
+set_state-requires c =
+    let live = facts.t_live c.args.sections.now c.args.tables.now c.args.id c.requires.rules c.requires.ticks c.keeps_lists.ensures c.keeps_states.ensures in
+    facts.j_live c.args.sections.now c.args.tables.now c.args.id c.requires.rules c.requires.ticks c.keeps_lists.ensures c.join_all.new.tables c.deref.result.now (c.deref.ensures.value ∙ c.list_waiting.ensures.ids) c.join_all.ensures.joins c.keeps_lists-2.ensures live
+
+pub returns-then-is_waiting-clause-state : goal.returns-then-is_waiting-clause-state
+returns-then-is_waiting-clause-state c =
+    let is = c.deref.ensures.value ∙ c.list_waiting.ensures.ids in
+    let must = sym (facts.wait_is c.args.sections.now c.args.tables.now c.args.id c.requires.rules c.requires.ticks c.keeps_lists.ensures c.join_all.new.tables c.deref.result.now is c.join_all.ensures.joins c.keeps_lists-2.ensures) ∙ sym c.is_waiting.ensures ∙ c.if-is_waiting.true in
+    facts.held_state c.args.sections.now c.args.tables.now c.args.id c.requires.rules c.requires.ticks c.keeps_lists.ensures c.join_all.new.tables c.deref.result.now is c.join_all.ensures.joins c.keeps_lists-2.ensures c.set_state.new.self c.set_state.ensures must
+
+pub returns-then-is_waiting-clause-change : goal.returns-then-is_waiting-clause-change
+returns-then-is_waiting-clause-change c =
+    let is = c.deref.ensures.value ∙ c.list_waiting.ensures.ids in
+    let must = sym (facts.wait_is c.args.sections.now c.args.tables.now c.args.id c.requires.rules c.requires.ticks c.keeps_lists.ensures c.join_all.new.tables c.deref.result.now is c.join_all.ensures.joins c.keeps_lists-2.ensures) ∙ sym c.is_waiting.ensures ∙ c.if-is_waiting.true in
+    c.join_all.ensures.change ∙ facts.held_change c.args.sections.now c.args.tables.now c.args.id c.requires.rules c.requires.ticks c.keeps_lists.ensures c.join_all.new.tables c.deref.result.now is c.join_all.ensures.joins c.keeps_lists-2.ensures c.set_state.new.self c.set_state.ensures must
+
+pub returns-then-is_waiting-clause-presence : goal.returns-then-is_waiting-clause-presence
+returns-then-is_waiting-clause-presence c =
+    let is = c.deref.ensures.value ∙ c.list_waiting.ensures.ids in
+    rw c.set_state.ensures.owner
+    (facts.presence_j c.args.sections.now c.args.tables.now c.args.id c.requires.rules c.requires.ticks c.keeps_lists.ensures c.join_all.new.tables c.deref.result.now is c.join_all.ensures.joins c.keeps_lists-2.ensures c.requires.presence)
+
+pub sort_out-requires-clause-present : goal.sort_out-requires-clause-present
+sort_out-requires-clause-present c =
+    let is = c.deref.ensures.value ∙ c.list_waiting.ensures.ids in
+    rw c.sections.ensures
+    (facts.row_present c.args.sections.now c.args.tables.now c.args.id c.requires.rules c.requires.ticks c.keeps_lists.ensures c.join_all.new.tables c.deref.result.now is c.join_all.ensures.joins c.keeps_lists-2.ensures c.requires.presence)
+
+pub sort_out-requires-clause-living_room : goal.sort_out-requires-clause-living_room
+sort_out-requires-clause-living_room c =
+    let is = c.deref.ensures.value ∙ c.list_waiting.ensures.ids in
+    let live = facts.t_live c.args.sections.now c.args.tables.now c.args.id c.requires.rules c.requires.ticks c.keeps_lists.ensures c.keeps_states.ensures in
+    let most = facts.row_most c.args.sections.now c.args.tables.now c.args.id c.requires.rules c.requires.ticks c.keeps_lists.ensures c.join_all.new.tables c.deref.result.now is c.join_all.ensures.joins c.keeps_lists-2.ensures live in
+    omega (arith, most, ap length c.sections.ensures, c.clear-2.ensures.capacity, c.self.invariant.1)
+
+pub sort_out-requires-clause-dead_room : goal.sort_out-requires-clause-dead_room
+sort_out-requires-clause-dead_room c =
+    let is = c.deref.ensures.value ∙ c.list_waiting.ensures.ids in
+    let live = facts.t_live c.args.sections.now c.args.tables.now c.args.id c.requires.rules c.requires.ticks c.keeps_lists.ensures c.keeps_states.ensures in
+    let most = facts.row_most c.args.sections.now c.args.tables.now c.args.id c.requires.rules c.requires.ticks c.keeps_lists.ensures c.join_all.new.tables c.deref.result.now is c.join_all.ensures.joins c.keeps_lists-2.ensures live in
+    omega (arith, most, ap length c.sections.ensures, c.clear-3.ensures.capacity, c.self.invariant.2)
+
+pub must_clean-requires-clause-size : goal.must_clean-requires-clause-size
+must_clean-requires-clause-size c =
+    let is = c.deref.ensures.value ∙ c.list_waiting.ensures.ids in
+    let live = facts.t_live c.args.sections.now c.args.tables.now c.args.id c.requires.rules c.requires.ticks c.keeps_lists.ensures c.keeps_states.ensures in
+    let out = rw c.sections.ensures at c.sort_out.ensures.dead in
+    let stays = rw c.sections.ensures at c.sort_out.ensures.living in
+    omega (arith, facts.lengths c.args.sections.now c.args.tables.now c.args.id c.requires.rules c.requires.ticks c.keeps_lists.ensures c.join_all.new.tables c.deref.result.now is c.join_all.ensures.joins c.keeps_lists-2.ensures c.sort_out.new.dead.items out c.sort_out.new.living.items stays, facts.row_most c.args.sections.now c.args.tables.now c.args.id c.requires.rules c.requires.ticks c.keeps_lists.ensures c.join_all.new.tables c.deref.result.now is c.join_all.ensures.joins c.keeps_lists-2.ensures live)
+
+pub must_clean-requires-clause-dead : goal.must_clean-requires-clause-dead
+must_clean-requires-clause-dead c =
+    let is = c.deref.ensures.value ∙ c.list_waiting.ensures.ids in
+    let live = facts.t_live c.args.sections.now c.args.tables.now c.args.id c.requires.rules c.requires.ticks c.keeps_lists.ensures c.keeps_states.ensures in
+    let out = rw c.sections.ensures at c.sort_out.ensures.dead in
+    let stays = rw c.sections.ensures at c.sort_out.ensures.living in
+    omega (arith, facts.lengths c.args.sections.now c.args.tables.now c.args.id c.requires.rules c.requires.ticks c.keeps_lists.ensures c.join_all.new.tables c.deref.result.now is c.join_all.ensures.joins c.keeps_lists-2.ensures c.sort_out.new.dead.items out c.sort_out.new.living.items stays, facts.row_most c.args.sections.now c.args.tables.now c.args.id c.requires.rules c.requires.ticks c.keeps_lists.ensures c.join_all.new.tables c.deref.result.now is c.join_all.ensures.joins c.keeps_lists-2.ensures live)
+
+pub settle-requires-clause-region : goal.settle-requires-clause-region
+settle-requires-clause-region c =
+    let is = c.deref.ensures.value ∙ c.list_waiting.ensures.ids in
+    let live = facts.t_live c.args.sections.now c.args.tables.now c.args.id c.requires.rules c.requires.ticks c.keeps_lists.ensures c.keeps_states.ensures in
+    facts.j_live c.args.sections.now c.args.tables.now c.args.id c.requires.rules c.requires.ticks c.keeps_lists.ensures c.join_all.new.tables c.deref.result.now is c.join_all.ensures.joins c.keeps_lists-2.ensures live
+
+pub set_state-requires-else-must_clean : goal.set_state-requires-else-must_clean
+set_state-requires-else-must_clean c =
+    let is = c.deref.ensures.value ∙ c.list_waiting.ensures.ids in
+    let live = facts.t_live c.args.sections.now c.args.tables.now c.args.id c.requires.rules c.requires.ticks c.keeps_lists.ensures c.keeps_states.ensures in
+    facts.j_live c.args.sections.now c.args.tables.now c.args.id c.requires.rules c.requires.ticks c.keeps_lists.ensures c.join_all.new.tables c.deref.result.now is c.join_all.ensures.joins c.keeps_lists-2.ensures live
+
+pub settle-requires-clause-last : goal.settle-requires-clause-last
+settle-requires-clause-last c =
+    let is = c.deref.ensures.value ∙ c.list_waiting.ensures.ids in
+    facts.j_last c.args.sections.now c.args.tables.now c.args.id c.requires.rules c.requires.ticks c.keeps_lists.ensures c.join_all.new.tables c.deref.result.now is c.join_all.ensures.joins c.keeps_lists-2.ensures
+
+pub settle-requires-clause-dead : goal.settle-requires-clause-dead
+settle-requires-clause-dead c =
+    let is = c.deref.ensures.value ∙ c.list_waiting.ensures.ids in
+    let out = rw c.sections.ensures at c.sort_out.ensures.dead in
+    rw c.deref-then-must_clean-2.ensures.value (facts.dead_owner c.args.sections.now c.args.tables.now c.args.id c.requires.rules c.requires.ticks c.keeps_lists.ensures c.join_all.new.tables c.deref.result.now is c.join_all.ensures.joins c.keeps_lists-2.ensures c.sort_out.new.dead.items out)
+
+pub settle-requires-clause-living : goal.settle-requires-clause-living
+settle-requires-clause-living c =
+    let is = c.deref.ensures.value ∙ c.list_waiting.ensures.ids in
+    let out = rw c.sections.ensures at c.sort_out.ensures.dead in
+    let stays = rw c.sections.ensures at c.sort_out.ensures.living in
+    rw (c.deref-then-must_clean.ensures.value, c.deref-then-must_clean-2.ensures.value) (facts.living_left c.args.sections.now c.args.tables.now c.args.id c.requires.rules c.requires.ticks c.keeps_lists.ensures c.join_all.new.tables c.deref.result.now is c.join_all.ensures.joins c.keeps_lists-2.ensures c.sort_out.new.dead.items out c.sort_out.new.living.items stays)
+
+pub settle-requires-clause-few : goal.settle-requires-clause-few
+settle-requires-clause-few c =
+    let is = c.deref.ensures.value ∙ c.list_waiting.ensures.ids in
+    facts.j_few c.args.sections.now c.args.tables.now c.args.id c.requires.rules c.requires.ticks c.keeps_lists.ensures c.join_all.new.tables c.deref.result.now is c.join_all.ensures.joins c.keeps_lists-2.ensures
+
+pub settle-requires-clause-room : goal.settle-requires-clause-room
+settle-requires-clause-room c =
+    let is = c.deref.ensures.value ∙ c.list_waiting.ensures.ids in
+    let live = facts.t_live c.args.sections.now c.args.tables.now c.args.id c.requires.rules c.requires.ticks c.keeps_lists.ensures c.keeps_states.ensures in
+    let most = ids_few c.args.tables.now c.args.id c.keeps_lists.ensures live (facts.alone c.args.sections.now c.args.tables.now c.args.id c.requires.rules c.requires.ticks c.keeps_lists.ensures) (facts.last c.args.sections.now c.args.tables.now c.args.id c.requires.rules c.requires.ticks c.keeps_lists.ensures) (facts.few c.args.sections.now c.args.tables.now c.args.id c.requires.rules c.requires.ticks c.keeps_lists.ensures) c.deref.result.now is in
+    rw c.join_all.ensures.change (refl, refl, omega (arith, most))
+
+pub drop_dead-requires-clause-present : goal.drop_dead-requires-clause-present
+drop_dead-requires-clause-present c =
+    let is = c.deref.ensures.value ∙ c.list_waiting.ensures.ids in
+    let out = rw c.sections.ensures at c.sort_out.ensures.dead in
+    facts.dead_present c.args.sections.now c.args.tables.now c.args.id c.requires.rules c.requires.ticks c.keeps_lists.ensures c.join_all.new.tables c.deref.result.now is c.join_all.ensures.joins c.keeps_lists-2.ensures c.sort_out.new.dead.items out c.requires.presence
+
+pub drop_dead-requires-clause-distinct : goal.drop_dead-requires-clause-distinct
+drop_dead-requires-clause-distinct c =
+    let is = c.deref.ensures.value ∙ c.list_waiting.ensures.ids in
+    let live = facts.t_live c.args.sections.now c.args.tables.now c.args.id c.requires.rules c.requires.ticks c.keeps_lists.ensures c.keeps_states.ensures in
+    let out = rw c.sections.ensures at c.sort_out.ensures.dead in
+    facts.dead_distinct c.args.sections.now c.args.tables.now c.args.id c.requires.rules c.requires.ticks c.keeps_lists.ensures c.join_all.new.tables c.deref.result.now is c.join_all.ensures.joins c.keeps_lists-2.ensures c.sort_out.new.dead.items out live
+
+pub returns-then-must_clean-clause-state : goal.returns-then-must_clean-clause-state
+returns-then-must_clean-clause-state c =
+    let is = c.deref.ensures.value ∙ c.list_waiting.ensures.ids in
+    let out = rw c.sections.ensures at c.sort_out.ensures.dead in
+    let stays = rw c.sections.ensures at c.sort_out.ensures.living in
+    let calm : must_wait (grid_of c.args.sections.now c.args.tables.now) c.args.id ≡ false = sym (facts.wait_is c.args.sections.now c.args.tables.now c.args.id c.requires.rules c.requires.ticks c.keeps_lists.ensures c.join_all.new.tables c.deref.result.now is c.join_all.ensures.joins c.keeps_lists-2.ensures) ∙ sym c.is_waiting.ensures ∙ c.if-is_waiting.false in
+    let lengths = facts.lengths c.args.sections.now c.args.tables.now c.args.id c.requires.rules c.requires.ticks c.keeps_lists.ensures c.join_all.new.tables c.deref.result.now is c.join_all.ensures.joins c.keeps_lists-2.ensures c.sort_out.new.dead.items out c.sort_out.new.living.items stays in
+    let test = facts.clean_test c.args.sections.now c.args.tables.now c.args.id c.requires.rules c.requires.ticks c.keeps_lists.ensures c.join_all.new.tables c.deref.result.now is c.join_all.ensures.joins c.keeps_lists-2.ensures c.len.result (c.len-2.result + c.len-3.result) c.len-4.result (omega (arith, ap length c.deref.ensures.value)) (omega (arith, lengths)) (omega (arith, ap length out)) in
+    let answer = rw c.requires.grid at c.must_clean.ensures in
+    let cleaning : cleans (grid_of c.args.sections.now c.args.tables.now) c.args.id ≡ true = sym test ∙ sym answer ∙ c.if-must_clean.true in
+    let grid = c.grid.view_is ∙ c.requires.grid in
+    let merge = ap (λ (x : GridNumbers). x.merge) grid in
+    let are = rw (c.deref-then-must_clean.ensures.value, merge) at c.settle.ensures.parts in
+    let by = rw c.deref-then-must_clean.ensures.value at c.settle.ensures.tables in
+    let x = facts.is_cleaned c.args.sections.now c.args.tables.now c.args.id c.requires.rules c.requires.ticks c.keeps_lists.ensures c.join_all.new.tables c.deref.result.now is c.join_all.ensures.joins c.keeps_lists-2.ensures c.sort_out.new.living.items stays c.settle.new.splitter are c.settle.new.tables by in
+    facts.cleaned_state c.args.sections.now c.args.tables.now c.args.id c.requires.rules c.requires.ticks c.keeps_lists.ensures c.join_all.new.tables c.deref.result.now is c.join_all.ensures.joins c.keeps_lists-2.ensures c.sort_out.new.living.items stays c.settle.new.splitter are calm cleaning c.drop_dead.new.self c.settle.new.tables c.drop_dead.ensures.stays.0 c.drop_dead.ensures.holds x
+
+pub returns-then-must_clean-clause-change : goal.returns-then-must_clean-clause-change
+returns-then-must_clean-clause-change c =
+    let is = c.deref.ensures.value ∙ c.list_waiting.ensures.ids in
+    let out = rw c.sections.ensures at c.sort_out.ensures.dead in
+    let stays = rw c.sections.ensures at c.sort_out.ensures.living in
+    let calm : must_wait (grid_of c.args.sections.now c.args.tables.now) c.args.id ≡ false = sym (facts.wait_is c.args.sections.now c.args.tables.now c.args.id c.requires.rules c.requires.ticks c.keeps_lists.ensures c.join_all.new.tables c.deref.result.now is c.join_all.ensures.joins c.keeps_lists-2.ensures) ∙ sym c.is_waiting.ensures ∙ c.if-is_waiting.false in
+    let lengths = facts.lengths c.args.sections.now c.args.tables.now c.args.id c.requires.rules c.requires.ticks c.keeps_lists.ensures c.join_all.new.tables c.deref.result.now is c.join_all.ensures.joins c.keeps_lists-2.ensures c.sort_out.new.dead.items out c.sort_out.new.living.items stays in
+    let test = facts.clean_test c.args.sections.now c.args.tables.now c.args.id c.requires.rules c.requires.ticks c.keeps_lists.ensures c.join_all.new.tables c.deref.result.now is c.join_all.ensures.joins c.keeps_lists-2.ensures c.len.result (c.len-2.result + c.len-3.result) c.len-4.result (omega (arith, ap length c.deref.ensures.value)) (omega (arith, lengths)) (omega (arith, ap length out)) in
+    let answer = rw c.requires.grid at c.must_clean.ensures in
+    let cleaning : cleans (grid_of c.args.sections.now c.args.tables.now) c.args.id ≡ true = sym test ∙ sym answer ∙ c.if-must_clean.true in
+    let grid = c.grid.view_is ∙ c.requires.grid in
+    let merge = ap (λ (x : GridNumbers). x.merge) grid in
+    let are = rw (c.deref-then-must_clean.ensures.value, merge) at c.settle.ensures.parts in
+    let by = rw c.deref-then-must_clean.ensures.value at c.settle.ensures.tables in
+    let x = facts.is_cleaned c.args.sections.now c.args.tables.now c.args.id c.requires.rules c.requires.ticks c.keeps_lists.ensures c.join_all.new.tables c.deref.result.now is c.join_all.ensures.joins c.keeps_lists-2.ensures c.sort_out.new.living.items stays c.settle.new.splitter are c.settle.new.tables by in
+    let change = rw c.join_all.ensures.change at c.settle.ensures.change in
+    change ∙ facts.cleaned_change c.args.sections.now c.args.tables.now c.args.id c.requires.rules c.requires.ticks c.keeps_lists.ensures c.join_all.new.tables c.deref.result.now is c.join_all.ensures.joins c.keeps_lists-2.ensures c.sort_out.new.living.items stays c.settle.new.splitter are calm cleaning
+
+pub returns-then-must_clean-clause-presence : goal.returns-then-must_clean-clause-presence
+returns-then-must_clean-clause-presence c =
+    let is = c.deref.ensures.value ∙ c.list_waiting.ensures.ids in
+    let out = rw c.sections.ensures at c.sort_out.ensures.dead in
+    let stays = rw c.sections.ensures at c.sort_out.ensures.living in
+    let calm : must_wait (grid_of c.args.sections.now c.args.tables.now) c.args.id ≡ false = sym (facts.wait_is c.args.sections.now c.args.tables.now c.args.id c.requires.rules c.requires.ticks c.keeps_lists.ensures c.join_all.new.tables c.deref.result.now is c.join_all.ensures.joins c.keeps_lists-2.ensures) ∙ sym c.is_waiting.ensures ∙ c.if-is_waiting.false in
+    let lengths = facts.lengths c.args.sections.now c.args.tables.now c.args.id c.requires.rules c.requires.ticks c.keeps_lists.ensures c.join_all.new.tables c.deref.result.now is c.join_all.ensures.joins c.keeps_lists-2.ensures c.sort_out.new.dead.items out c.sort_out.new.living.items stays in
+    let test = facts.clean_test c.args.sections.now c.args.tables.now c.args.id c.requires.rules c.requires.ticks c.keeps_lists.ensures c.join_all.new.tables c.deref.result.now is c.join_all.ensures.joins c.keeps_lists-2.ensures c.len.result (c.len-2.result + c.len-3.result) c.len-4.result (omega (arith, ap length c.deref.ensures.value)) (omega (arith, lengths)) (omega (arith, ap length out)) in
+    let answer = rw c.requires.grid at c.must_clean.ensures in
+    let cleaning : cleans (grid_of c.args.sections.now c.args.tables.now) c.args.id ≡ true = sym test ∙ sym answer ∙ c.if-must_clean.true in
+    let grid = c.grid.view_is ∙ c.requires.grid in
+    let merge = ap (λ (x : GridNumbers). x.merge) grid in
+    let are = rw (c.deref-then-must_clean.ensures.value, merge) at c.settle.ensures.parts in
+    let by = rw c.deref-then-must_clean.ensures.value at c.settle.ensures.tables in
+    let x = facts.is_cleaned c.args.sections.now c.args.tables.now c.args.id c.requires.rules c.requires.ticks c.keeps_lists.ensures c.join_all.new.tables c.deref.result.now is c.join_all.ensures.joins c.keeps_lists-2.ensures c.sort_out.new.living.items stays c.settle.new.splitter are c.settle.new.tables by in
+    let ok = rw grid at c.grid.invariant in
+    facts.cleaned_presence c.args.sections.now c.args.tables.now c.args.id c.requires.rules c.requires.ticks c.keeps_lists.ensures c.join_all.new.tables c.deref.result.now is c.join_all.ensures.joins c.keeps_lists-2.ensures c.sort_out.new.living.items stays c.settle.new.splitter are calm cleaning ok c.drop_dead.new.self c.settle.new.tables c.sort_out.new.dead.items out c.requires.presence c.drop_dead.ensures.presence x
+
+pub returns-else-must_clean-clause-state : goal.returns-else-must_clean-clause-state
+returns-else-must_clean-clause-state c =
+    let is = c.deref.ensures.value ∙ c.list_waiting.ensures.ids in
+    let out = rw c.sections.ensures at c.sort_out.ensures.dead in
+    let stays = rw c.sections.ensures at c.sort_out.ensures.living in
+    let calm : must_wait (grid_of c.args.sections.now c.args.tables.now) c.args.id ≡ false = sym (facts.wait_is c.args.sections.now c.args.tables.now c.args.id c.requires.rules c.requires.ticks c.keeps_lists.ensures c.join_all.new.tables c.deref.result.now is c.join_all.ensures.joins c.keeps_lists-2.ensures) ∙ sym c.is_waiting.ensures ∙ c.if-is_waiting.false in
+    let lengths = facts.lengths c.args.sections.now c.args.tables.now c.args.id c.requires.rules c.requires.ticks c.keeps_lists.ensures c.join_all.new.tables c.deref.result.now is c.join_all.ensures.joins c.keeps_lists-2.ensures c.sort_out.new.dead.items out c.sort_out.new.living.items stays in
+    let test = facts.clean_test c.args.sections.now c.args.tables.now c.args.id c.requires.rules c.requires.ticks c.keeps_lists.ensures c.join_all.new.tables c.deref.result.now is c.join_all.ensures.joins c.keeps_lists-2.ensures c.len.result (c.len-2.result + c.len-3.result) c.len-4.result (omega (arith, ap length c.deref.ensures.value)) (omega (arith, lengths)) (omega (arith, ap length out)) in
+    let answer = rw c.requires.grid at c.must_clean.ensures in
+    let cleaning : cleans (grid_of c.args.sections.now c.args.tables.now) c.args.id ≡ false = sym test ∙ sym answer ∙ c.if-must_clean.false in
+    facts.rested_state c.args.sections.now c.args.tables.now c.args.id c.requires.rules c.requires.ticks c.keeps_lists.ensures c.join_all.new.tables c.deref.result.now is c.join_all.ensures.joins c.keeps_lists-2.ensures calm cleaning c.set_state-else-must_clean.new.self c.set_state-else-must_clean.ensures
+
+pub returns-else-must_clean-clause-change : goal.returns-else-must_clean-clause-change
+returns-else-must_clean-clause-change c =
+    let is = c.deref.ensures.value ∙ c.list_waiting.ensures.ids in
+    let out = rw c.sections.ensures at c.sort_out.ensures.dead in
+    let stays = rw c.sections.ensures at c.sort_out.ensures.living in
+    let calm : must_wait (grid_of c.args.sections.now c.args.tables.now) c.args.id ≡ false = sym (facts.wait_is c.args.sections.now c.args.tables.now c.args.id c.requires.rules c.requires.ticks c.keeps_lists.ensures c.join_all.new.tables c.deref.result.now is c.join_all.ensures.joins c.keeps_lists-2.ensures) ∙ sym c.is_waiting.ensures ∙ c.if-is_waiting.false in
+    let lengths = facts.lengths c.args.sections.now c.args.tables.now c.args.id c.requires.rules c.requires.ticks c.keeps_lists.ensures c.join_all.new.tables c.deref.result.now is c.join_all.ensures.joins c.keeps_lists-2.ensures c.sort_out.new.dead.items out c.sort_out.new.living.items stays in
+    let test = facts.clean_test c.args.sections.now c.args.tables.now c.args.id c.requires.rules c.requires.ticks c.keeps_lists.ensures c.join_all.new.tables c.deref.result.now is c.join_all.ensures.joins c.keeps_lists-2.ensures c.len.result (c.len-2.result + c.len-3.result) c.len-4.result (omega (arith, ap length c.deref.ensures.value)) (omega (arith, lengths)) (omega (arith, ap length out)) in
+    let answer = rw c.requires.grid at c.must_clean.ensures in
+    let cleaning : cleans (grid_of c.args.sections.now c.args.tables.now) c.args.id ≡ false = sym test ∙ sym answer ∙ c.if-must_clean.false in
+    c.join_all.ensures.change ∙ facts.rested_change c.args.sections.now c.args.tables.now c.args.id c.requires.rules c.requires.ticks c.keeps_lists.ensures c.join_all.new.tables c.deref.result.now is c.join_all.ensures.joins c.keeps_lists-2.ensures calm cleaning

@@ -1,0 +1,39 @@
+use Rattle.std.proofs.Common.{◌≡◌, ℕ, ◌+◌, ◌<◌, sym, ◌∙◌, ap, arith}
+use Rattle.std.specs.HashMap.{hash_map_len, spare}
+use Rattle.fol_regions.specs.declared.slots.Region.{Region}
+use Rattle.fol_regions.specs.Slots.{SlotTable, slot_of}
+use Rattle.fol_regions.proofs.SlotSteps.{free_slot, keys_come, slots-come, states-come}
+use Rattle.fol_regions.proofs.slots.Slots.insert.Goals as goal
+
+pub invariant_of-self : goal.invariant_of-self
+invariant_of-self c =
+    let v : SlotTable = record { regions = c.self.inside.regions.slots; room = c.self.inside.regions.capacity } in
+    let w : SlotTable = record { regions = c.insert_reserved-slot.new.self.slots; room = c.insert_reserved-slot.new.self.capacity } in
+    let n = rw (← c.self.view_is) at c.requires.none in
+    keys_come v w c.make_key_room.new.keys.entries c.put_key.new.keys.entries (hash_map_len c.make_key_room.new.keys + spare c.make_key_room.new.keys) (hash_map_len c.put_key.new.keys + spare c.put_key.new.keys) c.insert_reserved-slot.result
+    (record { id = c.args.id; state = c.args.state }) c.make_key_room.ensures.keys c.insert_reserved-slot.ensures.capacity c.put_key.ensures.room (omega (arith, c.insert_reserved-slot.ensures.key_in_range, c.insert_reserved-slot.ensures.capacity)) n
+    c.insert_reserved-slot.ensures.updates.changed c.insert_reserved-slot.ensures.updates.others c.put_key.ensures.key
+
+pub returns-clause-slots : goal.returns-clause-slots
+returns-clause-slots c =
+    let v : SlotTable = record { regions = c.self.inside.regions.slots; room = c.self.inside.regions.capacity } in
+    let w : SlotTable = record { regions = c.insert_reserved-slot.new.self.slots; room = c.insert_reserved-slot.new.self.capacity } in
+    let n = rw (← c.self.view_is) at c.requires.none in
+    rw (← c.self.view_is) (slots-come v w c.insert_reserved-slot.ensures.capacity c.insert_reserved-slot.result c.insert_reserved-slot.ensures.updates.others (record { id = c.args.id; state = c.args.state })
+    c.insert_reserved-slot.ensures.updates.changed c.insert_reserved-slot.ensures.was_vacant (omega (arith, c.insert_reserved-slot.ensures.key_in_range, c.insert_reserved-slot.ensures.capacity)) n)
+
+pub returns-clause-states : goal.returns-clause-states
+returns-clause-states c =
+    let v : SlotTable = record { regions = c.self.inside.regions.slots; room = c.self.inside.regions.capacity } in
+    let w : SlotTable = record { regions = c.insert_reserved-slot.new.self.slots; room = c.insert_reserved-slot.new.self.capacity } in
+    let n = rw (← c.self.view_is) at c.requires.none in
+    rw (← c.self.view_is) (states-come v w c.insert_reserved-slot.ensures.capacity c.insert_reserved-slot.result c.insert_reserved-slot.ensures.updates.others (record { id = c.args.id; state = c.args.state })
+    c.insert_reserved-slot.ensures.updates.changed c.insert_reserved-slot.ensures.was_vacant (omega (arith, c.insert_reserved-slot.ensures.key_in_range, c.insert_reserved-slot.ensures.capacity)) n)
+
+pub returns-clause-fresh : goal.returns-clause-fresh
+returns-clause-fresh c =
+    let v : SlotTable = record { regions = c.self.inside.regions.slots; room = c.self.inside.regions.capacity } in
+    let w : SlotTable = record { regions = c.insert_reserved-slot.new.self.slots; room = c.insert_reserved-slot.new.self.capacity } in
+    let n = rw (← c.self.view_is) at c.requires.none in
+    rw (← c.self.view_is) (free_slot v w c.insert_reserved-slot.ensures.capacity c.insert_reserved-slot.result c.insert_reserved-slot.ensures.updates.others (record { id = c.args.id; state = c.args.state })
+    c.insert_reserved-slot.ensures.updates.changed c.insert_reserved-slot.ensures.was_vacant (omega (arith, c.insert_reserved-slot.ensures.key_in_range, c.insert_reserved-slot.ensures.capacity)) n)

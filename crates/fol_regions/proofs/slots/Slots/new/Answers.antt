@@ -1,0 +1,10 @@
+use Rattle.std.proofs.Common.{◌≡◌, ◌∙◌, ap, refl}
+use Rattle.std.specs.Prelude.{None}
+use Rattle.std.specs.List.{slice_index_or}
+use Rattle.fol_regions.specs.Slots.{SlotTable, has_id, slot_of}
+use Rattle.fol_regions.proofs.SlotSteps.{least-none}
+use Rattle.fol_regions.proofs.slots.Slots.new.Goals as goal
+
+pub returns-clause-none : goal.returns-clause-none
+unfolding slot_of
+returns-clause-none c = λ id. least-none _ _ (λ k l. ap (λ xs. has_id id (slice_index_or xs k None)) c.in_ok-regions.ensures.empty)

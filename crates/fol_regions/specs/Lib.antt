@@ -1,0 +1,13 @@
+pub mod Slots
+pub mod SlotKeys
+pub mod Links
+pub mod Rows
+pub mod Owners
+pub mod Book
+pub mod Near
+pub mod Table
+pub mod Changes
+pub mod Added
+pub mod Answers
+pub mod Released
+pub mod Kept

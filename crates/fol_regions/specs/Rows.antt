@@ -1,0 +1,26 @@
+-- Lists of sections, each in order, by number.
+use Rattle.std.specs.Prelude.{◌≡◌, ℕ, ◌≤◌, Bool, true, ◌||◌, List, filter}
+use Rattle.std.specs.List.{list_any}
+use Rattle.std.specs.List.Sorted.{IsStrictlySortedBy}
+use Rattle.fol_model.specs.declared.places.SectionPos.{SectionPos}
+use Rattle.fol_model.specs.Geometry.{is_section, same_section}
+use Rattle.fol_model.specs.Universe.{all_sections, section_cmp}
+
+-- the section is one of the list
+abbrev pub is_among : List SectionPos → SectionPos → Bool
+is_among sections s = list_any (same_section s) sections
+
+-- the sections of both lists, in order
+unfoldable pub united : List SectionPos → List SectionPos → List SectionPos
+united xs ys = filter (λ s. is_among xs s || is_among ys s) all_sections
+
+-- sections in order, each within the limits
+pub record IsRow (xs : List SectionPos) : Type 0 where
+  pub in_order : IsStrictlySortedBy section_cmp xs
+  pub limits : (s : SectionPos) → is_among xs s ≡ true → is_section s ≡ true
+
+-- there is room for all present sections
+pub record AreRows (total room in_made : ℕ) : Type 0 where
+  pub fits : total ≤ 16384
+  pub most : room ≡ 16384
+  pub made : 16384 ≤ in_made

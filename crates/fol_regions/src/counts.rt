@@ -1,0 +1,23 @@
+//! The loaded chunks of some sections, counted section by section.
+
+ghost use Rattle.std.specs.Prelude.{◌≡◌, ◌&&◌, nat_lt, count_by};
+ghost use Rattle.std.specs.List.Sorted.{IsStrictlySortedBy};
+ghost use Rattle.fol_model.specs.Geometry.{section_of};
+ghost use Rattle.fol_model.specs.Universe.{all_chunks, section_cmp};
+ghost use Rattle.fol_sections.specs.Table.{holds_of};
+ghost use Rattle.fol_regions.specs.Rows.{is_among};
+
+use fol_model::SectionPos;
+use fol_sections::Sections;
+
+/// How many loaded chunks the sections of a rising list have.
+pub fn count_chunks(sections: &Sections, row: &[SectionPos]) -> u64
+    requires rising { IsStrictlySortedBy section_cmp row.now }
+    ensures { result ≡ count_by (λ c. nat_lt 0 (holds_of sections.now c) && is_among row.now (section_of sections.now.grid c)) all_chunks }
+{
+    let mut count = 0;
+    for s in row {
+        count += sections.loaded_in(*s);
+    }
+    count
+}

@@ -1,0 +1,101 @@
+//! The regions near a section.
+
+ghost use Rattle.std.specs.Prelude.{◌≡◌, ◌+◌, ◌<◌, ◌≤◌, ◌++◌, [], length, List, filter, pos, ◌+ℤ◌, ◌-ℤ◌, nat_abs};
+ghost use Rattle.std.specs.Vec.{vec_capacity};
+ghost use Rattle.fol_model.specs.declared.places.SectionPos.{SectionPos};
+ghost use Rattle.fol_model.specs.Universe.{numbers_below};
+ghost use Rattle.fol_regions.specs.Book.{owner_of};
+ghost use Rattle.fol_regions.specs.Near.{row_of, regions_of, is_close, noted};
+
+use crate::links::add_id;
+use crate::tables::Tables;
+use fol_model::SectionPos;
+use std::mem;
+
+/// Finds the regions with a section within a radius, in order of id.
+pub fn find_near(
+    tables: &Tables,
+    near: &mut Vec<u64>,
+    made: &mut Vec<u64>,
+    home: SectionPos,
+    reach: u8,
+)
+    requires home { (nat_abs home.x ≤ 1000008) × (nat_abs home.z ≤ 1000008) }
+    requires reach { reach ≤ 12 }
+    requires rooms { (625 ≤ vec_capacity near.old) × (625 ≤ vec_capacity made.old) }
+    ensures near { near.new.items ≡ filter (is_close (owner_of tables.now) home reach) (numbers_below tables.now.next) }
+    ensures few { length near.new.items ≤ 625 }
+    ensures rooms { (625 ≤ vec_capacity near.new) × (625 ≤ vec_capacity made.new) }
+{
+    tables.keeps_lists();
+    near.clear();
+    let first = corner(home, reach);
+    let side = 2 * reach as u32 + 1;
+    for row in 0..side {
+        find_row(tables, near, made, first, row, side);
+    }
+}
+
+/// Adds the regions of `n` sections in a row.
+fn find_row(
+    tables: &Tables,
+    near: &mut Vec<u64>,
+    made: &mut Vec<u64>,
+    first: SectionPos,
+    row: u32,
+    n: u32,
+)
+    requires first { (nat_abs first.x ≤ 1000020) × (nat_abs first.z ≤ 1000020) }
+    requires counts { (row ≤ 25) × (n ≤ 25) }
+    requires few { length near.old.items + n ≤ 625 }
+    requires rooms { (625 ≤ vec_capacity near.old) × (625 ≤ vec_capacity made.old) }
+    ensures near { (before : List SectionPos) → near.old.items ≡ regions_of (owner_of tables.now) tables.now.next before → near.new.items ≡ regions_of (owner_of tables.now) tables.now.next (before ++ row_of first row n) }
+    ensures few { length near.new.items ≤ length near.old.items + n }
+    ensures rooms { (625 ≤ vec_capacity near.new) × (625 ≤ vec_capacity made.new) }
+{
+    tables.keeps_lists();
+    for i in 0..n {
+        note(near, made, tables.owner(beside(first, i, row)));
+    }
+}
+
+/// Adds an id in order, unless it is 0 or there.
+fn note(near: &mut Vec<u64>, made: &mut Vec<u64>, id: u64)
+    requires few { length near.old.items < 625 }
+    requires rooms { (625 ≤ vec_capacity near.old) × (625 ≤ vec_capacity made.old) }
+    ensures noted { near.new.items ≡ noted id near.old.items }
+    ensures few { length near.new.items ≤ length near.old.items + 1 }
+    ensures rooms { (625 ≤ vec_capacity near.new) × (625 ≤ vec_capacity made.new) }
+{
+    if id == 0 || near.contains(&id) {
+        return;
+    }
+    made.clear();
+    add_id(near, id, made);
+    mem::swap(near, made);
+}
+
+/// The section with the least coordinates of those within a radius.
+fn corner(s: SectionPos, reach: u8) -> SectionPos
+    requires near { (nat_abs s.x ≤ 1000008) × (nat_abs s.z ≤ 1000008) }
+    requires few { reach ≤ 12 }
+    ensures { result ≡ record { x = s.x -ℤ pos reach; z = s.z -ℤ pos reach } }
+{
+    let reach = reach as i32;
+    SectionPos {
+        x: s.x - reach,
+        z: s.z - reach,
+    }
+}
+
+/// The section that many columns and rows behind another one.
+fn beside(first: SectionPos, columns: u32, rows: u32) -> SectionPos
+    requires near { (nat_abs first.x ≤ 1000020) × (nat_abs first.z ≤ 1000020) }
+    requires few { (columns ≤ 25) × (rows ≤ 25) }
+    ensures { result ≡ record { x = first.x +ℤ pos columns; z = first.z +ℤ pos rows } }
+{
+    SectionPos {
+        x: first.x + columns as i32,
+        z: first.z + rows as i32,
+    }
+}

@@ -1,0 +1,242 @@
+//! The region table.
+
+ghost use Rattle.std.specs.Prelude.{◌≡◌, ◌+◌, ◌≤◌, ◌<◌, ◌^◌, not, ◌&&◌, nat_eq, IsTrue, IfOk, OnOk, [], filter, count_by};
+ghost use Rattle.std.specs.Vec.{vec_capacity};
+ghost use Rattle.fol_model.specs.declared.regions.State.TheVariants.{Ticking};
+ghost use Rattle.fol_model.specs.Geometry.{is_chunk, is_section};
+ghost use Rattle.fol_model.specs.GridState.{empty, is_dead};
+ghost use Rattle.fol_model.specs.Universe.{all_sections, all_chunks, numbers_below};
+ghost use Rattle.fol_model.specs.Add.{add};
+ghost use Rattle.fol_model.specs.Drop.{drop_hold};
+ghost use Rattle.fol_model.specs.Release.{release};
+ghost use Rattle.fol_model.specs.Rules.{Rules};
+ghost use Rattle.fol_model.specs.Outputs.{is_chunk_of, chunk_count};
+ghost use Rattle.fol_regions.specs.Changes.{add_change, release_change};
+ghost use Rattle.fol_regions.specs.Answers.{IsGiven, add_answer, remove_answer, begin_answer, begun_state, some_id, state_answer};
+
+use crate::add::hold;
+use crate::counts::count_chunks;
+use crate::release::Releaser;
+use crate::tables::Tables;
+use crate::{AddAnswer, Begun, Change};
+use fol_model::{ChunkPos, Grid, SectionPos, State};
+use fol_sections::{Removed, Sections};
+use std::alloc::{AllocError, Global};
+use std::marker::Model;
+
+/// The most regions near a chunk: each has a section within the create and the merge radius of the chunk's own.
+const MOST_NEAR: usize = 625;
+
+/// The region table. Contracts see a `Table`, whose word `grid_state` is the state of the grid that it stands for.
+#[derive(Drop)]
+pub struct Regions {
+    grid: Grid,
+    sections: Sections,
+    tables: Tables,
+    releaser: Releaser,
+    near: Vec<u64>,
+    made: Vec<u64>,
+    change: Change,
+    /// How many events there is memory for.
+    spare: u32,
+}
+
+impl Model for Regions {
+    ghost use Rattle.std.specs.Vec.{vec_capacity};
+    ghost use Rattle.fol_regions.specs.Table.{Table};
+    ghost use Rattle.fol_regions.specs.Kept.{IsKept};
+
+    ghost Value = { Table };
+
+    ghost view = { λ s. record { sections = s.sections; book = s.tables; last = s.change; spare = s.spare } };
+
+    ghost invariant = { λ s. IsKept s.grid s.sections s.tables s.spare (vec_capacity s.near) (vec_capacity s.made) };
+}
+
+impl Regions {
+    ghost use Rattle.fol_regions.specs.Table.{Table, grid_state};
+
+    /// No region and no section. Takes the memory for 16,384 sections.
+    pub fn new(alloc: Global, grid: Grid) -> Result<Regions, AllocError>
+        ensures empty { IfOk result (λ t. grid_state t ≡ empty grid) }
+    {
+        let _create = grid.create;
+        let tables = Tables::new(alloc)?;
+        tables.keeps_lists();
+        tables.keeps_states();
+        Ok(Regions {
+            grid,
+            sections: Sections::new(alloc, grid)?,
+            tables,
+            releaser: Releaser::new(alloc)?,
+            near: Vec::with_capacity(alloc, MOST_NEAR)?,
+            made: Vec::with_capacity(alloc, MOST_NEAR)?,
+            change: Change::new(alloc)?,
+            spare: 0,
+        })
+    }
+
+    /// Makes `spare` at least `n`. Takes memory; what the table stands for stays either way.
+    pub fn reserve(&mut self, n: u32) -> Result<(), AllocError>
+        ensures ok { OnOk result (n ≤ self.new.spare) }
+        ensures state { grid_state self.new ≡ grid_state self.old }
+        ensures last { self.new.last ≡ self.old.last }
+        ensures spare { self.old.spare ≤ self.new.spare }
+    {
+        if n <= self.spare {
+            return Ok(());
+        }
+        self.sections.reserve(n)?;
+        self.tables
+            .reserve(289 * n as usize, MOST_NEAR * n as usize)?;
+        self.spare = n;
+        Ok(())
+    }
+
+    /// How many calls of `add` and `release` there is memory for.
+    pub fn spare(&self) -> u32
+        ensures { result ≡ self.now.spare }
+    {
+        self.spare
+    }
+
+    /// Counts a hold more of a chunk, which has at most 2^62 holds; `spare` is at least 1. Takes no memory.
+    pub fn add(&mut self, c: ChunkPos) -> AddAnswer
+        requires spare { 1 ≤ self.old.spare }
+        requires in_range { IsTrue (is_chunk c) }
+        requires few { (grid_state self.old).holds c < 2 ^ 62 }
+        requires few_ids { (grid_state self.old).next < 2 ^ 62 }
+        ensures state { grid_state self.new ≡ add (grid_state self.old) c }
+        ensures answer { result ≡ add_answer (grid_state self.old) c }
+        ensures last { self.new.last ≡ add_change (grid_state self.old) c }
+        ensures spare { self.old.spare ≤ self.new.spare + 1 }
+    {
+        self.spare -= 1;
+        hold(
+            &mut self.sections,
+            &mut self.tables,
+            &mut self.near,
+            &mut self.made,
+            &mut self.change,
+            &self.grid,
+            c,
+        )
+    }
+
+    /// Counts a hold less of a chunk. No section and no region changes. Takes no memory.
+    pub fn remove(&mut self, c: ChunkPos) -> Removed
+        ensures state { grid_state self.new ≡ drop_hold (grid_state self.old) c }
+        ensures answer { result ≡ remove_answer (grid_state self.old) c }
+        ensures last { self.new.last ≡ self.old.last }
+        ensures spare { self.new.spare ≡ self.old.spare }
+    {
+        self.sections.remove(c)
+    }
+
+    /// Begins the tick of a region that was given out, where it is Ready. Takes no memory.
+    pub fn begin(&mut self, id: u64) -> Begun
+        requires given { IsGiven (grid_state self.old) id }
+        ensures answer { result ≡ begin_answer (grid_state self.old) id }
+        ensures state { grid_state self.new ≡ begun_state (grid_state self.old) id }
+        ensures last { self.new.last ≡ self.old.last }
+        ensures spare { self.new.spare ≡ self.old.spare }
+    {
+        let state = self.tables.state(id);
+        match state {
+            State::Ready => {
+                self.tables.keeps_states();
+                self.tables.set_state(id, State::Ticking);
+                Begun::Begun
+            }
+            _ => Begun::NotReady(state),
+        }
+    }
+
+    /// Ends the tick of a Ticking region; `spare` is at least 1. Takes no memory.
+    pub fn release(&mut self, id: u64)
+        requires ticks { (grid_state self.old).state id ≡ Ticking }
+        requires spare { 1 ≤ self.old.spare }
+        requires few_ids { (grid_state self.old).next < 2 ^ 62 }
+        ensures state { grid_state self.new ≡ release (grid_state self.old) id }
+        ensures last { self.new.last ≡ release_change (grid_state self.old) id }
+        ensures spare { self.old.spare ≤ self.new.spare + 1 }
+    {
+        self.releaser.release(
+            self.grid,
+            &mut self.tables,
+            &mut self.sections,
+            &mut self.change,
+            id,
+        );
+    }
+
+    /// What the last `add` or `release` changed; nothing after Counted and Full.
+    pub fn last(&self) -> &Change
+        ensures { result.now ≡ self.now.last }
+    {
+        &self.change
+    }
+
+    /// The region that owns a section within the limits; `None` exactly where the section is not present.
+    pub fn owner(&self, s: SectionPos) -> Option<u64>
+        ensures { result ≡ some_id ((grid_state self.now).owner s) }
+    {
+        let id = self.tables.owner(s);
+        if id == 0 { None } else { Some(id) }
+    }
+
+    /// The state of a region; `None` exactly where the id was never given out.
+    pub fn state(&self, id: u64) -> Option<State>
+        ensures { result ≡ state_answer (grid_state self.now) id }
+    {
+        if id == 0 {
+            return None;
+        }
+        if id < self.tables.next_id() {
+            Some(self.tables.state(id))
+        } else {
+            None
+        }
+    }
+
+    /// The Ticking regions that a region waits for, rising.
+    pub fn waits_for(&self, id: u64) -> &[u64]
+        requires given { IsGiven (grid_state self.now) id }
+        ensures { result.now ≡ filter (λ t. (grid_state self.now).waits id t) (numbers_below (grid_state self.now).next) }
+    {
+        self.tables.keeps_lists();
+        self.tables.waits_for(id)
+    }
+
+    /// The sections of a region, by `(z, x)`; none where it is Dead.
+    pub fn sections(&self, id: u64) -> &[SectionPos]
+        requires given { IsGiven (grid_state self.now) id }
+        ensures { result.now ≡ filter (λ s. nat_eq ((grid_state self.now).owner s) id) all_sections }
+    {
+        self.tables.keeps_lists();
+        self.tables.sections(id)
+    }
+
+    /// How many loaded chunks a region has.
+    pub fn chunk_count(&self, id: u64) -> u64
+        requires given { IsGiven (grid_state self.now) id }
+        ensures { result ≡ chunk_count (grid_state self.now) id }
+    {
+        self.tables.keeps_lists();
+        count_chunks(&self.sections, self.tables.sections(id))
+    }
+
+    /// How many holds a chunk has.
+    pub fn holds(&self, c: ChunkPos) -> u64
+        ensures { result ≡ (grid_state self.now).holds c }
+    {
+        self.sections.holds(c)
+    }
+
+    /// The state of the grid keeps the region rules.
+    pub fn keeps_rules(&self)
+        ensures { Rules (grid_state self.now) }
+    {
+        let _spare = &self.spare;
+    }
+}

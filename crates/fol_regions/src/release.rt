@@ -1,0 +1,245 @@
+//! The end of a tick: the regions that wait join, dead sections leave, and what is left falls into parts.
+
+ghost use Rattle.std.specs.Prelude.{◌≡◌, ◌≢◌, ℕ, ◌+◌, ◌*◌, ◌<◌, ◌≤◌, ◌^◌, not, ◌||◌, ◌&&◌, true, false, IfOk, IsTrue, [], ◌++◌, length, filter, nat_eq, nat_le, nat_lt};
+ghost use Rattle.std.specs.List.{All, range_with_len};
+ghost use Rattle.std.specs.Vec.{vec_capacity};
+ghost use Rattle.fol_model.specs.declared.places.SectionPos.{SectionPos};
+ghost use Rattle.fol_model.specs.declared.regions.State.TheVariants.{Ticking};
+ghost use Rattle.fol_model.specs.GridNumbers.{IsGrid};
+ghost use Rattle.fol_model.specs.Release.{release};
+ghost use Rattle.fol_model.specs.Rules.{Rules};
+ghost use Rattle.fol_model.specs.Universe.{count_sections};
+ghost use Rattle.fol_sections.specs.Table.{in_margin_of, presence_of};
+ghost use Rattle.fol_regions.specs.Book.{owner_of, waits_of, is_live, rows_of, ahead_of, behind_of, KeepsRoom};
+ghost use Rattle.fol_regions.specs.Changes.{into, nothing, release_change};
+ghost use Rattle.fol_regions.specs.Released.{Cleans, Joins, with_parts};
+ghost use Rattle.fol_split.specs.Parts.{ArePartsOf};
+ghost use Rattle.fol_regions.specs.Rows.{is_among};
+
+use crate::change::Change;
+use crate::tables::Tables;
+use fol_model::{Grid, SectionPos, State};
+use fol_sections::Sections;
+use fol_split::Splitter;
+use std::alloc::{AllocError, Global};
+use std::marker::Model;
+
+/// The most sections that are present at once.
+const MOST: usize = 16_384;
+
+/// The memory in which a release works.
+#[derive(Drop)]
+pub struct Releaser {
+    splitter: Splitter,
+    /// The regions that join.
+    ids: Vec<u64>,
+    /// The sections of the region that are in a margin.
+    living: Vec<SectionPos>,
+    /// The other ones.
+    dead: Vec<SectionPos>,
+}
+
+impl Model for Releaser {
+    ghost use Rattle.std.specs.Prelude.{ℕ, ◌≤◌};
+    ghost use Rattle.std.specs.Vec.{vec_capacity};
+
+    ghost Value = { ℕ };
+
+    ghost view = { λ r. 0 };
+
+    ghost invariant = { λ r. (16384 ≤ vec_capacity r.ids) × (16384 ≤ vec_capacity r.living) × (16384 ≤ vec_capacity r.dead) };
+}
+
+impl Releaser {
+    ghost use Rattle.fol_regions.specs.Released.{IsPresence, grid_of};
+
+    /// Takes the memory for 16,384 sections.
+    pub fn new(alloc: Global) -> Result<Releaser, AllocError> {
+        Ok(Releaser {
+            splitter: Splitter::new(alloc)?,
+            ids: Vec::with_capacity(alloc, MOST)?,
+            living: Vec::with_capacity(alloc, MOST)?,
+            dead: Vec::with_capacity(alloc, MOST)?,
+        })
+    }
+
+    /// Ends the tick of a Ticking region. Takes no memory.
+    pub fn release(
+        &mut self,
+        grid: Grid,
+        tables: &mut Tables,
+        sections: &mut Sections,
+        change: &mut Change,
+        id: u64,
+    )
+        requires grid { grid ≡ sections.old.grid }
+        requires rules { Rules (grid_of sections.old tables.old) }
+        requires presence { IsPresence sections.old tables.old }
+        requires ticks { (grid_of sections.old tables.old).state id ≡ Ticking }
+        requires few_ids { tables.old.next < 2 ^ 62 }
+        ensures state { grid_of sections.new tables.new ≡ release (grid_of sections.old tables.old) id }
+        ensures change { change.new ≡ release_change (grid_of sections.old tables.old) id }
+        ensures presence { IsPresence sections.new tables.new }
+        ensures rooms { KeepsRoom tables.old tables.new }
+        ensures spare { sections.new.spare ≡ sections.old.spare }
+        ensures grid { sections.new.grid ≡ sections.old.grid }
+        ensures filled { sections.new.filled ≡ sections.old.filled }
+    {
+        tables.keeps_lists();
+        tables.keeps_states();
+        change.clear();
+        list_waiting(tables, id, &mut self.ids);
+        join_all(tables, change, &self.ids, id);
+        tables.keeps_lists();
+        if tables.is_waiting(id) {
+            tables.set_state(id, State::Transient);
+            return;
+        }
+        self.living.clear();
+        self.dead.clear();
+        sort_out(
+            sections,
+            tables.sections(id),
+            &mut self.living,
+            &mut self.dead,
+        );
+        if must_clean(
+            grid,
+            self.ids.len(),
+            self.living.len() + self.dead.len(),
+            self.dead.len(),
+        ) {
+            settle(
+                &mut self.splitter,
+                tables,
+                change,
+                grid.merge,
+                id,
+                &self.living,
+                &self.dead,
+            );
+            sections.drop_dead(&mut self.dead);
+        } else {
+            tables.set_state(id, State::Ready);
+        }
+    }
+}
+
+/// Puts the regions that wait for a region into a list with room for them.
+fn list_waiting(tables: &Tables, id: u64, ids: &mut Vec<u64>)
+    requires { length (behind_of tables.now id) ≤ vec_capacity ids.old }
+    ensures ids { ids.new.items ≡ behind_of tables.now id }
+    ensures room { vec_capacity ids.old ≤ vec_capacity ids.new }
+{
+    ids.clear();
+    let _ = ids.extend_from_slice(tables.waiting(id));
+}
+
+/// Makes the regions that wait for a region part of it.
+fn join_all(tables: &mut Tables, change: &mut Change, ids: &[u64], id: u64)
+    requires region { is_live tables.old id ≡ true }
+    requires ids { ids.now ≡ behind_of tables.old id }
+    requires alone { (r : ℕ) → waits_of tables.old id r ≡ false }
+    requires last { (u r : ℕ) → waits_of tables.old u id ≡ true → waits_of tables.old r u ≡ false }
+    requires few { count_sections (λ s. nat_lt 0 (owner_of tables.old s)) ≤ 16384 }
+    requires nothing { change.old ≡ nothing }
+    ensures joins { Joins tables.old tables.new id ids.now }
+    ensures change { change.new ≡ record { created = []; dead = ids.now; merges = into id ids.now; parts = [] } }
+{
+    tables.keeps_lists();
+    for u in ids {
+        tables.merge(*u, id);
+        change.merge(*u, id);
+    }
+}
+
+/// Puts the sections of a region that are in a margin into one list, and the others into another.
+fn sort_out(
+    sections: &Sections,
+    row: &[SectionPos],
+    living: &mut Vec<SectionPos>,
+    dead: &mut Vec<SectionPos>,
+)
+    requires present { (s : SectionPos) → is_among row.now s ≡ true → presence_of sections.now s ≡ true }
+    requires living_empty { living.old.items ≡ [] }
+    requires dead_empty { dead.old.items ≡ [] }
+    requires living_room { length row.now ≤ vec_capacity living.old }
+    requires dead_room { length row.now ≤ vec_capacity dead.old }
+    ensures living { living.new.items ≡ filter (in_margin_of sections.now) row.now }
+    ensures dead { dead.new.items ≡ filter (λ s. not (in_margin_of sections.now s)) row.now }
+    ensures living_room { vec_capacity living.old ≤ vec_capacity living.new }
+    ensures dead_room { vec_capacity dead.old ≤ vec_capacity dead.new }
+{
+    for s in row {
+        if sections.is_dead(*s) {
+            dead.push_reserved(*s);
+        } else {
+            living.push_reserved(*s);
+        }
+    }
+}
+
+/// Whether a region is cleaned that so many regions joined, and that has so many sections, of which so many are dead.
+fn must_clean(grid: Grid, joined: usize, size: usize, dead: usize) -> bool
+    requires size { size ≤ 16384 }
+    requires dead { dead ≤ 16384 }
+    ensures { result ≡ (not (nat_eq joined 0) || (nat_eq dead size || (nat_le grid.min size && nat_le (size * grid.num) (dead * grid.den)))) }
+{
+    joined != 0
+        || dead == size
+        || (size >= grid.min as usize && size * grid.num as usize <= dead * grid.den as usize)
+}
+
+/// Notes the ids of the parts of a split.
+fn note_parts(change: &mut Change, first: u64, count: u32)
+    requires count { length change.old.created + count ≤ 16385 }
+    requires parts { length change.old.parts + count ≤ 16385 }
+    requires few { first < 2 ^ 62 }
+    ensures { change.new ≡ record change.old { created = change.old.created ++ range_with_len first count; parts = change.old.parts ++ range_with_len first count } }
+{
+    for i in 0..count {
+        change.part(first + i as u64);
+    }
+}
+
+/// Leaves a region its living sections, as one region or as several.
+fn settle(
+    splitter: &mut Splitter,
+    tables: &mut Tables,
+    change: &mut Change,
+    merge: u8,
+    id: u64,
+    living: &[SectionPos],
+    dead: &[SectionPos],
+)
+    requires region { is_live tables.old id ≡ true }
+    requires first { ahead_of tables.old id ≡ [] }
+    requires last { behind_of tables.old id ≡ [] }
+    requires dead { (s : SectionPos) → is_among dead.now s ≡ true → owner_of tables.old s ≡ id }
+    requires living { living.now ≡ filter (λ s. not (is_among dead.now s)) (rows_of tables.old id) }
+    requires few { count_sections (λ s. nat_lt 0 (owner_of tables.old s)) ≤ 16384 }
+    requires few_ids { tables.old.next < 2 ^ 62 }
+    requires merge { (1 ≤ merge) × (merge ≤ 4) }
+    requires room { (change.old.created ≡ []) × (change.old.parts ≡ []) × (length change.old.dead < 16385) }
+    ensures parts { ArePartsOf living.now merge splitter.new }
+    ensures tables { Cleans tables.old tables.new id living.now splitter.new }
+    ensures change { change.new ≡ with_parts change.old id tables.old.next splitter.new }
+{
+    tables.keeps_lists();
+    let first = tables.next_id();
+    splitter.parts(living, merge);
+    let count = splitter.count();
+    if count == 0 {
+        tables.end(id);
+        change.end(id);
+    } else if count == 1 {
+        tables.keep(id, living, dead);
+        tables.set_state(id, State::Ready);
+    } else {
+        tables.keep(id, living, dead);
+        tables.keeps_lists();
+        tables.split(id, splitter);
+        change.end(id);
+        note_parts(change, first, count);
+    }
+}

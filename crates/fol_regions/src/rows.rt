@@ -1,0 +1,145 @@
+//! Lists of sections in order.
+
+ghost use Rattle.std.specs.Prelude.{◌≡◌, ◌≢◌, ◌+◌, ◌<◌, ◌≤◌, [], length, replicate, IfOk};
+ghost use Rattle.std.specs.List.{All};
+ghost use Rattle.std.specs.List.Sorted.{IsStrictlySortedBy};
+ghost use Rattle.std.specs.Vec.{vec_capacity};
+ghost use Rattle.fol_lists.specs.Numbered.{list_at, total, with_list};
+ghost use Rattle.fol_model.specs.Geometry.{is_section};
+ghost use Rattle.fol_model.specs.Universe.{section_cmp};
+ghost use Rattle.fol_regions.specs.Rows.{united, IsRow};
+
+use fol_lists::Lists;
+use fol_model::SectionPos;
+use std::alloc::{AllocError, Global};
+use std::cmp::Ordering;
+use std::marker::Model;
+
+/// The most sections that are present at once.
+const MOST: usize = 16_384;
+
+/// Lists of sections by number, of 16,384 sections together.
+#[derive(Drop)]
+pub struct Rows {
+    lists: Lists<SectionPos>,
+    /// Where a list is made that takes another one's place.
+    made: Vec<SectionPos>,
+}
+
+impl Model for Rows {
+    ghost use Rattle.fol_model.specs.declared.places.SectionPos.{SectionPos};
+    ghost use Rattle.std.specs.Vec.{vec_capacity};
+    ghost use Rattle.fol_lists.specs.Numbered.{Numbered, total};
+    ghost use Rattle.fol_regions.specs.Rows.{AreRows};
+
+    ghost Value = { Numbered SectionPos };
+
+    ghost view = { λ s. s.lists };
+
+    ghost invariant = { λ s. AreRows (total s.lists) s.lists.room (vec_capacity s.made) };
+}
+
+impl Rows {
+    /// Empty lists with the numbers below `numbers`.
+    pub fn new(alloc: Global, numbers: usize) -> Result<Rows, AllocError>
+        ensures { IfOk result (λ v. v ≡ record { lists = replicate numbers []; room = 16384 }) }
+    {
+        Ok(Rows {
+            lists: Lists::new(alloc, numbers, MOST)?,
+            made: Vec::with_capacity(alloc, MOST)?,
+        })
+    }
+
+    /// The list with this number.
+    pub fn get(&self, n: usize) -> &[SectionPos]
+        requires { n < length self.now.lists }
+        ensures { result.now ≡ list_at self.now n }
+    {
+        self.lists.get(n)
+    }
+
+    /// Makes a list empty.
+    pub fn clear(&mut self, n: usize)
+        requires { n < length self.old.lists }
+        ensures { self.new ≡ with_list self.old n [] }
+    {
+        self.lists.clear(n);
+    }
+
+    /// Puts other sections in place of a list's own.
+    pub fn put(&mut self, n: usize, sections: &[SectionPos])
+        requires number { n < length self.old.lists }
+        requires room { total (with_list self.old n sections.now) ≤ 16384 }
+        ensures { self.new ≡ with_list self.old n sections.now }
+    {
+        self.lists.put(n, sections);
+    }
+
+    /// Adds the sections of a list in order.
+    pub fn unite(&mut self, n: usize, sections: &[SectionPos])
+        requires number { n < length self.old.lists }
+        requires row { IsRow (list_at self.old n) }
+        requires sections { IsRow sections.now }
+        requires room { total self.old + length sections.now ≤ 16384 }
+        ensures { self.new ≡ with_list self.old n (united (list_at self.old n) sections.now) }
+    {
+        self.made.clear();
+        merge(self.lists.get(n), sections, &mut self.made);
+        self.lists.put(n, &self.made);
+    }
+
+    /// Adds the sections of another list, which is empty from then on.
+    pub fn join(&mut self, n: usize, other: usize)
+        requires number { n < length self.old.lists }
+        requires other { other < length self.old.lists }
+        requires apart { n ≢ other }
+        requires row { IsRow (list_at self.old n) }
+        requires other_row { IsRow (list_at self.old other) }
+        ensures { self.new ≡ with_list (with_list self.old other []) n (united (list_at self.old n) (list_at self.old other)) }
+    {
+        self.made.clear();
+        merge(self.lists.get(n), self.lists.get(other), &mut self.made);
+        self.lists.clear(other);
+        self.lists.put(n, &self.made);
+    }
+}
+
+/// The order by `z`, and then by `x`.
+fn compare(a: SectionPos, b: SectionPos) -> Ordering
+    ensures { result ≡ section_cmp a b }
+{
+    (a.z, a.x).cmp(&(b.z, b.x))
+}
+
+/// Puts the sections of two lists, each in order, into an empty list with room for them, in order.
+fn merge(xs: &[SectionPos], ys: &[SectionPos], out: &mut Vec<SectionPos>)
+    requires xs { IsRow xs.now }
+    requires ys { IsRow ys.now }
+    requires none { out.old.items ≡ [] }
+    requires room { length xs.now + length ys.now ≤ vec_capacity out.old }
+    ensures united { out.new.items ≡ united xs.now ys.now }
+    ensures few { length out.new.items ≤ length xs.now + length ys.now }
+    ensures room { vec_capacity out.old ≤ vec_capacity out.new }
+{
+    let mut i = 0;
+    let mut j = 0;
+    while i < xs.len() && j < ys.len() {
+        match compare(xs[i], ys[j]) {
+            Ordering::Less => {
+                let _ = out.push(xs[i]);
+                i += 1;
+            }
+            Ordering::Equal => {
+                let _ = out.push(xs[i]);
+                i += 1;
+                j += 1;
+            }
+            Ordering::Greater => {
+                let _ = out.push(ys[j]);
+                j += 1;
+            }
+        }
+    }
+    let _ = out.extend_from_slice(&xs[i..]);
+    let _ = out.extend_from_slice(&ys[j..]);
+}
