@@ -1,0 +1,205 @@
+-- What lies on some chunks goes from one part to another.
+use Rattle.std.proofs.Common.{◌≡◌, ◌≢◌, ℕ, ◌<◌, ◌≤◌, true, false, ◌||◌, ◌&&◌, List, [], length, refl, sym, ◌∙◌, ap, subst, inl, inr, arith, Option, Some, None}
+use Rattle.std.specs.Prelude.{nat_eq, if◌then◌else◌}
+use Rattle.std.proofs.lemmas.Bool.{cases_Bool, cases_eq, eqb-true}
+use Rattle.std.specs.Option.{option_or}
+use Rattle.fol_queues.specs.Waiting.{option_filter}
+use Rattle.fol_model.specs.declared.places.ChunkPos.{ChunkPos}
+use Rattle.fol_chunks.specs.Contents.{is_recorded}
+use Rattle.fol_queues.proofs.Numbers.{nat_self}
+use Rattle.fol_data.specs.declared.region_data.RegionData.{RegionData}
+use Rattle.fol_store.specs.declared.slot.Slot.{Slot}
+use Rattle.fol_store.specs.declared.places.Place.{Place}
+use Rattle.fol_store.specs.Gathered.{IsClear, Spared}
+use Rattle.fol_store.specs.Places.{PlaceRows, rehomed}
+use Rattle.fol_store.specs.Moves.{Loses, Gains, SameThings}
+use Rattle.fol_store.specs.Things.{Key, Thing, things, chunk_at, IsTimely}
+use Rattle.fol_store.specs.Stock.{Stock, Where, arriving, in_spot, in_bag, slot, place, column, bag_of, shown}
+use Rattle.fol_store.specs.Sound.{Allows, IsSound}
+use Rattle.fol_store.specs.Steps.{Draws}
+use Rattle.fol_store.proofs.Columns.{Moves, moves_back}
+use Rattle.fol_store.proofs.Totals.{where_cases}
+use Rattle.fol_store.proofs.Resound.{Kept, kept_self, moved_found, moved_sound, MovesSoundly}
+use Rattle.fol_store.proofs.Homes.{rehomed-spot, rehomed-keeps, rehomed-cases, rehomed-moves}
+
+-- a store with other spots, bags and places
+abbrev pub with_parts : Stock → List RegionData → List Slot → PlaceRows → ℕ → ℕ → Stock
+with_parts s spots bags places spare slots = record s { spots = spots; bags = bags; places = places; spare = spare; slots = slots }
+
+pub record Drawn (id : ℕ) (chunks : List ChunkPos) (s t : Stock) : Type 0 where
+  pub sound : IsSound t
+  pub draws : Draws id chunks s t
+
+never : {P : Type 0} → false ≡ true → P
+never e = absurd (let z : ⊥ = cc in z)
+
+-- from one bag to another
+module _ (s : Stock) (bags : List Slot) (places : PlaceRows) (spare slots u id : ℕ) (chunks : List ChunkPos) (left come : RegionData) where
+  abbrev t : Stock
+  t = with_parts s s.spots bags places spare slots
+
+  abbrev source : Slot
+  source = record (slot s u) { body = left; whole = false }
+
+  abbrev target : Slot
+  target = record (slot s id) { body = come }
+
+  pub record DrawsBag : Type 0 where
+    pub each : (n : ℕ) → slot t n ≡ (if nat_eq u n then source else (if nat_eq id n then target else slot s n))
+    pub loses : Loses chunks (slot s u).body left
+    pub gains : Gains chunks (slot s u).body (slot s id).body come
+    pub homes : (q : ChunkPos) → place t q ≡ rehomed chunks u id q (place s q)
+    pub apart : u ≢ id
+    pub long : length bags ≡ length s.bags
+    pub there : id < length s.bags
+    pub here : (slot s id).here ≡ true
+    pub not_whole : (slot s id).whole ≡ false
+    pub listed : (c : ChunkPos) → is_recorded chunks c ≡ true → is_recorded (slot s id).chunks c ≡ true
+    pub not_taken : (slot s u).taken ≡ false
+    pub timely : IsTimely left
+    pub to_timely : IsTimely come
+    pub more_spare : s.spare ≤ spare
+    pub more_slots : s.slots ≤ slots
+
+  module _ (d : DrawsBag) (h : IsSound s) where
+    slot_u : slot t u ≡ source
+    slot_u = d.each u ∙ rw (nat_self u) refl
+
+    slot_id : slot t id ≡ target
+    slot_id = d.each id ∙ elim (cases_Bool (nat_eq u id)) [
+      | inl e ↦ absurd (d.apart (eqb-true u id e))
+      | inr e ↦ rw (e, nat_self id) refl
+    ]
+
+    slot_n : (n : ℕ) → u ≢ n → id ≢ n → slot t n ≡ slot s n
+    slot_n n a b = d.each n ∙ elim (cases_Bool (nat_eq u n)) [
+      | inl e ↦ absurd (a (eqb-true u n e))
+      | inr e ↦ elim (cases_Bool (nat_eq id n)) [
+        | inl f ↦ absurd (b (eqb-true id n f))
+        | inr f ↦ rw (e, f) refl
+      ]
+    ]
+
+    apart_bags : in_bag u ≢ in_bag id
+    apart_bags e = let f : u ≡ id = cc in d.apart f
+
+    moves : (k : Key) → Moves where_cases (column s k) (column t k) (in_bag u) (in_bag id) (λ x. is_recorded chunks (chunk_at k x))
+    moves k = record {
+      left = ap (λ (b : Slot). things b.body k) slot_u ∙ d.loses.things k;
+      come = ap (λ (b : Slot). things b.body k) slot_id ∙ d.gains.things k;
+      rest = rest k;
+    }
+      where
+        rest : (k : Key) (w : Where) → w ≢ in_bag u → w ≢ in_bag id → column t k w ≡ column s k w
+        rest k arriving a b = refl
+        rest k (in_spot i) a b = refl
+        rest k (in_bag n) a b = ap (λ (q : Slot). things q.body k) (slot_n n (λ e. a (ap (λ m. in_bag m) (sym e))) (λ e. b (ap (λ m. in_bag m) (sym e))))
+
+    -- each bag is the source, the target or another
+    by_bag : (P : ℕ → Slot → Type 0) → P u source → P id target → ((n : ℕ) → u ≢ n → id ≢ n → P n (slot s n)) → (n : ℕ) → P n (slot t n)
+    by_bag P a b c n =
+        elim (cases_eq u n) [
+          | inl e ↦ let Q : ℕ → Type 0 = λ m. P m (slot t m) in subst Q e (subst (P u) (sym slot_u) a)
+          | inr f ↦ elim (cases_eq id n) [
+            | inl e ↦ let Q : ℕ → Type 0 = λ m. P m (slot t m) in subst Q e (subst (P id) (sym slot_id) b)
+            | inr g ↦ subst (P n) (sym (slot_n n f g)) (c n f g)
+          ]
+        ]
+
+    not_both : (slot s id).taken ≡ false
+    not_both = let e : ((slot s id).here && (slot s id).taken) ≡ false = (h.bags id).one in rw d.here at e
+
+    soundly : MovesSoundly s t (in_bag u) (in_bag id) (λ k x. is_recorded chunks (chunk_at k x)) apart_bags moves
+    soundly = record {
+      come = λ k x q r. ap (λ (p : Place). p.bag) (d.homes (chunk_at k x)) ∙ rehomed-moves chunks u id (chunk_at k x) (place s (chunk_at k x)) r (h.lies k (in_bag u) x q);
+      stay = stay;
+      spot_range = λ c i q. h.spot_range c i (sym (ap (λ (p : Place). p.spot) (d.homes c) ∙ rehomed-spot chunks u id c (place s c)) ∙ q);
+      bag_range = λ c n q. elim (rehomed-cases chunks u id c (place s c) n (sym (ap (λ (p : Place). p.bag) (d.homes c)) ∙ q)) [
+        | inl z ↦ let a : n ≡ id = z.here in let l : id < length s.bags = d.there in let g : length bags ≡ length s.bags = d.long in omega arith
+        | inr z ↦ let l : n < length s.bags = h.bag_range c n z in let g : length bags ≡ length s.bags = d.long in omega arith
+      ];
+      kept = by_bag (λ n b. Kept (slot s n) b)
+          (record { here = refl; taken = refl; chunks = refl; handed = refl; whole = λ o. never o })
+          (record { here = refl; taken = refl; chunks = refl; handed = refl; whole = λ o. o })
+          (λ n a b. kept_self (slot s n));
+      fewer = λ n o c q. elim (rehomed-cases chunks u id c (place s c) n (sym (ap (λ (p : Place). p.bag) (d.homes c)) ∙ q)) [
+        | inl z ↦ let P : ℕ → Type 0 = λ m. is_recorded (slot s m).chunks c ≡ true in inr (subst P (sym z.here) (d.listed c z.listed))
+        | inr z ↦ inl z
+      ];
+      more = λ n o c q. ap (λ (p : Place). p.bag) (d.homes c) ∙ rehomed-keeps chunks u id c (place s c) n q (λ e. absurd (not_source n e o));
+      none_left = λ n o e. let f : u ≡ n = cc in source_whole n f o;
+      none_come = λ n o e. let f : id ≡ n = cc in target_taken n f o;
+      spot_times = h.spot_times;
+      bag_times = by_bag (λ n b. IsTimely b.body) d.timely d.to_timely (λ n a b. h.bag_times n);
+      arrival_times = h.arrival_times;
+      arrivals_differ = h.arrivals_differ;
+    }
+      where
+        stay : (k : Key) (w : Where) (x : Thing k) → column s k w ≡ Some x → (w ≡ in_bag u → is_recorded chunks (chunk_at k x) ≡ false) → Allows (place t (chunk_at k x)) w
+        stay k arriving x q f = tt
+        stay k (in_spot i) x q f = ap (λ (p : Place). p.spot) (d.homes (chunk_at k x)) ∙ rehomed-spot chunks u id (chunk_at k x) (place s (chunk_at k x)) ∙ h.lies k (in_spot i) x q
+        stay k (in_bag n) x q f = ap (λ (p : Place). p.bag) (d.homes (chunk_at k x)) ∙ rehomed-keeps chunks u id (chunk_at k x) (place s (chunk_at k x)) n (h.lies k (in_bag n) x q) (λ e. f (ap (λ m. in_bag m) e))
+
+        not_source : (n : ℕ) → n ≡ u → ((slot t n).whole || (slot t n).taken) ≡ true → ⊥
+        not_source n e o =
+            let P : ℕ → Type 0 = λ m. ((slot t m).whole || (slot t m).taken) ≡ true in
+            let p : ((slot t u).whole || (slot t u).taken) ≡ true = subst P e o in
+            let q : (slot s u).taken ≡ true = rw slot_u at p in
+            let z : true ≡ false = sym q ∙ d.not_taken in cc
+
+        source_whole : (n : ℕ) → u ≡ n → (slot t n).whole ≡ true → ⊥
+        source_whole n e o =
+            let P : ℕ → Type 0 = λ m. (slot t m).whole ≡ true in
+            let p : (slot t u).whole ≡ true = subst P (sym e) o in
+            let q : false ≡ true = rw slot_u at p in cc
+
+        target_taken : (n : ℕ) → id ≡ n → (slot t n).taken ≡ true → ⊥
+        target_taken n e o =
+            let P : ℕ → Type 0 = λ m. (slot t m).taken ≡ true in
+            let p : (slot t id).taken ≡ true = subst P (sym e) o in
+            let q : (slot s id).taken ≡ true = rw slot_id at p in
+            let z : true ≡ false = sym q ∙ not_both in cc
+
+    pub drawn_bag : (all : List ChunkPos) (c : ChunkPos) → is_recorded all c ≡ true → (place s c).bag ≡ Some u → Drawn id all s t
+    unfolding bag_of
+    drawn_bag all c listed at = record {
+      sound = moved_sound s t (in_bag u) (in_bag id) (λ k x. is_recorded chunks (chunk_at k x)) apart_bags moves soundly h;
+      draws = record {
+        same = record { found = moved_found s t (in_bag u) (in_bag id) (λ k x. is_recorded chunks (chunk_at k x)) apart_bags moves h.unique; bags = d.long; spare = d.more_spare; slots = d.more_slots };
+        arrivals = refl;
+        own = ap shown slot_id ∙ rw (d.gains.tick, d.gains.owed) refl;
+        others = by_bag (λ n b. n ≢ id → Spared all (shown (slot s n)) (shown b))
+            (λ f. record { same = rw (d.loses.tick, d.loses.owed) refl; kept = λ o clear. lost o clear; lost = λ o. never o })
+            (λ f. absurd (f refl))
+            (λ n a b f. record { same = refl; kept = λ o clear. o; lost = λ o. o });
+        gathered = λ q g. record {
+          place = ap (λ (p : Place). p.bag) (d.homes q) ∙ rehomed-keeps chunks u id q (place s q) id g.place (λ e. absurd (d.apart (sym e)));
+          alone = λ k w x a b. elim (moves_back where_cases (column s k) (column t k) (in_bag u) (in_bag id) (λ y. is_recorded chunks (chunk_at k y)) apart_bags (moves k) w x a) [
+            | inl z ↦ z.there
+            | inr z ↦ g.alone k w x z.had b
+          ];
+        };
+      };
+    }
+      where
+        lost : (slot s u).whole ≡ true → IsClear all (shown (slot s u)) → false ≡ true
+        lost o clear =
+            let a : is_recorded (slot s u).chunks c ≡ true = (h.bags u).claims ((h.bags u).opened o) c at in
+            let b : is_recorded (slot s u).chunks c ≡ false = clear c listed in
+            sym b ∙ a
+
+-- where nothing moves, nothing is lost and nothing is gained
+pub loses_none : (a b : RegionData) → SameThings a b → Loses [] a b
+loses_none a b e = record { things = λ k. e.things k ∙ sym (all_pass (things a k)); tick = e.tick; owed = e.owed }
+  where
+    all_pass : {X : Type 0} (o : Option X) → option_filter (λ x. true) o ≡ o
+    all_pass None = refl
+    all_pass (Some x) = refl
+
+pub gains_none : (d a b : RegionData) → SameThings a b → Gains [] d a b
+gains_none d a b e = record { things = λ k. e.things k ∙ sym (nothing_more (things a k) (things d k)); tick = e.tick; owed = e.owed }
+  where
+    nothing_more : {X : Type 0} (o r : Option X) → option_or o (option_filter (λ x. false) r) ≡ o
+    nothing_more None None = refl
+    nothing_more None (Some x) = refl
+    nothing_more (Some y) r = refl

@@ -1,0 +1,30 @@
+use Rattle.std.proofs.Common.{◌≡◌, ◌<◌, ◌≤◌, ◌+◌, ◌^◌, true, length, sym, ◌∙◌, ap, arith}
+use Rattle.fol_queues.specs.Waiting.{due_count}
+use Rattle.fol_store.specs.contracts.store.Store.{the_view}
+use Rattle.fol_store.specs.declared.slot.Slot.{Slot}
+use Rattle.fol_store.specs.Bag.{Bag}
+use Rattle.fol_store.specs.Stock.{slot, no_slot, due_of}
+use Rattle.fol_store.specs.Things.{IsTimely}
+use Rattle.fol_store.proofs.BagSteps.{here_range, get_or-any, bag_slot}
+use Rattle.fol_store.proofs.store.Store.count_due.Goals as goal
+
+pub index-slot-requires : goal.index-slot-requires
+index-slot-requires c =
+    let h : (slot (the_view c.self.inside) c.args.id).here ≡ true = sym (ap (λ (b : Bag). b.here) (bag_slot (the_view c.self.inside) c.args.id)) ∙ (rw (← c.self.view_is) at c.requires) in
+    let l : c.args.id < length c.self.inside.bags.items = here_range c.self.inside.bags.items c.args.id h in
+    omega arith
+
+pub overflow_add-slot : goal.overflow_add-slot
+overflow_add-slot c =
+    let h : (slot (the_view c.self.inside) c.args.id).here ≡ true = sym (ap (λ (b : Bag). b.here) (bag_slot (the_view c.self.inside) c.args.id)) ∙ (rw (← c.self.view_is) at c.requires) in
+    let e : c.index-slot.result.now ≡ slot (the_view c.self.inside) c.args.id = c.index-slot.ensures ∙ get_or-any c.self.inside.bags.items c.args.id c.index-slot.result.now no_slot (here_range c.self.inside.bags.items c.args.id h) in
+    let timely : IsTimely (slot (the_view c.self.inside) c.args.id).body = c.self.invariant.bag_times c.args.id in
+    let small : c.index-slot.result.now.body.tick ≤ 2 ^ 62 = rw e timely.tick in
+    omega arith
+
+pub returns : goal.returns
+unfolding due_of
+returns c =
+    let h : (slot (the_view c.self.inside) c.args.id).here ≡ true = sym (ap (λ (b : Bag). b.here) (bag_slot (the_view c.self.inside) c.args.id)) ∙ (rw (← c.self.view_is) at c.requires) in
+    let e : c.index-slot.result.now ≡ slot (the_view c.self.inside) c.args.id = c.index-slot.ensures ∙ get_or-any c.self.inside.bags.items c.args.id c.index-slot.result.now no_slot (here_range c.self.inside.bags.items c.args.id h) in
+    rw (← c.self.view_is) (c.count_due.ensures ∙ ap (λ (b : Slot). due_count (b.body.tick + 1) b.body.queues) e)

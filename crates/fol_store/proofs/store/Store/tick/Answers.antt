@@ -1,0 +1,33 @@
+use Rattle.std.proofs.Common.{◌≡◌, ◌<◌, true, length, refl, sym, ◌∙◌, ap, arith}
+use Rattle.fol_store.specs.contracts.store.Store.{the_view}
+use Rattle.fol_store.specs.declared.slot.Slot.{Slot}
+use Rattle.fol_store.specs.Bag.{Bag}
+use Rattle.fol_store.specs.Stock.{slot, no_slot, shown}
+use Rattle.fol_store.specs.Things.{IsTimely}
+use Rattle.fol_store.proofs.BagSteps.{here_range, get_or-any, bag_slot}
+use Rattle.fol_store.proofs.store.Store.tick.Goals as goal
+
+pub index-requires : goal.index-requires
+index-requires c =
+    let h : (slot (the_view c.self.inside) c.args.id).here ≡ true = sym (ap (λ (b : Bag). b.here) (bag_slot (the_view c.self.inside) c.args.id)) ∙ (rw (← c.self.view_is) at c.requires) in
+    let l : c.args.id < length c.self.inside.bags.items = here_range c.self.inside.bags.items c.args.id h in
+    omega arith
+
+read : (c : goal.After-index) → c.index.result.now ≡ slot (the_view c.self.inside) c.args.id
+read c =
+    let h : (slot (the_view c.self.inside) c.args.id).here ≡ true = sym (ap (λ (b : Bag). b.here) (bag_slot (the_view c.self.inside) c.args.id)) ∙ (rw (← c.self.view_is) at c.requires) in
+    c.index.ensures ∙ get_or-any c.self.inside.bags.items c.args.id c.index.result.now no_slot (here_range c.self.inside.bags.items c.args.id h)
+
+pub returns-clause-value : goal.returns-clause-value
+returns-clause-value c =
+    let h : (slot (the_view c.self.inside) c.args.id).here ≡ true = sym (ap (λ (b : Bag). b.here) (bag_slot (the_view c.self.inside) c.args.id)) ∙ (rw (← c.self.view_is) at c.requires) in
+    rw (← c.self.view_is) (ap (λ (b : Slot). b.body.tick) (read c) ∙ shown_tick h ∙ sym (ap (λ (b : Bag). b.tick) (bag_slot (the_view c.self.inside) c.args.id)))
+  where
+    shown_tick : (slot (the_view c.self.inside) c.args.id).here ≡ true → (slot (the_view c.self.inside) c.args.id).body.tick ≡ (shown (slot (the_view c.self.inside) c.args.id)).tick
+    shown_tick e = rw e refl
+
+pub returns-clause-bound : goal.returns-clause-bound
+returns-clause-bound c =
+    let e : c.index.result.now ≡ slot (the_view c.self.inside) c.args.id = read c in
+    let b : IsTimely (slot (the_view c.self.inside) c.args.id).body = c.self.invariant.bag_times c.args.id in
+    rw e b.tick

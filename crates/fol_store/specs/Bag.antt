@@ -1,0 +1,37 @@
+-- What contracts see of the bag of a region.
+use Rattle.std.specs.Prelude.{ℕ, Bool, true, false, not, ◌&&◌, List, []}
+use Rattle.fol_model.specs.declared.places.ChunkPos.{ChunkPos}
+use Rattle.fol_chunks.specs.Contents.{is_recorded}
+
+pub record Bag : Type 0 where
+  -- the store has the bag
+  pub here : Bool
+  -- the bag was taken out and has not come back
+  pub taken : Bool
+  -- the counter and the owed number of the region; 0 where the bag is not here
+  pub tick : ℕ
+  pub owed : ℕ
+  -- nothing outside the bag lies on its chunks, and nothing in it lies elsewhere
+  pub whole : Bool
+  -- the chunks for which it was gathered
+  pub chunks : List ChunkPos
+
+-- of a region that has none
+abbrev pub no_bag : Bag
+no_bag = record { here = false; taken = false; tick = 0; owed = 0; whole = false; chunks = [] }
+
+-- of a region that has just begun
+abbrev pub new_bag : ℕ → ℕ → Bag
+new_bag tick owed = record { here = true; taken = false; tick = tick; owed = owed; whole = true; chunks = [] }
+
+-- after a task came on the chunk
+abbrev pub disturbed : ChunkPos → Bag → Bag
+disturbed c b = record b { whole = b.whole && not (is_recorded b.chunks c) }
+
+-- after all of it was taken out
+abbrev pub taken_out : Bag → Bag
+taken_out b = record b { here = false; taken = true; tick = 0; owed = 0 }
+
+-- after it came back with these numbers
+abbrev pub put_back : ℕ → ℕ → Bag → Bag
+put_back tick owed b = record b { here = true; taken = false; tick = tick; owed = owed }

@@ -1,0 +1,11 @@
+pub mod Bag
+pub mod Stock
+pub mod Gathered
+pub mod Places
+pub mod Columns
+pub mod Things
+pub mod Sound
+pub mod Moves
+pub mod Slots
+pub mod Steps
+pub mod Laid

@@ -1,0 +1,12 @@
+-- The bags by region, and the spots by number.
+use Rattle.std.specs.Prelude.{ℕ, List, slice_index_or}
+use Rattle.fol_data.specs.declared.region_data.RegionData.{RegionData}
+use Rattle.fol_store.specs.declared.slot.Slot.{Slot}
+use Rattle.fol_store.specs.Things.{no_data}
+use Rattle.fol_store.specs.Stock.{no_slot}
+
+abbrev pub slot_in : List Slot → ℕ → Slot
+slot_in bags id = slice_index_or bags id no_slot
+
+abbrev pub spot_in : List RegionData → ℕ → RegionData
+spot_in spots i = slice_index_or spots i no_data

@@ -1,0 +1,44 @@
+-- What holds of a store at all times.
+use Rattle.std.specs.Prelude.{ℕ, ◌≡◌, ◌<◌, Bool, true, false, ◌||◌, ◌&&◌, length, Some, All}
+use Rattle.fol_model.specs.declared.places.ChunkPos.{ChunkPos}
+use Rattle.fol_chunks.specs.Contents.{is_recorded}
+use Rattle.fol_queues.specs.Distinct.{Distinct}
+use Rattle.fol_data.specs.Rests.{IsInTime}
+use Rattle.fol_store.specs.declared.slot.Slot.{Slot}
+use Rattle.fol_store.specs.declared.places.Place.{Place}
+use Rattle.fol_store.specs.Things.{Key, Thing, chunk_at, IsTimely}
+use Rattle.fol_store.specs.Stock.{Stock, Where, arriving, in_spot, in_bag, slot, spot, place, column}
+
+-- things of a chunk with this place may lie there
+abbrev pub Allows : Place → Where → Type 0
+Allows p arriving = Unit {0}
+Allows p (in_spot i) = p.spot ≡ Some i
+Allows p (in_bag id) = p.bag ≡ Some id
+
+abbrev pub is_open : Slot → Bool
+is_open b = b.here || b.taken
+
+pub record IsBag (s : Stock) (id : ℕ) (b : Slot) : Type 0 where
+  -- a chunk whose things may lie in it is one of its chunks
+  pub claims : is_open b ≡ true → (c : ChunkPos) → (place s c).bag ≡ Some id → is_recorded b.chunks c ≡ true
+  -- the things of its chunks may lie in it
+  pub held : (b.whole || b.taken) ≡ true → (c : ChunkPos) → is_recorded b.chunks c ≡ true → (place s c).bag ≡ Some id
+  -- what lies on its chunks lies in it
+  pub alone : b.whole ≡ true → (k : Key) (w : Where) (x : Thing k) → column s k w ≡ Some x → is_recorded b.chunks (chunk_at k x) ≡ true → w ≡ in_bag id
+  pub opened : b.whole ≡ true → is_open b ≡ true
+  pub one : (b.here && b.taken) ≡ false
+  -- nothing is left of a bag that a worker has
+  pub out : b.taken ≡ true → (k : Key) (x : Thing k) → column s k (in_bag id) ≡ Some x → ⊥
+  pub handed : (b.here && b.whole) ≡ true → b.handed ≡ b.chunks
+
+pub record IsSound (s : Stock) : Type 0 where
+  -- no thing lies in two parts
+  pub unique : (k : Key) (v w : Where) (x y : Thing k) → column s k v ≡ Some x → column s k w ≡ Some y → v ≡ w
+  pub lies : (k : Key) (w : Where) (x : Thing k) → column s k w ≡ Some x → Allows (place s (chunk_at k x)) w
+  pub spot_range : (c : ChunkPos) (i : ℕ) → (place s c).spot ≡ Some i → i < length s.spots
+  pub bag_range : (c : ChunkPos) (id : ℕ) → (place s c).bag ≡ Some id → id < length s.bags
+  pub bags : (id : ℕ) → IsBag s id (slot s id)
+  pub spot_times : (i : ℕ) → IsTimely (spot s i)
+  pub bag_times : (id : ℕ) → IsTimely (slot s id).body
+  pub arrival_times : All (IsInTime 0) s.arrivals
+  pub arrivals_differ : Distinct s.arrivals

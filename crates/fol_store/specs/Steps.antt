@@ -1,0 +1,35 @@
+-- Steps of a gathering.
+use Rattle.std.specs.Prelude.{ℕ, ◌≡◌, ◌≤◌, true, false, List, [], length, Some}
+use Rattle.fol_model.specs.declared.places.ChunkPos.{ChunkPos}
+use Rattle.fol_model.specs.Geometry.{same_chunk}
+use Rattle.fol_store.specs.Things.{Key, Thing, chunk_at}
+use Rattle.fol_store.specs.Stock.{Stock, Where, in_bag, place, column, found, bag_of}
+use Rattle.fol_store.specs.Gathered.{OthersSpared, AreFree}
+
+-- nothing comes and nothing goes
+pub record SameMeaning (old new : Stock) : Type 0 where
+  pub found : (k : Key) → found new k ≡ found old k
+  pub bags : length new.bags ≡ length old.bags
+  pub spare : old.spare ≤ new.spare
+  pub slots : old.slots ≤ new.slots
+
+-- all that lies on the chunk lies in the bag
+pub record IsGathered (s : Stock) (id : ℕ) (c : ChunkPos) : Type 0 where
+  pub place : (place s c).bag ≡ Some id
+  pub alone : (k : Key) (w : Where) (x : Thing k) → column s k w ≡ Some x → same_chunk c (chunk_at k x) ≡ true → w ≡ in_bag id
+
+-- a step towards a bag of these chunks: no other bag changes but for its wholeness
+pub record Draws (id : ℕ) (chunks : List ChunkPos) (old new : Stock) : Type 0 where
+  pub same : SameMeaning old new
+  pub arrivals : new.arrivals ≡ old.arrivals
+  pub own : bag_of new id ≡ bag_of old id
+  pub others : OthersSpared id chunks (bag_of old) (bag_of new)
+  pub gathered : (c : ChunkPos) → IsGathered old id c → IsGathered new id c
+
+-- the bag that is being gathered for these chunks
+pub record IsTarget (id : ℕ) (chunks : List ChunkPos) (s : Stock) : Type 0 where
+  pub here : (bag_of s id).here ≡ true
+  pub not_whole : (bag_of s id).whole ≡ false
+  pub listed : (bag_of s id).chunks ≡ chunks
+  pub empty : s.arrivals ≡ []
+  pub free : AreFree (bag_of s) chunks

@@ -1,0 +1,291 @@
+//! The bags by region.
+
+ghost use Rattle.std.specs.Prelude.{◌≡◌, ◌≢◌, IfOk, OnOk, OnErr, ◌+◌, ◌<◌, ℕ, nat_eq, if◌then◌else◌, true, false, [], vec_len};
+ghost use Rattle.std.specs.Vec.{vec_capacity};
+ghost use Rattle.fol_store.specs.Stock.{no_slot};
+ghost use Rattle.fol_store.specs.Slots.{slot_in};
+ghost use Rattle.fol_store.specs.Things.{no_data, IsTimely};
+ghost use Rattle.fol_store.specs.Places.{is_bag};
+ghost use Rattle.fol_store.specs.Moves.{SameThings, AreApart, Loses, Gains};
+ghost use Rattle.std.specs.List.Sorted.{IsStrictlySortedBy};
+ghost use Rattle.fol_chunks.specs.Order.{chunk_cmp};
+
+use crate::Taken;
+use crate::places::Place;
+use crate::shift::shift;
+use crate::slot::Slot;
+use fol_data::RegionData;
+use fol_model::{ChunkPos, Sequence};
+use std::alloc::{AllocError, Global};
+use std::mem;
+
+/// Says whether a bag is whole.
+pub fn set_whole(bags: &mut Vec<Slot>, id: usize, whole: bool)
+    requires { id < vec_len bags.old }
+    ensures slots { (u : ℕ) → slot_in bags.new.items u ≡ (if nat_eq id u then record (slot_in bags.old.items id) { whole = whole } else slot_in bags.old.items u) }
+    ensures len { vec_len bags.new ≡ vec_len bags.old }
+    ensures capacity { vec_capacity bags.new ≡ vec_capacity bags.old }
+{
+    let slot = &mut bags[id];
+    slot.whole = whole;
+}
+
+/// Sets how many ticks a region owes.
+pub fn set_owed(bags: &mut Vec<Slot>, id: usize, owed: u32)
+    requires { id < vec_len bags.old }
+    ensures slots { (u : ℕ) → slot_in bags.new.items u ≡ (if nat_eq id u then record (slot_in bags.old.items id) { body = record (slot_in bags.old.items id).body { owed = owed } } else slot_in bags.old.items u) }
+    ensures len { vec_len bags.new ≡ vec_len bags.old }
+    ensures capacity { vec_capacity bags.new ≡ vec_capacity bags.old }
+{
+    let slot = &mut bags[id];
+    slot.body.owed = owed;
+}
+
+/// Closes a bag; what lies in it stays in it.
+pub fn close(alloc: Global, bags: &mut Vec<Slot>, id: usize)
+    requires { id < vec_len bags.old }
+    ensures slots { (u : ℕ) → slot_in bags.new.items u ≡ (if nat_eq id u then record { body = (slot_in bags.old.items id).body; here = false; taken = false; whole = false; chunks = []; handed = [] } else slot_in bags.old.items u) }
+    ensures len { vec_len bags.new ≡ vec_len bags.old }
+    ensures capacity { vec_capacity bags.new ≡ vec_capacity bags.old }
+{
+    let slot = &mut bags[id];
+    slot.here = false;
+    slot.taken = false;
+    slot.whole = false;
+    slot.chunks = Sequence::new(alloc);
+    slot.handed = Sequence::new(alloc);
+}
+
+/// Gives a bag other chunks.
+pub fn relist(bags: &mut Vec<Slot>, id: usize, chunks: Vec<ChunkPos>)
+    requires { id < vec_len bags.old }
+    ensures slots { (u : ℕ) → slot_in bags.new.items u ≡ (if nat_eq id u then record (slot_in bags.old.items id) { whole = false; chunks = chunks.items } else slot_in bags.old.items u) }
+    ensures len { vec_len bags.new ≡ vec_len bags.old }
+    ensures capacity { vec_capacity bags.new ≡ vec_capacity bags.old }
+{
+    let slot = &mut bags[id];
+    slot.whole = false;
+    slot.chunks = Sequence::of(chunks);
+}
+
+/// Says that a bag is whole, and gives it the list to be handed out.
+pub fn finish(bags: &mut Vec<Slot>, id: usize, handed: Vec<ChunkPos>)
+    requires { id < vec_len bags.old }
+    ensures slots { (u : ℕ) → slot_in bags.new.items u ≡ (if nat_eq id u then record (slot_in bags.old.items id) { whole = true; handed = handed.items } else slot_in bags.old.items u) }
+    ensures len { vec_len bags.new ≡ vec_len bags.old }
+    ensures capacity { vec_capacity bags.new ≡ vec_capacity bags.old }
+{
+    let slot = &mut bags[id];
+    slot.whole = true;
+    slot.handed = Sequence::of(handed);
+}
+
+/// Says that the bag that the place names is whole no more.
+pub fn disturb(bags: &mut Vec<Slot>, place: Place)
+    requires { (id : ℕ) → place.bag ≡ Some id → id < vec_len bags.old }
+    ensures slots { (u : ℕ) → slot_in bags.new.items u ≡ (if is_bag u place then record (slot_in bags.old.items u) { whole = false } else slot_in bags.old.items u) }
+    ensures len { vec_len bags.new ≡ vec_len bags.old }
+    ensures capacity { vec_capacity bags.new ≡ vec_capacity bags.old }
+{
+    match place.bag {
+        Some(id) => set_whole(bags, id, false),
+        None => {}
+    }
+}
+
+/// Adds an empty bag.
+pub fn open(alloc: Global, bags: &mut Vec<Slot>, tick: u64, owed: u32)
+    requires { vec_len bags.old < vec_capacity bags.old }
+    ensures body { SameThings (record no_data { tick = tick; owed = owed }) (slot_in bags.new.items (vec_len bags.old)).body }
+    ensures tasks { (slot_in bags.new.items (vec_len bags.old)).body.queues.tasks ≡ [] }
+    ensures slots { (u : ℕ) → slot_in bags.new.items u ≡ (if nat_eq (vec_len bags.old) u then record { body = (slot_in bags.new.items (vec_len bags.old)).body; here = true; taken = false; whole = true; chunks = []; handed = [] } else slot_in bags.old.items u) }
+    ensures len { vec_len bags.new ≡ vec_len bags.old + 1 }
+    ensures capacity { vec_capacity bags.new ≡ vec_capacity bags.old }
+{
+    let body = new_data(alloc, tick, owed);
+    bags.push_reserved(Slot {
+        body,
+        here: true,
+        taken: false,
+        whole: true,
+        chunks: Sequence::new(alloc),
+        handed: Sequence::new(alloc),
+    });
+}
+
+/// Data with these counters that holds nothing.
+pub fn new_data(alloc: Global, tick: u64, owed: u32) -> RegionData
+    ensures things { SameThings (record no_data { tick = tick; owed = owed }) result }
+    ensures tasks { result.queues.tasks ≡ [] }
+{
+    let mut data = RegionData::new(alloc);
+    data.tick = tick;
+    data.owed = owed;
+    data
+}
+
+/// Takes out what lies in a bag, and the chunks to be handed out with it.
+pub fn take_out(alloc: Global, bags: &mut Vec<Slot>, id: usize) -> Taken
+    requires { id < vec_len bags.old }
+    ensures body { result.body ≡ (slot_in bags.old.items id).body }
+    ensures handed { result.chunks.items ≡ (slot_in bags.old.items id).handed }
+    ensures left { SameThings no_data (slot_in bags.new.items id).body }
+    ensures tasks { (slot_in bags.new.items id).body.queues.tasks ≡ [] }
+    ensures slots { (u : ℕ) → slot_in bags.new.items u ≡ (if nat_eq id u then record (slot_in bags.old.items id) { body = (slot_in bags.new.items id).body; here = false; taken = true; handed = [] } else slot_in bags.old.items u) }
+    ensures len { vec_len bags.new ≡ vec_len bags.old }
+    ensures capacity { vec_capacity bags.new ≡ vec_capacity bags.old }
+{
+    let slot = &mut bags[id];
+    slot.here = false;
+    slot.taken = true;
+    let handed = mem::replace(&mut slot.handed, Sequence::new(alloc));
+    let body = mem::replace(&mut slot.body, new_data(alloc, 0, 0));
+    Taken {
+        chunks: handed.into_vec(),
+        body,
+    }
+}
+
+/// Puts back what was taken out.
+pub fn put_in(bags: &mut Vec<Slot>, id: usize, chunks: Vec<ChunkPos>, body: RegionData)
+    requires { id < vec_len bags.old }
+    ensures slots { (u : ℕ) → slot_in bags.new.items u ≡ (if nat_eq id u then record (slot_in bags.old.items id) { body = body; here = true; taken = false; handed = chunks.items } else slot_in bags.old.items u) }
+    ensures len { vec_len bags.new ≡ vec_len bags.old }
+    ensures capacity { vec_capacity bags.new ≡ vec_capacity bags.old }
+{
+    let slot = &mut bags[id];
+    slot.here = true;
+    slot.taken = false;
+    slot.handed = Sequence::of(chunks);
+    slot.body = body;
+}
+
+/// Moves what lies on the chunks from one bag to another. The first is whole no more. After want of memory nothing has moved.
+pub fn shift_bags(
+    alloc: Global,
+    bags: &mut Vec<Slot>,
+    from: usize,
+    chunks: &[ChunkPos],
+    to: usize,
+) -> Result<(), AllocError>
+    requires order { IsStrictlySortedBy chunk_cmp chunks.now }
+    requires from_there { from < vec_len bags.old }
+    requires to_there { to < vec_len bags.old }
+    requires others { from ≢ to }
+    requires timely { IsTimely (slot_in bags.old.items from).body }
+    requires to_timely { IsTimely (slot_in bags.old.items to).body }
+    requires apart { AreApart (slot_in bags.old.items from).body (slot_in bags.old.items to).body }
+    ensures timely { IsTimely (slot_in bags.new.items from).body }
+    ensures to_timely { IsTimely (slot_in bags.new.items to).body }
+    ensures loses { OnOk result (Loses chunks.now (slot_in bags.old.items from).body (slot_in bags.new.items from).body) }
+    ensures gains { OnOk result (Gains chunks.now (slot_in bags.old.items from).body (slot_in bags.old.items to).body (slot_in bags.new.items to).body) }
+    ensures err { OnErr result (SameThings (slot_in bags.old.items from).body (slot_in bags.new.items from).body) }
+    ensures to_err { OnErr result (SameThings (slot_in bags.old.items to).body (slot_in bags.new.items to).body) }
+    ensures slots { (u : ℕ) → slot_in bags.new.items u ≡ (if nat_eq from u then record (slot_in bags.old.items from) { body = (slot_in bags.new.items from).body; whole = false } else (if nat_eq to u then record (slot_in bags.old.items to) { body = (slot_in bags.new.items to).body } else slot_in bags.old.items u)) }
+    ensures len { vec_len bags.new ≡ vec_len bags.old }
+    ensures capacity { vec_capacity bags.new ≡ vec_capacity bags.old }
+{
+    let mut body = take_body(alloc, bags, from);
+    let result = shift_into(bags, to, chunks, &mut body);
+    put_body(bags, from, body);
+    result
+}
+
+/// Takes out what lies in a bag, which is whole no more.
+fn take_body(alloc: Global, bags: &mut Vec<Slot>, id: usize) -> RegionData
+    requires { id < vec_len bags.old }
+    ensures body { result ≡ (slot_in bags.old.items id).body }
+    ensures slots { (u : ℕ) → slot_in bags.new.items u ≡ (if nat_eq id u then record (slot_in bags.old.items id) { body = (slot_in bags.new.items id).body; whole = false } else slot_in bags.old.items u) }
+    ensures len { vec_len bags.new ≡ vec_len bags.old }
+    ensures capacity { vec_capacity bags.new ≡ vec_capacity bags.old }
+{
+    let slot = &mut bags[id];
+    slot.whole = false;
+    mem::replace(&mut slot.body, new_data(alloc, 0, 0))
+}
+
+/// Puts something into a bag in place of what lies in it.
+fn put_body(bags: &mut Vec<Slot>, id: usize, body: RegionData)
+    requires { id < vec_len bags.old }
+    ensures slots { (u : ℕ) → slot_in bags.new.items u ≡ (if nat_eq id u then record (slot_in bags.old.items id) { body = body } else slot_in bags.old.items u) }
+    ensures len { vec_len bags.new ≡ vec_len bags.old }
+    ensures capacity { vec_capacity bags.new ≡ vec_capacity bags.old }
+{
+    let slot = &mut bags[id];
+    slot.body = body;
+}
+
+/// Moves what lies on the chunks from elsewhere into a bag. After want of memory nothing has moved.
+pub fn shift_into(
+    bags: &mut Vec<Slot>,
+    id: usize,
+    chunks: &[ChunkPos],
+    from: &mut RegionData,
+) -> Result<(), AllocError>
+    requires order { IsStrictlySortedBy chunk_cmp chunks.now }
+    requires there { id < vec_len bags.old }
+    requires timely { IsTimely from.old }
+    requires to_timely { IsTimely (slot_in bags.old.items id).body }
+    requires apart { AreApart from.old (slot_in bags.old.items id).body }
+    ensures timely { IsTimely from.new }
+    ensures to_timely { IsTimely (slot_in bags.new.items id).body }
+    ensures loses { OnOk result (Loses chunks.now from.old from.new) }
+    ensures gains { OnOk result (Gains chunks.now from.old (slot_in bags.old.items id).body (slot_in bags.new.items id).body) }
+    ensures err { OnErr result (SameThings from.old from.new) }
+    ensures to_err { OnErr result (SameThings (slot_in bags.old.items id).body (slot_in bags.new.items id).body) }
+    ensures slots { (u : ℕ) → slot_in bags.new.items u ≡ (if nat_eq id u then record (slot_in bags.old.items id) { body = (slot_in bags.new.items id).body } else slot_in bags.old.items u) }
+    ensures len { vec_len bags.new ≡ vec_len bags.old }
+    ensures capacity { vec_capacity bags.new ≡ vec_capacity bags.old }
+{
+    let slot = &mut bags[id];
+    shift(from, chunks, &mut slot.body)
+}
+
+/// Moves what lies on the chunks from a bag elsewhere. After want of memory nothing has moved.
+pub fn shift_out(
+    bags: &mut Vec<Slot>,
+    id: usize,
+    chunks: &[ChunkPos],
+    to: &mut RegionData,
+) -> Result<(), AllocError>
+    requires order { IsStrictlySortedBy chunk_cmp chunks.now }
+    requires there { id < vec_len bags.old }
+    requires timely { IsTimely (slot_in bags.old.items id).body }
+    requires to_timely { IsTimely to.old }
+    requires apart { AreApart (slot_in bags.old.items id).body to.old }
+    ensures timely { IsTimely (slot_in bags.new.items id).body }
+    ensures to_timely { IsTimely to.new }
+    ensures loses { OnOk result (Loses chunks.now (slot_in bags.old.items id).body (slot_in bags.new.items id).body) }
+    ensures gains { OnOk result (Gains chunks.now (slot_in bags.old.items id).body to.old to.new) }
+    ensures err { OnErr result (SameThings (slot_in bags.old.items id).body (slot_in bags.new.items id).body) }
+    ensures to_err { OnErr result (SameThings to.old to.new) }
+    ensures slots { (u : ℕ) → slot_in bags.new.items u ≡ (if nat_eq id u then record (slot_in bags.old.items id) { body = (slot_in bags.new.items id).body } else slot_in bags.old.items u) }
+    ensures len { vec_len bags.new ≡ vec_len bags.old }
+    ensures capacity { vec_capacity bags.new ≡ vec_capacity bags.old }
+{
+    let slot = &mut bags[id];
+    shift(&mut slot.body, chunks, to)
+}
+
+/// The bags of no region: one that is closed, for an id that no region has.
+pub fn closed(alloc: Global) -> Result<Vec<Slot>, AllocError>
+    ensures len { IfOk result (λ bags. vec_len bags ≡ 1) }
+    ensures things { IfOk result (λ bags. (u : ℕ) → SameThings no_data (slot_in bags.items u).body) }
+    ensures tasks { IfOk result (λ bags. (u : ℕ) → (slot_in bags.items u).body.queues.tasks ≡ []) }
+    ensures slots { IfOk result (λ bags. (u : ℕ) → slot_in bags.items u ≡ record no_slot { body = (slot_in bags.items u).body }) }
+{
+    let slot = Slot {
+        body: new_data(alloc, 0, 0),
+        here: false,
+        taken: false,
+        whole: false,
+        chunks: Sequence::new(alloc),
+        handed: Sequence::new(alloc),
+    };
+    let mut bags = Vec::new(alloc);
+    match bags.push(slot) {
+        Ok(()) => {}
+        Err(_) => return Err(AllocError),
+    }
+    Ok(bags)
+}

@@ -1,0 +1,242 @@
+//! The store.
+
+ghost use Rattle.std.specs.Prelude.{◌≡◌, ◌+◌, ◌≤◌, ◌<◌, ◌^◌, not, ◌||◌, true, false, ℕ, IsTrue, IsNone, IfOk, OnOk, OnErr, All};
+ghost use Rattle.std.specs.Option.{option_or, is_none, ForSome};
+ghost use Rattle.std.specs.List.Sorted.{IsStrictlySortedBy};
+ghost use Rattle.std.specs.Ordering.{nat_cmp};
+ghost use Rattle.fol_model.specs.Geometry.{is_chunk};
+ghost use Rattle.fol_model.specs.World.{start, block_in, standing_in};
+ghost use Rattle.fol_model.specs.Job.{queued};
+ghost use Rattle.fol_model.specs.ActionStep.{at_id};
+ghost use Rattle.fol_queues.specs.Waiting.{dated, due_count, option_filter};
+ghost use Rattle.fol_chunks.specs.Contents.{flat_of as contents_of, within, outside, joined, Apart, is_recorded};
+ghost use Rattle.fol_chunks.specs.Order.{chunk_cmp};
+ghost use Rattle.fol_chunks.specs.Rows.{by_place, by_id};
+ghost use Rattle.fol_data.specs.Rests.{rests_of, IsInTime};
+ghost use Rattle.fol_store.specs.Bag.{no_bag, new_bag, disturbed, taken_out, put_back};
+ghost use Rattle.fol_store.specs.Gathered.{AreFree, OthersSpared, Touched};
+
+mod draw;
+mod gather;
+mod lay;
+mod settle;
+
+use crate::places::Places;
+use crate::slot::Slot;
+use crate::{Taken, slots};
+use fol_data::RegionData;
+use fol_model::{ChunkPos, Opening, Task};
+use fol_queues::Dated;
+use std::alloc::{AllocError, Global};
+use std::marker::Model;
+
+/// What no worker has in its hands. Contracts see a `Stock`, whose words are `flat_of`, `jobs_of`, `bag_of` and `next_of`.
+#[derive(Drop)]
+pub struct Store {
+    alloc: Global,
+    arrivals: Vec<Dated>,
+    spots: Vec<RegionData>,
+    bags: Vec<Slot>,
+    places: Places,
+}
+
+impl Model for Store {
+    ghost use Rattle.std.specs.Prelude.{◌-◌, vec_len};
+    ghost use Rattle.std.specs.Vec.{vec_capacity};
+    ghost use Rattle.fol_store.specs.Stock.{Stock};
+    ghost use Rattle.fol_store.specs.Sound.{IsSound};
+
+    ghost Value = { Stock };
+
+    ghost view = { λ s. record { arrivals = s.arrivals.items; spots = s.spots.items; bags = s.bags.items; places = s.places; spare = vec_capacity s.arrivals - vec_len s.arrivals; slots = vec_capacity s.bags - vec_len s.bags } };
+
+    ghost invariant = { λ s. IsSound (record { arrivals = s.arrivals.items; spots = s.spots.items; bags = s.bags.items; places = s.places; spare = vec_capacity s.arrivals - vec_len s.arrivals; slots = vec_capacity s.bags - vec_len s.bags }) };
+}
+
+impl Store {
+    ghost use Rattle.fol_store.specs.Stock.{Stock, flat_of, jobs_of, bag_of, next_of, due_of};
+
+    /// Makes `spare` at least `tasks` and `slots` at least `bags`. Takes memory; all else stays either way.
+    pub fn reserve(&mut self, tasks: u64, bags: u64) -> Result<(), AllocError>
+        ensures room_for_tasks { OnOk result (tasks ≤ self.new.spare) }
+        ensures room_for_bags { OnOk result (bags ≤ self.new.slots) }
+        ensures contents { flat_of self.new ≡ flat_of self.old }
+        ensures tasks { jobs_of self.new ≡ jobs_of self.old }
+        ensures bags { bag_of self.new ≡ bag_of self.old }
+        ensures next { next_of self.new ≡ next_of self.old }
+        ensures spare { self.old.spare ≤ self.new.spare }
+        ensures slots { self.old.slots ≤ self.new.slots }
+    {
+        self.arrivals.reserve(tasks as usize)?;
+        self.bags.reserve(bags as usize)
+    }
+
+    /// How many tasks it can accept without taking memory.
+    pub fn spare(&self) -> u64
+        ensures { result ≡ self.now.spare }
+    {
+        (self.arrivals.capacity() - self.arrivals.len()) as u64
+    }
+
+    /// How many bags it can open without taking memory.
+    pub fn slots(&self) -> u64
+        ensures { result ≡ self.now.slots }
+    {
+        (self.bags.capacity() - self.bags.len()) as u64
+    }
+
+    /// Queues a task that is due in the `delay`-th tick that its chunk's region begins from now on. The bag that has the chunk is
+
+    /// Closes the bag of a region that is over. What lies in it stays in the store. Takes no memory.
+    pub fn close(&mut self, id: u64)
+        requires here { (bag_of self.old id).here ≡ true }
+        ensures bags { bag_of self.new ≡ at_id (bag_of self.old) id no_bag }
+        ensures next { next_of self.new ≡ next_of self.old }
+        ensures contents { flat_of self.new ≡ flat_of self.old }
+        ensures tasks { jobs_of self.new ≡ jobs_of self.old }
+        ensures spare { self.new.spare ≡ self.old.spare }
+        ensures slots { self.new.slots ≡ self.old.slots }
+    {
+        slots::close(self.alloc, &mut self.bags, id as usize);
+    }
+
+    /// The counter of a region.
+    pub fn tick(&self, id: u64) -> u64
+        requires { (bag_of self.now id).here ≡ true }
+        ensures value { result ≡ (bag_of self.now id).tick }
+        ensures bound { result ≤ 2 ^ 62 }
+    {
+        self.bags[id as usize].body.tick
+    }
+
+    /// How many ticks a region owes.
+    pub fn owed(&self, id: u64) -> u32
+        requires { (bag_of self.now id).here ≡ true }
+        ensures { result ≡ (bag_of self.now id).owed }
+    {
+        self.bags[id as usize].body.owed
+    }
+
+    /// Sets how many ticks a region owes.
+    pub fn set_owed(&mut self, id: u64, owed: u32)
+        requires here { (bag_of self.old id).here ≡ true }
+        ensures bags { bag_of self.new ≡ at_id (bag_of self.old) id (record (bag_of self.old id) { owed = owed }) }
+        ensures next { next_of self.new ≡ next_of self.old }
+        ensures contents { flat_of self.new ≡ flat_of self.old }
+        ensures tasks { jobs_of self.new ≡ jobs_of self.old }
+        ensures spare { self.new.spare ≡ self.old.spare }
+        ensures slots { self.new.slots ≡ self.old.slots }
+    {
+        slots::set_owed(&mut self.bags, id as usize, owed);
+    }
+
+    /// Whether the bag of a region is whole.
+    pub fn is_whole(&self, id: u64) -> bool
+        requires { (bag_of self.now id).here ≡ true }
+        ensures { result ≡ (bag_of self.now id).whole }
+    {
+        self.bags[id as usize].whole
+    }
+
+    /// How many tasks of a bag are due in the next tick of its region.
+    pub fn count_due(&self, id: u64) -> u64
+        requires { (bag_of self.now id).here ≡ true }
+        ensures { result ≡ due_of self.now id }
+    {
+        let slot = &self.bags[id as usize];
+        slot.body.queues.count_due(slot.body.tick + 1)
+    }
+
+    /// Says that the bag of a region has to be gathered anew, since other chunks are loaded.
+    pub fn unsettle(&mut self, id: u64)
+        requires known { ((bag_of self.old id).here || (bag_of self.old id).taken) ≡ true }
+        ensures bags { bag_of self.new ≡ at_id (bag_of self.old) id (record (bag_of self.old id) { whole = false }) }
+        ensures next { next_of self.new ≡ next_of self.old }
+        ensures contents { flat_of self.new ≡ flat_of self.old }
+        ensures tasks { jobs_of self.new ≡ jobs_of self.old }
+        ensures spare { self.new.spare ≡ self.old.spare }
+        ensures slots { self.new.slots ≡ self.old.slots }
+    {
+        slots::set_whole(&mut self.bags, id as usize, false);
+    }
+
+    /// Queues a task that is due in the `delay`-th tick that its chunk's region begins from now on. The bag that has the chunk is
+    /// whole no more. Takes no memory.
+    pub fn accept(&mut self, task: Task, delay: u32)
+        requires spare { 1 ≤ self.old.spare }
+        requires fresh { IsNone (jobs_of self.old task.number) }
+        requires delay_low { 1 ≤ delay }
+        requires delay_high { delay ≤ 1000000 }
+        ensures tasks { jobs_of self.new ≡ at_id (jobs_of self.old) task.number (Some (queued task.chunk delay task.action)) }
+        ensures contents { flat_of self.new ≡ flat_of self.old }
+        ensures bags { bag_of self.new ≡ λ id. disturbed task.chunk (bag_of self.old id) }
+        ensures next { next_of self.new ≡ next_of self.old }
+        ensures spare { self.old.spare ≤ self.new.spare + 1 }
+        ensures slots { self.old.slots ≤ self.new.slots }
+    {
+        let c = task.chunk;
+        let place = self.places.at(c);
+        self.arrivals.push_reserved(Dated {
+            task,
+            deadline: delay as u64,
+        });
+        slots::disturb(&mut self.bags, place);
+    }
+
+    /// Opens the bag of the next region, which has these numbers and no chunk. Takes no memory.
+    pub fn open(&mut self, id: u64, tick: u64, owed: u32)
+        requires slots { 1 ≤ self.old.slots }
+        requires next { id ≡ next_of self.old }
+        requires tick { tick ≤ 2 ^ 62 }
+        ensures bags { bag_of self.new ≡ at_id (bag_of self.old) id (new_bag tick owed) }
+        ensures next { next_of self.new ≡ id + 1 }
+        ensures contents { flat_of self.new ≡ flat_of self.old }
+        ensures tasks { jobs_of self.new ≡ jobs_of self.old }
+        ensures spare { self.new.spare ≡ self.old.spare }
+        ensures slots { self.old.slots ≤ self.new.slots + 1 }
+    {
+        slots::open(self.alloc, &mut self.bags, tick, owed);
+    }
+
+    /// Takes a whole bag out, with the tasks, blocks and entities on its chunks. Takes no memory.
+    pub fn take(&mut self, id: u64) -> Taken
+        requires here { (bag_of self.old id).here ≡ true }
+        requires whole { (bag_of self.old id).whole ≡ true }
+        ensures chunks { result.chunks.items ≡ (bag_of self.old id).chunks }
+        ensures tick { result.body.tick ≡ (bag_of self.old id).tick }
+        ensures owed { result.body.owed ≡ (bag_of self.old id).owed }
+        ensures bound { result.body.tick ≤ 2 ^ 62 }
+        ensures in_time { (n : ℕ) → ForSome (dated result.body.queues n) (IsInTime result.body.tick) }
+        ensures moved_contents { contents_of result.body.chunks ≡ within (is_recorded (bag_of self.old id).chunks) (flat_of self.old) }
+        ensures due { due_count (result.body.tick + 1) result.body.queues ≡ due_of self.old id }
+        ensures moved_tasks { rests_of result.body ≡ λ n. option_filter (λ j. is_recorded (bag_of self.old id).chunks j.chunk) (jobs_of self.old n) }
+        ensures contents { flat_of self.new ≡ outside (is_recorded (bag_of self.old id).chunks) (flat_of self.old) }
+        ensures tasks { jobs_of self.new ≡ λ n. option_filter (λ j. not (is_recorded (bag_of self.old id).chunks j.chunk)) (jobs_of self.old n) }
+        ensures bags { bag_of self.new ≡ at_id (bag_of self.old) id (taken_out (bag_of self.old id)) }
+        ensures next { next_of self.new ≡ next_of self.old }
+        ensures spare { self.new.spare ≡ self.old.spare }
+        ensures slots { self.new.slots ≡ self.old.slots }
+    {
+        slots::take_out(self.alloc, &mut self.bags, id as usize)
+    }
+
+    /// Puts back what was taken out, after a worker had it. The bag is whole where no task came on its chunks meanwhile. Takes no memory.
+    pub fn put(&mut self, id: u64, chunks: Vec<ChunkPos>, body: RegionData)
+        requires taken { (bag_of self.old id).taken ≡ true }
+        requires chunks { chunks.items ≡ (bag_of self.old id).chunks }
+        requires bound { body.tick ≤ 2 ^ 62 }
+        requires in_time { (n : ℕ) → ForSome (dated body.queues n) (IsInTime body.tick) }
+        requires contents_there { contents_of body.chunks ≡ within (is_recorded chunks.items) (contents_of body.chunks) }
+        requires tasks_there { (n : ℕ) → ForSome (rests_of body n) (λ j. is_recorded chunks.items j.chunk ≡ true) }
+        requires contents_apart { Apart (flat_of self.old) (contents_of body.chunks) }
+        requires tasks_apart { (n : ℕ) → IsTrue (is_none (jobs_of self.old n) || is_none (rests_of body n)) }
+        ensures contents { flat_of self.new ≡ joined (flat_of self.old) (contents_of body.chunks) }
+        ensures tasks { jobs_of self.new ≡ λ n. option_or (jobs_of self.old n) (rests_of body n) }
+        ensures bags { bag_of self.new ≡ at_id (bag_of self.old) id (put_back body.tick body.owed (bag_of self.old id)) }
+        ensures next { next_of self.new ≡ next_of self.old }
+        ensures spare { self.new.spare ≡ self.old.spare }
+        ensures slots { self.new.slots ≡ self.old.slots }
+    {
+        slots::put_in(&mut self.bags, id as usize, chunks, body);
+    }
+}
