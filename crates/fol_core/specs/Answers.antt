@@ -1,21 +1,27 @@
 -- What each call of a core answers in a world, and what it records.
-use Rattle.std.specs.Prelude.{◌≡◌, ℕ, ◌+◌, ◌<◌, Bool, true, false, ◌&&◌, ◌||◌, nat_lt, if◌then◌else◌, List, filter, length, Option, Some, None}
+use Rattle.std.specs.Prelude.{◌≡◌, ℕ, ◌+◌, ◌<◌, Bool, true, false, ◌&&◌, ◌||◌, nat_lt, if◌then◌else◌, List, length, Option, Some, None}
 use Rattle.fol_model.specs.declared.places.ChunkPos.{ChunkPos}
 use Rattle.fol_model.specs.declared.regions.State.{State}
-use Rattle.fol_model.specs.declared.regions.State.TheVariants.{Ticking}
 use Rattle.fol_model.specs.declared.events.Loaded.{Loaded}
 use Rattle.fol_model.specs.declared.events.Loaded.TheVariants as loads
+use Rattle.fol_model.specs.declared.events.Unloaded.{Unloaded}
+use Rattle.fol_model.specs.declared.events.Unloaded.TheVariants as unloads
+use Rattle.fol_model.specs.declared.events.Accept.{Accept}
+use Rattle.fol_model.specs.declared.events.Accept.TheVariants as accepts
 use Rattle.fol_model.specs.declared.events.Event.{Event}
 use Rattle.fol_model.specs.declared.events.Event.TheVariants as events
+use Rattle.fol_model.specs.declared.actions.Action.{Action}
 use Rattle.fol_model.specs.declared.tasks.Ran.{Ran}
-use Rattle.fol_model.specs.Universe.{all_chunks}
 use Rattle.fol_model.specs.Counting.{some_below, least}
-use Rattle.fol_model.specs.GridState.{is_ready, is_ticking}
+use Rattle.fol_model.specs.GridState.{is_ready, is_ticking, present_count}
+use Rattle.fol_model.specs.Add.{is_full, wanted}
 use Rattle.fol_model.specs.World.{World}
 use Rattle.fol_model.specs.End.{answers, run_down, ticked}
-use Rattle.fol_model.specs.Run.{load_answer}
-use Rattle.fol_model.specs.Outputs.{is_chunk_of}
+use Rattle.fol_model.specs.Run.{load_answer, unload_answer}
 use Rattle.fol_core.specs.Meaning.{Meaning, Records, Stays, world_of}
+use Rattle.fol_core.specs.Ticks.{IsTick}
+use Rattle.fol_core.specs.declared.answers.Posting.{Posting}
+use Rattle.fol_core.specs.declared.answers.Posting.TheVariants as postings
 use Rattle.fol_core.specs.declared.answers.Phase.{Phase}
 use Rattle.fol_core.specs.declared.answers.Phase.TheVariants as phases
 use Rattle.fol_core.specs.declared.answers.Close.{Close}
@@ -26,7 +32,6 @@ use Rattle.fol_core.specs.declared.answers.Finish.{Finish}
 use Rattle.fol_core.specs.declared.answers.Finish.TheVariants as finishes
 use Rattle.fol_core.specs.declared.answers.BeginAnswer.{BeginAnswer}
 use Rattle.fol_core.specs.declared.answers.BeginAnswer.TheVariants.{Got, NotReady, NotOwing, Over}
-use Rattle.fol_core.specs.declared.ticks.Tick.{Tick}
 
 -- Finish or Stop stands in the history
 abbrev pub is_over : World → Bool
@@ -40,7 +45,7 @@ is_owing w r = is_ready (w.grid.state r) && nat_lt 0 (w.owed r)
 abbrev pub is_busy : World → ℕ → Bool
 is_busy w r = is_ticking (w.grid.state r) || is_owing w r
 
--- ---- loads
+-- ---- loads, unloads and posts
 
 abbrev pub load_result : World → ChunkPos → Loaded
 load_result w c = if w.finished then loads.Over else load_answer w c
@@ -49,6 +54,29 @@ load_result w c = if w.finished then loads.Over else load_answer w c
 abbrev pub LoadRecords : Meaning → Meaning → ℕ → ChunkPos → Loaded → Type 0
 LoadRecords old new caller c loads.Over = Stays old new
 LoadRecords old new caller c answer = Records old new caller (events.Load caller c answer)
+
+abbrev pub unload_result : World → ChunkPos → Unloaded
+unload_result w c = if w.finished then unloads.Over else unload_answer w c
+
+abbrev pub UnloadRecords : Meaning → Meaning → ℕ → ChunkPos → Unloaded → Type 0
+UnloadRecords old new caller c unloads.Over = Stays old new
+UnloadRecords old new caller c answer = Records old new caller (events.Unload caller c answer)
+
+-- what a recorded answer tells
+abbrev pub posting_of : Accept → Posting
+posting_of (accepts.Posted n) = postings.Posted n
+posting_of (accepts.Full present wanted) = postings.Full present wanted
+
+-- Over hands the action back
+abbrev pub post_result : World → ChunkPos → Action → Posting
+post_result w c a =
+    if w.finished then postings.Over a
+    else (if is_full w.grid c then postings.Full (present_count w.grid) (wanted w.grid c) else postings.Posted w.next_job)
+
+abbrev pub PostRecords : Meaning → Meaning → ℕ → ChunkPos → ℕ → Action → Posting → Type 0
+PostRecords old new caller c d a (postings.Posted n) = Records old new caller (events.Post caller c d a (accepts.Posted n))
+PostRecords old new caller c d a (postings.Full present wanted) = Records old new caller (events.Post caller c d a (accepts.Full present wanted))
+PostRecords old new caller c d a (postings.Over action) = Stays old new
 
 -- ---- phases
 
@@ -76,26 +104,19 @@ abbrev pub FinishRecords : Meaning → Meaning → ℕ → Finish → Type 0
 FinishRecords old new by finishes.Finished = Records old new by events.Finish
 FinishRecords old new by answer = Stays old new
 
--- ---- ticks
+-- a Stop is recorded unless the history is over
+abbrev pub StopRecords : Meaning → Meaning → ℕ → Bool → Type 0
+StopRecords old new caller true = Stays old new
+StopRecords old new caller false = Records old new caller (events.Stop caller)
 
--- the tick of a Begin of this region by this worker
-pub record IsTick (m : Meaning) (by_worker id : ℕ) (tick : Tick) : Type 0 where
-  pub worker : tick.worker ≡ by_worker
-  pub region : tick.region ≡ id
-  pub begun : tick.begun ≡ length m.history
-  pub chunks : tick.chunks.items ≡ filter (is_chunk_of (world_of m).grid id) all_chunks
+-- ---- ticks
 
 -- each answer with what has to hold for it, and what it leaves
 abbrev pub Begins : Meaning → Meaning → ℕ → ℕ → ℕ → BeginAnswer → Type 0
-Begins old new by worker id (Got tick) = (is_over (world_of old) ≡ false) × (is_owing (world_of old) id ≡ true) × IsTick old worker id tick × Records old new by (events.Begin worker id)
+Begins old new by worker id (Got tick) = (is_over (world_of old) ≡ false) × (is_owing (world_of old) id ≡ true) × IsTick (world_of old) (length old.history) worker id tick × Records old new by (events.Begin worker id)
 Begins old new by worker id (NotReady state) = (is_over (world_of old) ≡ false) × (is_ready state ≡ false) × (state ≡ (world_of old).grid.state id) × Stays old new
 Begins old new by worker id NotOwing = (is_over (world_of old) ≡ false) × (is_ready ((world_of old).grid.state id) ≡ true) × ((world_of old).owed id ≡ 0) × Stays old new
 Begins old new by worker id Over = (is_over (world_of old) ≡ true) × Stays old new
-
--- the region of the tick ticks, for its worker
-pub record IsOut (w : World) (tick : Tick) : Type 0 where
-  pub ticks : w.grid.state tick.region ≡ Ticking
-  pub worker : w.worker tick.region ≡ tick.worker
 
 -- the End of the tick in which these tasks ran
 abbrev pub end_event : World → ℕ → ℕ → List Ran → Event

@@ -1,15 +1,49 @@
--- The memory that was reserved for the next Begin of a region.
-use Rattle.std.specs.Prelude.{◌≡◌, ℕ, ◌≤◌, ◌<◌, [], Option, Some, None, vec_len, vec_capacity}
+-- The memory that was taken for what comes next.
+use Rattle.std.specs.Prelude.{◌≡◌, ℕ, Bool, ◌+◌, ◌≤◌, ◌<◌, ◌^◌, true, false, ◌||◌, [], Option, Some, None, vec_len, vec_capacity}
 use Rattle.std.specs.Global.{Vec}
+use Rattle.std.specs.HashMap.{spare as room_in}
 use Rattle.fol_model.specs.declared.events.Entry.{Entry}
+use Rattle.fol_model.specs.declared.tasks.Task.{Task}
+use Rattle.fol_regions.specs.Table.{grid_state}
+use Rattle.fol_store.specs.Stock.{Stock, bag_of, due_of}
+use Rattle.fol_core.specs.declared.tables.Course.{Course}
+use Rattle.fol_core.specs.declared.tables.Tables.{Tables}
 use Rattle.fol_core.specs.declared.machine.Room.{Room}
+use Rattle.fol_core.specs.Agenda.{owes}
 
 -- the region that it was reserved for, or 0
 abbrev pub room_of : Option Room → ℕ
 room_of None = 0
 room_of (Some room) = room.id
 
--- there is memory for one recorded chunk and for one entry
-abbrev pub HasRoom : Option Room → Vec Entry → Type 0
-HasRoom None history = Unit {0}
-HasRoom (Some room) history = (room.chunks.items ≡ []) × (1 ≤ vec_capacity room.chunks) × (vec_len history < vec_capacity history)
+-- a Begin of the region needs no more memory, and a Stop after it neither
+pub record BeginRoom (room : Room) (t : Tables) (h : Vec Entry) : Type 0 where
+  pub size : t.course.size < 2 ^ 50
+  pub history : vec_len h + 2 ≤ vec_capacity h
+  pub empty : room.due.items ≡ []
+  pub whole : owes (grid_state t.regions) (bag_of t.store) room.id ≡ true → (bag_of t.store room.id).whole ≡ true
+  pub due : owes (grid_state t.regions) (bag_of t.store) room.id ≡ true → due_of t.store room.id ≤ vec_capacity room.due
+
+abbrev pub HasRoom : Option Room → Tables → Vec Entry → Type 0
+HasRoom None t h = Unit {0}
+HasRoom (Some room) t h = BeginRoom room t h
+
+-- a Stop needs no memory, unless the history is over
+abbrev pub StopRoom : Course → Vec Entry → Type 0
+StopRoom c h = (c.finished || c.stopped) ≡ false → vec_len h < vec_capacity h
+
+-- there is memory for an entry with one hold more, for so many tasks, and for a Stop after it
+pub record HasGrown (t : Tables) (h : Vec Entry) (wanted : ℕ) : Type 0 where
+  pub size : t.course.size < 2 ^ 50
+  pub history : vec_len h + 2 ≤ vec_capacity h
+  pub regions : 1 ≤ t.regions.spare
+  pub tasks : wanted ≤ t.store.spare
+  pub bags : 1 ≤ t.store.slots
+  pub tickets : 1 ≤ room_in t.tickets
+  pub agenda : vec_len t.agenda + 1 ≤ vec_capacity t.agenda
+
+-- an empty list with room for the due tasks of a whole bag, where the region owes a tick
+pub record DueRoom (due : Vec Task) (k : Stock) (owes : Bool) (id : ℕ) : Type 0 where
+  pub empty : due.items ≡ []
+  pub whole : owes ≡ true → (bag_of k id).whole ≡ true
+  pub room : owes ≡ true → due_of k id ≤ vec_capacity due

@@ -1,7 +1,18 @@
 //! What the calls of a core answer.
 
-use crate::ticks::Tick;
-use fol_model::State;
+use fol_data::Tick;
+use fol_model::{Action, State};
+
+/// What became of a post.
+#[derive(Drop)]
+pub enum Posting {
+    /// The task was accepted under this number.
+    Posted(u64),
+    /// The task's chunk could not be held: `present` sections are there, `wanted` more are needed.
+    Full { present: u32, wanted: u32 },
+    /// Finish stands in the history; the action is handed back.
+    Over(Action),
+}
 
 /// What opening a phase came to.
 #[derive(Clone, Copy, Debug, PartialEq, Eq)]

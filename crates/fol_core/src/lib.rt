@@ -2,16 +2,21 @@
 //!
 //! Each call answers what the world after the history says, and adds the entry that it says. The tables inside are the world after
 //! the history, so no call replays it. Nothing here waits or starts a thread: a lock round a core makes a shared world of it.
-//!
-//! Today the tables are those of a world with one loaded chunk at most, without blocks, entities and tasks; the conditions of
-//! `start` and `load` say so. Every other clause is the final one.
 #![tactic(auto)]
 
+mod agenda;
 mod answers;
+mod bags;
+mod begins;
+mod ends;
+mod holds;
 mod machine;
-mod rows;
-mod ticks;
+mod phases;
+mod posts;
+mod releases;
+mod tables;
+mod wishes;
 
-pub use answers::{BeginAnswer, Close, CloseFault, Finish, Phase};
+pub use answers::{BeginAnswer, Close, CloseFault, Finish, Phase, Posting};
+pub use fol_data::Tick;
 pub use machine::Core;
-pub use ticks::Tick;

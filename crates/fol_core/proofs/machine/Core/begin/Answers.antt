@@ -1,52 +1,52 @@
-use Rattle.std.proofs.Common.{refl, ◌∙◌, ap, length, arith}
-use Rattle.std.proofs.lemmas.Bool.{le-leb}
-use Rattle.fol_model.specs.Run.{world}
-use Rattle.fol_core.specs.Answers.{IsGiven}
-use Rattle.fol_core.proofs.Keeps.{owed_is}
-use Rattle.fol_core.proofs.Results.{begun_given, given_one, is_over_at, not_over, owing_given, ready_one, rows_given, ticking_one}
+use Rattle.std.proofs.Common.{◌≡◌, true, refl, sym, ◌∙◌, ap, arith, length}
+use Rattle.std.specs.Prelude.{Some}
+use Rattle.fol_model.specs.declared.regions.State.{State}
+use Rattle.fol_queues.specs.Waiting.{task_in}
+use Rattle.fol_regions.specs.Table.{grid_state}
+use Rattle.fol_store.specs.Stock.{bag_of}
+use Rattle.fol_core.specs.Agenda.{owes}
+use Rattle.fol_core.proofs.BeginKept.{owing_now, room_for, tidy_bags, tidy_covers}
+use Rattle.fol_core.proofs.BeginTick.{begin_stands, not_over, owing_world, tick_is}
+use Rattle.fol_core.proofs.Rooms.{room_left}
 use Rattle.fol_core.proofs.machine.Core.begin.Goals as goal
 
-pub returns-then-self : goal.returns-then-self
-returns-then-self c = rw (← c.self.view_is) (is_over_at _ _ _ c.self.invariant.0 c.if-self.true, record { opening = refl; history = refl })
+pub hand_out-chunks-requires-clause-bags : goal.hand_out-chunks-requires-clause-bags
+hand_out-chunks-requires-clause-bags c =
+    let owing : owes (grid_state c.self.inside.tables.regions) (bag_of c.self.inside.tables.store) c.args.id ≡ true =
+    owing_now (grid_state c.self.inside.tables.regions) (bag_of c.self.inside.tables.store) c.args.id (sym c.state.ensures ∙ c.in-Some-Ready.is ∙ ap (λ (x : State). Some x) c.in-Some-Ready.field-0-is) (omega (arith, c.owed.ensures, c.if-owed-eq0.false)) in
+    tidy_bags _ _ _ c.self.invariant.0 c.args.id owing
 
-pub returns-then-self-2 : goal.returns-then-self-2
-returns-then-self-2 c =
-    let given : IsGiven (world c.self.inside.opening c.self.inside.history.items) c.args.id = rw (← c.self.view_is) at c.requires.given in
-    let one = given_one _ _ _ c.self.invariant.0 c.args.id given.above given.below in
-    rw (← c.self.view_is, one.1) (not_over _ _ _ c.self.invariant.0 c.if-self.false, refl, ticking_one _ _ _ c.self.invariant.0 one.0 c.if-self-2.true, record { opening = refl; history = refl })
-
-pub returns-then-self-eq0 : goal.returns-then-self-eq0
-returns-then-self-eq0 c =
-    let given : IsGiven (world c.self.inside.opening c.self.inside.history.items) c.args.id = rw (← c.self.view_is) at c.requires.given in
-    let one = given_one _ _ _ c.self.invariant.0 c.args.id given.above given.below in
-    rw (← c.self.view_is, one.1) (
-      not_over _ _ _ c.self.invariant.0 c.if-self.false,
-      ready_one _ _ _ c.self.invariant.0 one.0 c.if-self-2.false,
-      owed_is _ _ _ c.self.invariant.0 ∙ c.if-self-eq0.true,
-      record { opening = refl; history = refl },
-    )
-
-pub recorded-chunks-requires-clause-here : goal.recorded-chunks-requires-clause-here
-recorded-chunks-requires-clause-here c =
-    let given : IsGiven (world c.self.inside.opening c.self.inside.history.items) c.args.id = rw (← c.self.view_is) at c.requires.given in
-    (given_one _ _ _ c.self.invariant.0 c.args.id given.above given.below).0
+pub hand_out-chunks-requires-clause-covers : goal.hand_out-chunks-requires-clause-covers
+hand_out-chunks-requires-clause-covers c =
+    let owing : owes (grid_state c.self.inside.tables.regions) (bag_of c.self.inside.tables.store) c.args.id ≡ true =
+    owing_now (grid_state c.self.inside.tables.regions) (bag_of c.self.inside.tables.store) c.args.id (sym c.state.ensures ∙ c.in-Some-Ready.is ∙ ap (λ (x : State). Some x) c.in-Some-Ready.field-0-is) (omega (arith, c.owed.ensures, c.if-owed-eq0.false)) in
+    tidy_covers _ _ _ c.self.invariant.0 c.args.id owing
 
 pub invariant_of-self : goal.invariant_of-self
 invariant_of-self c =
-    let given : IsGiven (world c.self.inside.opening c.self.inside.history.items) c.args.id = rw (← c.self.view_is) at c.requires.given in (
-      rw c.record_within.ensures
-          (begun_given _ _ _ c.self.invariant.0 c.args.by c.args.worker c.args.id given.above given.below c.if-self.false c.if-self-2.false (omega (arith, c.if-self-eq0.false))),
+    let owing : owes (grid_state c.self.inside.tables.regions) (bag_of c.self.inside.tables.store) c.args.id ≡ true =
+    owing_now (grid_state c.self.inside.tables.regions) (bag_of c.self.inside.tables.store) c.args.id (sym c.state.ensures ∙ c.in-Some-Ready.is ∙ ap (λ (x : State). Some x) c.in-Some-Ready.field-0-is) (omega (arith, c.owed.ensures, c.if-owed-eq0.false)) in
+    let room = room_for c.self.inside.room c.self.inside.tables c.self.inside.history c.args.id c.self.invariant.1 (rw (← c.self.view_is) at c.requires.ready) c.requires.given.above in
+    let out = c.hand_out-chunks.ensures in
+    let over = sym c.is_over.ensures ∙ c.if-is_over.false in (
+      rw c.record.ensures.entries
+          (begin_stands _ _ _ c.self.invariant.0 c.args.id owing (room.2 owing) c.args.by c.args.worker c.hand_out-chunks.new.tables c.record.new.course over room.0 out.regions out.flat out.jobs out.taken out.next out.agenda
+          out.others.0 out.others.1 out.others.2 c.record.ensures.size),
       rw c.take.ensures.after tt,
+      room_left c.record.new.course _ _ _ _ room.1 c.record.ensures.len c.record.ensures.capacity,
     )
 
 pub returns : goal.returns
 returns c =
-    let given : IsGiven (world c.self.inside.opening c.self.inside.history.items) c.args.id = rw (← c.self.view_is) at c.requires.given in
-    let owing = owing_given _ _ _ c.self.invariant.0 c.args.id given.above given.below c.if-self-2.false (le-leb 1 _ (omega (arith, c.if-self-eq0.false))) in
-    let rows = rows_given _ _ _ c.self.invariant.0 c.args.id c.recorded-chunks.result.items given.above given.below c.recorded-chunks.ensures in
+    let owing : owes (grid_state c.self.inside.tables.regions) (bag_of c.self.inside.tables.store) c.args.id ≡ true =
+    owing_now (grid_state c.self.inside.tables.regions) (bag_of c.self.inside.tables.store) c.args.id (sym c.state.ensures ∙ c.in-Some-Ready.is ∙ ap (λ (x : State). Some x) c.in-Some-Ready.field-0-is) (omega (arith, c.owed.ensures, c.if-owed-eq0.false)) in
+    let room = room_for c.self.inside.room c.self.inside.tables c.self.inside.history c.args.id c.self.invariant.1 (rw (← c.self.view_is) at c.requires.ready) c.requires.given.above in
+    let out = c.hand_out-chunks.ensures in
+    let over = sym c.is_over.ensures ∙ c.if-is_over.false in
     rw (← c.self.view_is) (
-      not_over _ _ _ c.self.invariant.0 c.if-self.false,
-      owing,
-      record { worker = refl; region = refl; begun = ap length c.as_slice.ensures.value; chunks = rows },
-      record { opening = refl; history = c.record_within.ensures },
+      not_over _ _ _ c.self.invariant.0 c.args.id owing (room.2 owing) over,
+      owing_world _ _ _ c.self.invariant.0 c.args.id owing (room.2 owing),
+      tick_is _ _ _ c.self.invariant.0 c.args.id owing (room.2 owing) c.args.worker _ _ refl refl (ap length c.as_slice.ensures.value) (c.of.ensures ∙ out.chunks) out.counter out.owed out.contents out.left
+          (rw c.of-2.ensures out.order) (ap task_in c.of-2.ensures ∙ out.due) c.new.ensures c.new-2.ensures refl refl,
+      record { opening = refl; history = c.record.ensures.entries },
     )

@@ -1,0 +1,158 @@
+-- Wishes that are accepted while their region still ticks.
+use Rattle.std.proofs.Common.{◌≡◌, ◌≢◌, ℕ, ◌+◌, ◌≤◌, ◌<◌, ◌^◌, refl, sym, ◌∙◌, ap, arith, Bool, true, false, not, ◌&&◌, inl, inr, List, [], ◌∷◌, ◌++◌, length, vec_len, vec_capacity}
+use Rattle.std.specs.Prelude.{nat_eq, nat_lt, Option, Some, None, IsTrue}
+use Rattle.std.specs.HashMap.{spare as room_in}
+use Rattle.std.proofs.Math.Path.{fun_ext}
+use Rattle.std.proofs.lemmas.Bool.{cases_Bool, cases_eq, eqb-true, eqb-false, ne_eqb, ltb-true, and_parts, true≢false}
+use Rattle.fol_model.specs.declared.places.ChunkPos.{ChunkPos}
+use Rattle.fol_model.specs.declared.places.BlockPos.{BlockPos}
+use Rattle.fol_model.specs.declared.regions.State.TheVariants.{Ticking, Dead}
+use Rattle.fol_model.specs.declared.actions.Action.{Action}
+use Rattle.fol_model.specs.declared.events.Accept.TheVariants.{Posted}
+use Rattle.fol_model.specs.declared.events.Event.TheVariants.{Post}
+use Rattle.fol_model.specs.Geometry.{chunk_of, is_chunk, section_of}
+use Rattle.fol_model.specs.Counting.{count_below}
+use Rattle.fol_model.specs.Counters.{owed_after_add}
+use Rattle.fol_model.specs.GridState.{GridState, is_ready}
+use Rattle.fol_model.specs.Add.{add, is_full}
+use Rattle.fol_model.specs.ActionStep.{Flat, Recorded, Standing, at_id}
+use Rattle.fol_model.specs.Job.{Job, is_on, queued}
+use Rattle.fol_model.specs.Holds.{posted}
+use Rattle.fol_model.specs.World.{World}
+use Rattle.fol_laws.proofs.AddKeeps.{add_keeps}
+use Rattle.fol_laws.proofs.AddSections.{grid_add}
+use Rattle.fol_laws.proofs.SoundRuns.{Ending}
+use Rattle.fol_laws.proofs.TickedBefore.{ticked_before}
+use Rattle.fol_laws.proofs.TickingKept.{Kept, kept_posted}
+use Rattle.fol_sections.specs.Places.{count_at}
+use Rattle.fol_regions.specs.Table.{grid_state}
+use Rattle.fol_regions.specs.Changes.{Changes, add_change}
+use Rattle.fol_chunks.specs.Contents.{Contents, is_recorded, outside}
+use Rattle.fol_store.specs.Bag.{Bag, disturbed}
+use Rattle.fol_store.specs.Stock.{Stock, bag_of, flat_of, jobs_of, next_of}
+use Rattle.fol_core.specs.declared.tables.Tables.{Tables}
+use Rattle.fol_core.specs.Agenda.{Covers, owes}
+use Rattle.fol_core.specs.Bags.{IsBagOf, StoredIn, unsettled_at}
+use Rattle.fol_core.specs.Follows.{CanCover, CanFollow, CanHold, Holds, changed_bags, followed}
+use Rattle.fol_core.specs.Hands.{at_rest, in_hands, ticker, went}
+use Rattle.fol_core.specs.Underway.{Ends, HasRoomFor, Midway, Underway}
+use Rattle.fol_core.proofs.Added.{AddedBags, added_bags, off_owed}
+use Rattle.fol_core.proofs.GridRuns.{grid_after}
+use Rattle.fol_core.proofs.HandSteps.{hands_same, rest_same, went_same}
+use Rattle.fol_core.proofs.Held.{count_most}
+use Rattle.fol_core.proofs.UnsettledBags.{have_bags, known_bag, unsettled_bag}
+
+-- ---- a bag that may have to be gathered anew
+pub disturbed_bag : (g : GridState) (tick owed : ℕ → ℕ) (recorded : ℕ → Recorded) (r : ℕ) (c : ChunkPos) (b : Bag) → IsBagOf g tick owed recorded r b → IsBagOf g tick owed recorded r (disturbed c b)
+disturbed_bag g tick owed recorded r c b is = record {
+  here = is.here;
+  taken = is.taken;
+  counter = is.counter;
+  owes = is.owes;
+  whole = λ d w. is.whole d (and_parts b.whole (not (is_recorded b.chunks c)) w).0;
+  out = is.out;
+}
+
+pub covers_disturbed : (xs : List ℕ) (g : GridState) (c : ChunkPos) (f k : ℕ → Bag) → ((r : ℕ) → k r ≡ disturbed c (f r)) → Covers xs g f → Covers xs g k
+covers_disturbed xs g c f k same cov r x = cov r (let b = same r in rw b at x)
+
+not_below : (k m : ℕ) → m ≤ k → nat_lt k m ≡ false
+not_below k m l = elim (cases_Bool (nat_lt k m)) [ inl e ↦ let x = ltb-true k m e in absurd (omega arith) | inr e ↦ e ]
+
+-- ---- a hold more, in the middle of an End
+module _ (t : Tables) (v : Contents) (w : World) (since : ℕ → ℕ) (r n : ℕ) (u : Underway t v w since r (n + 1)) (c : ChunkPos) (limits : is_chunk c ≡ true) where
+  abbrev g : GridState
+  g = w.grid
+
+  abbrev home : ℕ
+  home = (add w.grid c).owner (section_of w.grid.grid c)
+
+  all_bags : AddedBags g (add g c) c (add_change g c) w.owed (owed_after_add g c w.owed) w.tick w.recorded (bag_of t.store)
+  all_bags = added_bags g c u.ends.ending.sound.rules u.ends.ending.sound.grid limits w.owed w.tick w.recorded (bag_of t.store) u.midway.stored.bags u.ends.new_ticks
+
+  off_bags : (q : ℕ) → IsBagOf (add g c) w.tick (owed_after_add g c w.owed) w.recorded q (followed home (add_change g c) (bag_of t.store) q)
+  off_bags = unsettled_bag (add g c) w.tick (owed_after_add g c w.owed) w.recorded home (changed_bags (add_change g c) (bag_of t.store))
+      (add_keeps g c u.ends.ending.sound.rules u.ends.ending.sound.grid limits).given all_bags.bags
+
+  follows : CanFollow t.store (add_change g c) home
+  follows = record {
+    follow = rw u.midway.stored.next all_bags.follow;
+    slots = omega (arith, all_bags.few, u.room.slots);
+    joins = all_bags.joins;
+    known = λ p. known_bag (add g c) w.tick (owed_after_add g c w.owed) w.recorded home home (changed_bags (add_change g c) (bag_of t.store))
+        (all_bags.bags home) ((add_keeps g c u.ends.ending.sound.rules u.ends.ending.sound.grid limits).owner_lives (section_of g.grid c) p);
+  }
+
+  can_cover : CanCover t.agenda.items (add g c) (add_change g c) (followed home (add_change g c) (bag_of t.store))
+  can_cover = record {
+    bags = have_bags (add g c) w.tick (owed_after_add g c w.owed) w.recorded (followed home (add_change g c) (bag_of t.store)) off_bags;
+    covers = λ q x. let e = off_owed home (changed_bags (add_change g c) (bag_of t.store)) q in all_bags.covers t.agenda.items u.midway.covers q (rw e at x);
+  }
+
+  few_holds : g.holds c < 2 ^ 62
+  few_holds = omega (arith, u.ends.ending.sound.holds c, u.ends.few_tickets c, count_most (λ k. is_on c (w.jobs k)) w.next_job, u.ends.few_jobs)
+
+  pub can_hold : CanHold t c
+  can_hold = record {
+    in_range = limits;
+    spare = omega (arith, u.room.regions);
+    few = rw u.midway.regions few_holds;
+    few_ids = rw u.midway.regions (omega (arith, u.ends.few_ids));
+    few_tickets = omega (arith, u.midway.tickets c, u.ends.few_tickets c);
+    bags = rw (u.midway.regions, u.midway.grid) follows;
+    covers = rw (u.midway.regions, u.midway.grid) can_cover;
+    room = omega (arith, u.room.agenda);
+    tickets = u.room.tickets;
+  }
+
+  -- ---- after it
+  pub held_bags : (f : ℕ → Bag) → f ≡ followed ((add (grid_state t.regions) c).owner (section_of t.grid c)) (add_change (grid_state t.regions) c) (bag_of t.store)
+      → (q : ℕ) → IsBagOf (add g c) w.tick (owed_after_add g c w.owed) w.recorded q (f q)
+  held_bags f b q = let b' = rw (u.midway.regions, u.midway.grid) at b in rw b' (off_bags q)
+
+  pub held_next : (k : ℕ) → k ≡ next_of t.store + length (add_change (grid_state t.regions) c).created → k ≡ (add g c).next
+  held_next k q = let q' : k ≡ next_of t.store + length (add_change g c).created = rw u.midway.regions at q in omega (arith, u.midway.stored.next, all_bags.next, q')
+
+  pub few_made : length (add_change (grid_state t.regions) c).created ≤ 1
+  few_made = rw u.midway.regions all_bags.few
+
+  pub new_next : (add g c).next ≤ g.next + 1
+  new_next = omega (arith, all_bags.next, all_bags.few)
+
+  pub next_grows : g.next ≤ (add g c).next
+  next_grows = omega (arith, all_bags.next)
+
+  pub grid_stays : (add g c).grid ≡ g.grid
+  grid_stays = grid_add g c
+
+  -- ---- where the task is accepted
+  module _ (d : ℕ) (a : Action) where
+    abbrev p : World
+    p = posted w c d a
+
+    pub post_kept : (q : ℕ) → g.state q ≡ Ticking → Kept q w (posted w c d a)
+    post_kept q ticks = kept_posted q w u.ends.ending.sound ticks c d a limits
+
+    post_back : (q : ℕ) → (posted w c d a).grid.state q ≡ Ticking → g.state q ≡ Ticking
+    post_back q ticks = elim (ticked_before q w (Post 0 c d a (Posted 0)) ticks) [ inl k ↦ k.0 | inr b ↦ absurd (true≢false (sym b)) ]
+
+    post_grid : (posted w c d a).grid.grid ≡ g.grid
+    post_grid = grid_after w (Post 0 c d a (Posted 0))
+
+    pub post_hands : in_hands (posted w c d a).grid (posted w c d a).recorded ≡ in_hands g w.recorded
+    post_hands = hands_same w (posted w c d a) post_grid post_kept post_back
+
+    pub post_rest : (k : ℕ) (x : Option Job) → at_rest (posted w c d a).grid since k x ≡ at_rest g since k x
+    post_rest = rest_same w (posted w c d a) post_grid post_kept post_back since
+
+    -- the new task did not go with an open tick
+    post_new : at_rest (posted w c d a).grid since w.next_job (Some (queued c d a)) ≡ Some (queued c d a)
+    unfolding went
+    post_new = let q = ticker (posted w c d a).grid c in let z : nat_lt w.next_job (since q) ≡ false = not_below w.next_job (since q) (u.ends.since_most q) in
+        elim (cases_Bool (nat_lt 0 (ticker (posted w c d a).grid c))) [ inl e ↦ rw (e, z) refl | inr e ↦ rw e refl ]
+
+    pub post_jobs : (js : ℕ → Option Job) → js ≡ jobs_of t.store → at_id js w.next_job (Some (queued c d a)) ≡ (λ k. at_rest (posted w c d a).grid since k (at_id w.jobs w.next_job (Some (queued c d a)) k))
+    post_jobs js e = fun_ext (λ k. elim (cases_Bool (nat_eq w.next_job k)) [
+      | inl h ↦ let same : w.next_job ≡ k = eqb-true _ _ h in let z = post_new in rw (h, ← same) (sym z)
+      | inr h ↦ rw h (ap (λ (f : ℕ → Option Job). f k) (e ∙ u.midway.stored.jobs) ∙ sym (post_rest k (w.jobs k)))
+    ])

@@ -1,0 +1,94 @@
+-- A gathering leaves what the tables stand for.
+use Rattle.std.proofs.Common.{◌≡◌, ℕ, refl, sym, ◌∙◌, ap, true, false, inl, inr, List, filter}
+use Rattle.std.specs.Prelude.{nat_lt}
+use Rattle.std.proofs.lemmas.Bool.{and_parts, true≢false, false_from_ne_true}
+use Rattle.fol_model.specs.declared.regions.State.{State}
+use Rattle.fol_model.specs.declared.regions.State.TheVariants.{Transient, Ready, Ticking, Dead}
+use Rattle.fol_model.specs.declared.openings.Opening.{Opening}
+use Rattle.fol_model.specs.declared.events.Entry.{Entry}
+use Rattle.fol_model.specs.Geometry.{section_of}
+use Rattle.fol_model.specs.Universe.{all_chunks}
+use Rattle.fol_model.specs.GridState.{GridState, is_ready}
+use Rattle.fol_model.specs.ActionStep.{Recorded}
+use Rattle.fol_model.specs.Outputs.{is_chunk_of}
+use Rattle.fol_model.specs.World.{World}
+use Rattle.fol_model.specs.Run.{world}
+use Rattle.fol_laws.proofs.AddTarget.{is_ticking-true}
+use Rattle.fol_laws.proofs.UnseenEnds.{recorded_owner}
+use Rattle.fol_chunks.specs.Contents.{is_recorded}
+use Rattle.fol_regions.specs.Table.{grid_state}
+use Rattle.fol_store.specs.Bag.{Bag}
+use Rattle.fol_store.specs.Gathered.{AreFree}
+use Rattle.fol_store.specs.Stock.{Stock, bag_of, next_of}
+use Rattle.fol_core.specs.declared.tables.Tables.{Tables}
+use Rattle.fol_core.specs.Agenda.{IsAgenda, owes}
+use Rattle.fol_core.specs.Bags.{IsBagOf}
+use Rattle.fol_core.specs.Begun.{Gathered}
+use Rattle.fol_core.specs.Same.{SameThings}
+use Rattle.fol_core.specs.Stands.{Stands}
+use Rattle.fol_core.proofs.ChunkLists.{kept_passes, owned}
+use Rattle.fol_core.proofs.Longer.{good_of}
+
+pub is_ready-true : (s : State) → is_ready s ≡ true → s ≡ Ready
+is_ready-true Ready h = refl
+is_ready-true Transient h = absurd (true≢false (sym h))
+is_ready-true Ticking h = absurd (true≢false (sym h))
+is_ready-true Dead h = absurd (true≢false (sym h))
+
+gathered_bag : (g : GridState) (tick owed : ℕ → ℕ) (recorded : ℕ → Recorded) (r : ℕ) (b c : Bag) → IsBagOf g tick owed recorded r b → Gathered g r b c → IsBagOf g tick owed recorded r c
+gathered_bag g tick owed recorded r b c is e = record {
+  here = e.here ∙ is.here;
+  taken = e.taken ∙ is.taken;
+  counter = λ x. e.counter ∙ is.counter x;
+  owes = λ x. e.owes ∙ is.owes x;
+  whole = λ d w. elim (e.whole w) [ inl k ↦ k.1 ∙ is.whole d k.0 | inr k ↦ k ];
+  out = λ x. e.out (is.taken ∙ rw x refl) ∙ is.out x;
+}
+
+gathered_agenda : (xs : List ℕ) (g : GridState) (f h : ℕ → Bag) → ((r : ℕ) → (h r).owed ≡ (f r).owed) → IsAgenda xs g f → IsAgenda xs g h
+gathered_agenda xs g f h e a = record {
+  covers = λ r o. let x = e r in a.covers r (rw x at o);
+  top = λ ys r s. let x = e r in rw x (a.top ys r s);
+}
+
+module _ (o : Opening) (h : List Entry) (t : Tables) (s : Stands o h t) where
+  pub gathered_stands : (k : Stock) → SameThings t.store k → next_of k ≡ next_of t.store → ((r : ℕ) → Gathered (grid_state t.regions) r (bag_of t.store r) (bag_of k r)) → Stands o h (record t { store = k })
+  gathered_stands k things next bags = record {
+    grid = s.grid;
+    run = s.run;
+    fits = record {
+      grid = s.fits.grid;
+      regions = s.fits.regions;
+      stored = record {
+        flat = things.flat ∙ s.fits.stored.flat;
+        jobs = things.jobs ∙ s.fits.stored.jobs;
+        next = next ∙ s.fits.stored.next;
+        bags = λ r. gathered_bag (world o h).grid (world o h).tick (world o h).owed (world o h).recorded r (bag_of t.store r) (bag_of k r) (s.fits.stored.bags r) (rw s.fits.regions at (bags r));
+      };
+      tickets = s.fits.tickets;
+      agenda = gathered_agenda t.agenda.items (world o h).grid (bag_of t.store) (bag_of k) (λ r. (bags r).owes) s.fits.agenda;
+      course = s.fits.course;
+    };
+    size = s.size;
+  }
+
+  pub ready_now : (id : ℕ) → owes (grid_state t.regions) (bag_of t.store) id ≡ true → (world o h).grid.state id ≡ Ready
+  ready_now id x = let y : owes (world o h).grid (bag_of t.store) id ≡ true = rw s.fits.regions at x in is_ready-true ((world o h).grid.state id) (and_parts (is_ready ((world o h).grid.state id)) (nat_lt 0 (bag_of t.store id).owed) y).0
+
+  pub ready_here : (id : ℕ) → owes (grid_state t.regions) (bag_of t.store) id ≡ true → (bag_of t.store id).here ≡ true
+  ready_here id x = let e = ready_now id x in (s.fits.stored.bags id).here ∙ rw e refl
+
+  pub ready_home : (id : ℕ) → owes (grid_state t.regions) (bag_of t.store) id ≡ true → (bag_of t.store id).taken ≡ false
+  ready_home id x = let e = ready_now id x in (s.fits.stored.bags id).taken ∙ rw e refl
+
+  -- no worker has a chunk of a region that is Ready
+  pub ready_free : (id : ℕ) → owes (grid_state t.regions) (bag_of t.store) id ≡ true → AreFree (bag_of t.store) (filter (is_chunk_of (grid_state t.regions) id) all_chunks)
+  ready_free id x u taken c m = false_from_ne_true (is_recorded (bag_of t.store u).chunks c) (λ y.
+      let w : World = world o h in
+      let ready = ready_now id x in
+      let ticks : (world o h).grid.state u ≡ Ticking = is_ticking-true ((world o h).grid.state u) (sym (s.fits.stored.bags u).taken ∙ taken) in
+      let rec : (world o h).recorded u c ≡ true = kept_passes ((world o h).recorded u) c (sym (ap (λ xs. is_recorded xs c) ((s.fits.stored.bags u).out ticks)) ∙ y) in
+      let mine : (world o h).grid.owner (section_of (world o h).grid.grid c) ≡ id = owned (world o h).grid id c (kept_passes (is_chunk_of (world o h).grid id) c (rw s.fits.regions at m)) in
+      let theirs = recorded_owner (world o h) u c (good_of o h t s).recorded.margin ticks rec in
+      let same : u ≡ id = sym theirs ∙ mine in
+      let both : (world o h).grid.state u ≡ (world o h).grid.state id = ap (world o h).grid.state same in cc)

@@ -1,0 +1,47 @@
+-- The tables before any event.
+use Rattle.std.proofs.Common.{◌≡◌, ℕ, ◌+◌, refl, sym, ◌∙◌, ap, arith, false, List, [], ◌∷◌, ◌++◌, length, length-append}
+use Rattle.std.specs.Prelude.{ℤ, None}
+use Rattle.fol_model.specs.declared.places.ChunkPos.{ChunkPos}
+use Rattle.fol_model.specs.declared.openings.Opening.{Opening}
+use Rattle.fol_model.specs.GridState.{GridState}
+use Rattle.fol_model.specs.World.{start}
+use Rattle.fol_sections.specs.Places.{count_at, number_at}
+use Rattle.fol_store.specs.Bag.{Bag, no_bag}
+use Rattle.fol_store.specs.Stock.{Stock, flat_of, jobs_of, bag_of, next_of}
+use Rattle.fol_core.specs.Hands.{in_hands, ticker}
+use Rattle.fol_core.specs.Bags.{IsBagOf, StoredIn}
+use Rattle.fol_core.specs.Agenda.{IsAgenda, TopOwes}
+use Rattle.fol_core.specs.Stands.{AreTickets}
+use Rattle.fol_core.proofs.Flats.{outside_none}
+
+none_in_hands : (o : Opening) (c : ChunkPos) → in_hands (start o).grid (start o).recorded c ≡ false
+unfolding in_hands ticker
+none_in_hands o c = refl
+
+no_bag_of : (o : Opening) (r : ℕ) (b : Bag) → b ≡ no_bag → IsBagOf (start o).grid (start o).tick (start o).owed (start o).recorded r b
+no_bag_of o r b e = record {
+  here = ap (λ (x : Bag). x.here) e;
+  taken = ap (λ (x : Bag). x.taken) e;
+  counter = λ h. absurd (cc);
+  owes = λ h. absurd (cc);
+  whole = λ d. absurd (d refl);
+  out = λ h. absurd (cc);
+}
+
+pub started : (o : Opening) (k : Stock) → flat_of k ≡ (start o).flat → jobs_of k ≡ (λ n. None) → bag_of k ≡ (λ id. no_bag) → next_of k ≡ 1 → StoredIn k (start o) (λ r. 0)
+started o k f j b n = record {
+  flat = f ∙ sym (outside_none (in_hands (start o).grid (start o).recorded) (start o).flat (none_in_hands o));
+  jobs = j;
+  next = n;
+  bags = λ r. no_bag_of o r (bag_of k r) (ap (λ (g : ℕ → Bag). g r) b);
+}
+
+pub no_top : (xs : List ℕ) (g : GridState) (f : ℕ → Bag) → xs ≡ [] → TopOwes xs g f
+no_top xs g f e ys r h = let l : length (ys ++ r ∷ []) ≡ length ys + 1 = length-append ys (r ∷ []) in let m = ap length (sym e ∙ h) in absurd (omega arith)
+
+pub no_agenda : (o : Opening) (xs : List ℕ) (f : ℕ → Bag) → xs ≡ [] → IsAgenda xs (start o).grid f
+no_agenda o xs f e = record { covers = λ r h. absurd (cc); top = no_top xs (start o).grid f e }
+
+pub no_tickets : (o : Opening) (entries : List ((ℤ × ℤ) × ℕ)) → entries ≡ [] → AreTickets entries (start o).tickets
+unfolding count_at number_at
+no_tickets o entries e c = rw e refl

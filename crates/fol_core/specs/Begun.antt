@@ -1,0 +1,28 @@
+-- What a Begin takes out of the store.
+use Rattle.std.specs.Prelude.{ℕ, ◌≡◌, ◌-◌, true, not, ◌&&◌, ◌⊎◌, nat_le, if◌then◌else◌, filter, Option, Some, None}
+use Rattle.fol_model.specs.declared.tasks.Task.{Task}
+use Rattle.fol_model.specs.Universe.{all_chunks}
+use Rattle.fol_model.specs.GridState.{GridState}
+use Rattle.fol_model.specs.ActionStep.{Recorded}
+use Rattle.fol_model.specs.Job.{Job}
+use Rattle.fol_model.specs.Outputs.{is_chunk_of}
+use Rattle.fol_store.specs.Bag.{Bag}
+
+-- how a bag of region r may differ after a gathering: it is whole for what it was, or for the region's loaded chunks
+pub record Gathered (g : GridState) (r : ℕ) (old new : Bag) : Type 0 where
+  pub here : new.here ≡ old.here
+  pub taken : new.taken ≡ old.taken
+  pub counter : new.tick ≡ old.tick
+  pub owes : new.owed ≡ old.owed
+  pub whole : new.whole ≡ true → ((old.whole ≡ true) × (new.chunks ≡ old.chunks)) ⊎ (new.chunks ≡ filter (is_chunk_of g r) all_chunks)
+  pub out : old.taken ≡ true → new.chunks ≡ old.chunks
+
+-- the task goes with the tick and waits for a later one
+abbrev pub left_job : Recorded → Option Job → Option Job
+left_job rec None = None
+left_job rec (Some j) = if (rec j.chunk && not (nat_le j.rest 1)) then Some (record j { rest = j.rest - 1 }) else None
+
+-- the task is due in the tick
+abbrev pub due_task : Recorded → ℕ → Option Job → Option Task
+due_task rec n None = None
+due_task rec n (Some j) = if (rec j.chunk && nat_le j.rest 1) then Some (record { number = n; chunk = j.chunk; action = j.action }) else None

@@ -1,0 +1,89 @@
+-- What the rows of a closing are made of.
+use Rattle.std.specs.Prelude.{ℕ, ℤ, ◌≡◌, ◌<◌, true, Bool, nat_eq, List, [], ◌∷◌, ◌++◌, map, filter, flat_map, Option, Some, None}
+use Rattle.std.specs.List.{AllByRecursion, list_any}
+use Rattle.std.specs.Map.{update_all}
+use Rattle.std.specs.BTreeMap.{BTreeMap, get}
+use Rattle.std.specs.Ordering.{int_cmp, ordering_then, eq_by_cmp}
+use Rattle.std.specs.declared.cmp.Ordering.{Ordering}
+use Rattle.fol_model.specs.declared.places.SectionPos.{SectionPos}
+use Rattle.fol_model.specs.declared.entities.Entity.{Entity}
+use Rattle.fol_model.specs.declared.entities.Place.{Place}
+use Rattle.fol_model.specs.declared.entities.Place.TheVariants.{At, Transit}
+use Rattle.fol_model.specs.declared.actions.Action.{Action}
+use Rattle.fol_model.specs.declared.actions.Action.TheVariants as action
+use Rattle.fol_model.specs.declared.closings.RegionRow.{RegionRow}
+use Rattle.fol_model.specs.declared.closings.OwnerRow.{OwnerRow}
+use Rattle.fol_model.specs.declared.closings.TaskRow.{TaskRow}
+use Rattle.fol_model.specs.declared.closings.EntityRow.{EntityRow}
+use Rattle.fol_model.specs.Universe.{all_sections, numbers_below}
+use Rattle.fol_model.specs.GridState.{GridState, is_present, is_ticking, size}
+use Rattle.fol_model.specs.Outputs.{chunk_count}
+use Rattle.fol_store.specs.Bag.{Bag}
+
+-- the entries were put into the map in turn
+abbrev pub PutsAll : {K X : Type 0} → (K → K → Ordering) → BTreeMap K X → BTreeMap K X → List (K × X) → Type 0
+PutsAll {K} c old new es = (q : K) → get c new q ≡ update_all (eq_by_cmp c) (get c old) es q
+
+-- the order of sections by their z and x
+abbrev pub place_cmp : ℤ × ℤ → ℤ × ℤ → Ordering
+place_cmp a b = ordering_then (int_cmp a.0 b.0) (int_cmp a.1 b.1)
+
+abbrev pub ticks_in : GridState → ℕ → Bool
+ticks_in g r = is_ticking (g.state r)
+
+-- the row of a region whose bag is in the store
+abbrev pub row_in : GridState → (ℕ → Bag) → ℕ → RegionRow
+row_in g bags r = record { id = r; state = g.state r; tick = (bags r).tick; owed = (bags r).owed; sections = size g r; chunks = chunk_count g r }
+
+-- the id was given out, and the store has the bag of the region
+pub record HasRow (g : GridState) (bags : ℕ → Bag) (r : ℕ) : Type 0 where
+  pub above : 0 < r
+  pub below : r < g.next
+  pub here : (bags r).here ≡ true
+
+-- a row for each present section, in order
+abbrev pub owners_in : GridState → List OwnerRow
+owners_in g = map (λ s. record { at = s; region = g.owner s }) (filter (is_present g) all_sections)
+
+-- a section by z and x, with its region
+abbrev pub owner_entry : ℕ → SectionPos → (ℤ × ℤ) × ℕ
+owner_entry id s = ((s.z, s.x), id)
+
+abbrev pub owner_entries : GridState → ℕ → List ((ℤ × ℤ) × ℕ)
+owner_entries g id = map (owner_entry id) (filter (λ s. nat_eq (g.owner s) id) all_sections)
+
+abbrev pub owner_row : (ℤ × ℤ) × ℕ → OwnerRow
+owner_row e = record { at = record { x = e.0.1; z = e.0.0 }; region = e.1 }
+
+-- an entity by its id, with where it stands
+abbrev pub standing_entry : Entity → ℕ × Place
+standing_entry e = (e.id, At e.at)
+
+abbrev pub arrival_in : ℕ → Action → List (ℕ × Place)
+arrival_in n (action.Arrive e) = (e.id, Transit n) ∷ []
+arrival_in n _ = []
+
+-- an entity by its id, with the number of the task that brings it
+abbrev pub arrival_entries : TaskRow → List (ℕ × Place)
+arrival_entries r = arrival_in r.task.number r.task.action
+
+abbrev pub place_row : ℕ × Place → EntityRow
+place_row e = record { id = e.0; place = e.1 }
+
+abbrev pub row_at : ℕ → Option Place → List EntityRow
+row_at id None = []
+row_at id (Some p) = (record { id = id; place = p }) ∷ []
+
+-- a row for each entity that has a place, in order
+abbrev pub places_in : (ℕ → Option Place) → List EntityRow
+places_in f = flat_map (λ id. row_at id (f id)) (numbers_below 1000000001)
+
+-- the entry says where its entity is
+abbrev pub IsPlace : (ℕ → Option Place) → ℕ × Place → Type 0
+IsPlace f e = f e.0 ≡ Some e.1
+
+-- the entities and the tasks say where each entity is
+pub record ArePlaces (f : ℕ → Option Place) (entities : List Entity) (tasks : List TaskRow) : Type 0 where
+  pub right : AllByRecursion (IsPlace f) (map standing_entry entities ++ flat_map arrival_entries tasks)
+  pub all : (id : ℕ) (p : Place) → f id ≡ Some p → list_any (λ e. nat_eq e.0 id) (map standing_entry entities ++ flat_map arrival_entries tasks) ≡ true
+  pub few : (id : ℕ) (p : Place) → f id ≡ Some p → id < 1000000001

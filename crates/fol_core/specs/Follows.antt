@@ -1,0 +1,115 @@
+-- What follows in the store and in the stack when a hold is added.
+use Rattle.std.specs.Prelude.{ℕ, ◌≡◌, ◌+◌, ◌-◌, ◌≤◌, ◌<◌, ◌^◌, Bool, true, false, ◌||◌, Some, if◌then◌else◌, List, [], ◌∷◌, ◌++◌, length, vec_len, vec_capacity, IsTrue}
+use Rattle.std.specs.HashMap.{spare as room_in}
+use Rattle.fol_model.specs.declared.places.ChunkPos.{ChunkPos}
+use Rattle.fol_model.specs.declared.events.Loaded.{Loaded}
+use Rattle.fol_model.specs.declared.events.Loaded.TheVariants.{Full, Counted}
+use Rattle.fol_model.specs.declared.events.Accept.{Accept}
+use Rattle.fol_model.specs.declared.events.Accept.TheVariants as accept
+use Rattle.fol_model.specs.declared.actions.Action.{Action}
+use Rattle.fol_model.specs.ActionStep.{at_id}
+use Rattle.fol_model.specs.Job.{queued}
+use Rattle.fol_model.specs.Geometry.{is_chunk, same_chunk, section_of}
+use Rattle.fol_model.specs.GridState.{GridState, at_chunk, present_count}
+use Rattle.fol_model.specs.Add.{add, is_full, wanted}
+use Rattle.fol_model.specs.Drop.{drop_hold}
+use Rattle.fol_sections.specs.Places.{count_at}
+use Rattle.fol_regions.specs.Table.{grid_state}
+use Rattle.fol_regions.specs.Changes.{Changes, add_change}
+use Rattle.fol_regions.specs.declared.change.MergePair.{MergePair}
+use Rattle.fol_store.specs.Bag.{Bag, disturbed}
+use Rattle.fol_store.specs.Stock.{Stock, bag_of, flat_of, jobs_of, next_of}
+use Rattle.fol_core.specs.declared.tables.Tables.{Tables}
+use Rattle.fol_core.specs.Bags.{CanJoin, Follow, joined_bags, opened_bags, unsettled_at}
+use Rattle.fol_core.specs.Agenda.{Covers, HaveBags, IsAgenda}
+use Rattle.fol_core.specs.Same.{SameThings}
+
+-- the new regions come, and then some join
+abbrev pub changed_bags : Changes → (ℕ → Bag) → ℕ → Bag
+changed_bags ch f = joined_bags ch.merges (opened_bags 0 0 ch.created f)
+
+-- the region r has other chunks, too
+abbrev pub followed : ℕ → Changes → (ℕ → Bag) → ℕ → Bag
+followed r ch f = unsettled_at r (changed_bags ch f)
+
+-- the region that others joined
+abbrev pub target_in : List MergePair → List ℕ
+target_in [] = []
+target_in (m ∷ ms) = m.into ∷ []
+
+-- the region r has its bag in the store or with a worker
+abbrev pub IsKnown : (ℕ → Bag) → ℕ → Type 0
+IsKnown f r = 0 < r → ((f r).here || (f r).taken) ≡ true
+
+-- the bags can follow a change, after which the region r has other chunks
+pub record CanFollow (k : Stock) (ch : Changes) (r : ℕ) : Type 0 where
+  pub follow : Follow (next_of k) ch.created
+  pub slots : length ch.created ≤ k.slots
+  pub joins : CanJoin ch.merges (opened_bags 0 0 ch.created (bag_of k))
+  pub known : IsKnown (changed_bags ch (bag_of k)) r
+
+-- the stack can follow to the grid h
+pub record CanCover (xs : List ℕ) (h : GridState) (ch : Changes) (f : ℕ → Bag) : Type 0 where
+  pub bags : HaveBags h f
+  pub covers : Covers (xs ++ target_in ch.merges) h f
+
+-- there is memory for a hold more of c, and bags and stack can follow it
+pub record CanHold (t : Tables) (c : ChunkPos) : Type 0 where
+  pub in_range : IsTrue (is_chunk c)
+  pub spare : 1 ≤ t.regions.spare
+  pub few : (grid_state t.regions).holds c < 2 ^ 62
+  pub few_ids : (grid_state t.regions).next < 2 ^ 62
+  pub few_tickets : count_at t.tickets.entries c < 2 ^ 62
+  pub bags : CanFollow t.store (add_change (grid_state t.regions) c) ((add (grid_state t.regions) c).owner (section_of t.grid c))
+  pub covers : CanCover t.agenda.items (add (grid_state t.regions) c) (add_change (grid_state t.regions) c) (followed ((add (grid_state t.regions) c).owner (section_of t.grid c)) (add_change (grid_state t.regions) c) (bag_of t.store))
+  pub room : vec_len t.agenda < vec_capacity t.agenda
+  pub tickets : 1 ≤ room_in t.tickets
+
+-- the hold was counted, and bags and stack followed; tickets are not said
+pub record Holds (old new : Tables) (c : ChunkPos) : Type 0 where
+  pub grid : new.grid ≡ old.grid
+  pub regions : grid_state new.regions ≡ add (grid_state old.regions) c
+  pub bags : bag_of new.store ≡ followed ((add (grid_state old.regions) c).owner (section_of old.grid c)) (add_change (grid_state old.regions) c) (bag_of old.store)
+  pub things : SameThings old.store new.store
+  pub next : next_of new.store ≡ next_of old.store + length (add_change (grid_state old.regions) c).created
+  pub spare : new.store.spare ≡ old.store.spare
+  pub agenda : IsAgenda new.agenda.items (grid_state new.regions) (bag_of new.store)
+  pub course : new.course ≡ old.course
+
+abbrev pub load_answer_in : GridState → ChunkPos → Loaded
+load_answer_in g c = if is_full g c then Full (present_count g) (wanted g c) else Counted
+
+-- one ticket more, unless the chunk can't be held
+abbrev pub tickets_after : Bool → (ChunkPos → ℕ) → ChunkPos → ChunkPos → ℕ
+tickets_after full tickets c q = if full then tickets q else (if same_chunk c q then tickets c + 1 else tickets q)
+
+-- a ticket and a hold less, unless there was none; the chunk's region may have a chunk less then
+pub record Drops (old new : Tables) (c : ChunkPos) (none : Bool) : Type 0 where
+  pub grid : new.grid ≡ old.grid
+  pub regions : grid_state new.regions ≡ (if none then grid_state old.regions else drop_hold (grid_state old.regions) c)
+  pub bags : bag_of new.store ≡ (if none then bag_of old.store else unsettled_at ((grid_state old.regions).owner (section_of old.grid c)) (bag_of old.store))
+  pub things : SameThings old.store new.store
+  pub next : next_of new.store ≡ next_of old.store
+  pub tickets : (q : ChunkPos) → count_at new.tickets.entries q ≡ at_chunk (count_at old.tickets.entries) c (count_at old.tickets.entries c - 1) q
+  pub agenda : new.agenda.items ≡ old.agenda.items
+  pub course : new.course ≡ old.course
+
+abbrev pub accept_in : GridState → ℕ → ChunkPos → Accept
+accept_in g n c = if is_full g c then accept.Full (present_count g) (wanted g c) else accept.Posted n
+
+-- a task was accepted on a chunk that is held once more
+pub record Posts (old new : Tables) (c : ChunkPos) (d : ℕ) (a : Action) : Type 0 where
+  pub grid : new.grid ≡ old.grid
+  pub regions : grid_state new.regions ≡ add (grid_state old.regions) c
+  pub bags : bag_of new.store ≡ λ r. disturbed c (followed ((add (grid_state old.regions) c).owner (section_of old.grid c)) (add_change (grid_state old.regions) c) (bag_of old.store) r)
+  pub flat : flat_of new.store ≡ flat_of old.store
+  pub jobs : jobs_of new.store ≡ at_id (jobs_of old.store) old.course.next_job (Some (queued c d a))
+  pub next : next_of new.store ≡ next_of old.store + length (add_change (grid_state old.regions) c).created
+  pub tickets : new.tickets.entries ≡ old.tickets.entries
+  pub agenda : IsAgenda new.agenda.items (grid_state new.regions) (bag_of new.store)
+  pub course : new.course ≡ record old.course { next_job = old.course.next_job + 1 }
+
+-- where the chunk can't be held nothing has changed but for the bags that have to be gathered anew
+abbrev pub PostsUnless : Bool → Tables → Tables → ChunkPos → ℕ → Action → Type 0
+PostsUnless true old new c d a = Holds old new c × (new.tickets.entries ≡ old.tickets.entries)
+PostsUnless false old new c d a = Posts old new c d a

@@ -1,0 +1,29 @@
+-- A finished tick can end.
+use Rattle.std.specs.Prelude.{ℕ, ◌≡◌, ◌+◌, ◌≤◌, ◌^◌, List, [], length, vec_len, vec_capacity}
+use Rattle.std.specs.Global.{Vec}
+use Rattle.fol_model.specs.declared.events.Accept.{Accept}
+use Rattle.fol_model.specs.declared.openings.Opening.{Opening}
+use Rattle.fol_model.specs.declared.events.Entry.{Entry}
+use Rattle.fol_data.specs.declared.tick.Tick.{Tick}
+use Rattle.fol_core.specs.declared.tables.Tables.{Tables}
+use Rattle.fol_core.specs.Stands.{Stands}
+use Rattle.fol_core.specs.Ticks.{IsOut}
+use Rattle.fol_core.specs.Underway.{HasRoomFor}
+
+-- the tick was given out, is finished, and there is memory for its End
+pub record MayEnd (t : Tables) (tick : Tick) : Type 0 where
+  pub opening : Opening
+  pub history : List Entry
+  pub room : ℕ
+  pub stands : Stands opening history t
+  pub out : IsOut (record { opening = opening; history = history; room = room }) tick
+  pub size : t.course.size + (1 + length tick.log.wishes) ≤ 2 ^ 50
+  pub memory : HasRoomFor t tick.body.chunks (length tick.log.wishes)
+
+-- there is memory for the End of the tick, with its answers, and for a Stop after it
+pub record HasGrownToEnd (t : Tables) (h : Vec Entry) (tick : Tick) (accepts : Vec Accept) : Type 0 where
+  pub size : t.course.size + (1 + length tick.log.wishes) ≤ 2 ^ 50
+  pub history : vec_len h + 2 ≤ vec_capacity h
+  pub memory : HasRoomFor t tick.body.chunks (length tick.log.wishes)
+  pub empty : accepts.items ≡ []
+  pub answers : length tick.log.wishes ≤ vec_capacity accepts

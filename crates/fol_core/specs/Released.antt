@@ -1,0 +1,108 @@
+-- How the bags of the store follow a release.
+use Rattle.std.specs.Prelude.{ℕ, ◌≡◌, ◌+◌, ◌≤◌, ◌<◌, ◌^◌, Bool, true, false, ◌||◌, List, [], ◌∷◌, ◌++◌, length, vec_len, vec_capacity, IsTrue, if◌then◌else◌}
+use Rattle.std.specs.Option.{ForSome, is_none, option_or}
+use Rattle.fol_model.specs.declared.regions.State.TheVariants.{Ticking}
+use Rattle.fol_model.specs.declared.tasks.Task.{Task}
+use Rattle.fol_model.specs.declared.places.ChunkPos.{ChunkPos}
+use Rattle.fol_model.specs.ActionStep.{at_id}
+use Rattle.fol_model.specs.GridState.{GridState, is_dead, is_loaded}
+use Rattle.fol_model.specs.Release.{release}
+use Rattle.fol_regions.specs.Changes.{Changes, release_change}
+use Rattle.fol_store.specs.Bag.{Bag, new_bag, no_bag, put_back}
+use Rattle.fol_store.specs.Stock.{Stock, bag_of, flat_of, jobs_of, next_of}
+use Rattle.fol_end_laws.specs.DroppedHolds.{drop_each}
+use Rattle.fol_chunks.specs.Contents.{Apart, flat_of as contents_of, is_recorded, joined, within}
+use Rattle.fol_queues.specs.Waiting.{dated}
+use Rattle.fol_data.specs.declared.region_data.RegionData.{RegionData}
+use Rattle.fol_data.specs.Rests.{IsInTime, rests_of}
+use Rattle.fol_regions.specs.Table.{grid_state}
+use Rattle.fol_core.specs.declared.tables.Tables.{Tables}
+use Rattle.fol_core.specs.Same.{SameThings}
+use Rattle.fol_core.specs.Agenda.{Covers, HaveBags, IsAgenda}
+use Rattle.fol_core.specs.Bags.{CanJoin, Follow, joined_bags}
+
+-- of a part: it has the numbers of the region that fell apart, and nothing was gathered for it
+abbrev pub part_bag : ℕ → ℕ → Bag
+part_bag tick owed = record (new_bag tick owed) { whole = false }
+
+abbrev pub opened_parts : ℕ → ℕ → List ℕ → (ℕ → Bag) → ℕ → Bag
+opened_parts tick owed [] f = f
+opened_parts tick owed (x ∷ xs) f = opened_parts tick owed xs (at_id f x (part_bag tick owed))
+
+-- the bag of r came back with these numbers, and the regions that waited for r join it
+abbrev pub rejoined : Changes → ℕ → ℕ → ℕ → (ℕ → Bag) → ℕ → Bag
+rejoined ch r tick owed f = joined_bags ch.merges (at_id f r (put_back tick owed (f r)))
+
+-- r is over, and its parts begin with its numbers
+abbrev pub parted : List ℕ → ℕ → (ℕ → Bag) → ℕ → Bag
+parted ids r f = opened_parts (f r).tick (f r).owed ids (at_id f r no_bag)
+
+-- after the release of r, which led to the grid h by this change
+abbrev pub released_bags : GridState → Changes → ℕ → ℕ → ℕ → (ℕ → Bag) → ℕ → Bag
+released_bags h ch r tick owed f = if is_dead (h.state r) then parted ch.parts r (rejoined ch r tick owed f) else rejoined ch r tick owed f
+
+-- the parts of r, where r is over
+abbrev pub parts_in : GridState → Changes → ℕ → List ℕ
+parts_in h ch r = if is_dead (h.state r) then ch.parts else []
+
+-- the regions that may owe a tick after a release of r: r itself, or its parts
+abbrev pub heirs : GridState → Changes → ℕ → List ℕ
+heirs h ch r = if is_dead (h.state r) then ch.parts else (r ∷ [])
+
+-- bags and stack can follow the release of r, which comes back with these numbers
+pub record CanRelease (k : Stock) (xs : List ℕ) (g : GridState) (r tick owed : ℕ) : Type 0 where
+  pub joins : CanJoin (release_change g r).merges (at_id (bag_of k) r (put_back tick owed (bag_of k r)))
+  pub here : (rejoined (release_change g r) r tick owed (bag_of k) r).here ≡ true
+  pub follow : Follow (next_of k) (parts_in (release g r) (release_change g r) r)
+  pub slots : length (parts_in (release g r) (release_change g r) r) ≤ k.slots
+  pub bags : HaveBags (release g r) (released_bags (release g r) (release_change g r) r tick owed (bag_of k))
+  pub covers : Covers (xs ++ heirs (release g r) (release_change g r) r) (release g r) (released_bags (release g r) (release_change g r) r tick owed (bag_of k))
+
+-- the bag of r stays but that it may have to be gathered anew; where it has not, the same chunks are loaded
+pub record Loosens (g h : GridState) (r : ℕ) (f k : ℕ → Bag) : Type 0 where
+  pub whole : Bool
+  pub bags : k ≡ at_id f r (record (f r) { whole = whole })
+  pub kept : whole ≡ true → (f r).whole ≡ true
+  pub loaded : whole ≡ true → (c : ChunkPos) → is_loaded h c ≡ is_loaded g c
+
+-- the region can be released: these are its chunks, and this is what comes back
+pub record CanEnd (t : Tables) (r : ℕ) (places : List ChunkPos) (body : RegionData) : Type 0 where
+  pub ticks : (grid_state t.regions).state r ≡ Ticking
+  pub spare : 1 ≤ t.regions.spare
+  pub few_ids : (grid_state t.regions).next < 2 ^ 62
+  pub out : (bag_of t.store r).taken ≡ true
+  pub chunks : places ≡ (bag_of t.store r).chunks
+  pub bound : body.tick ≤ 2 ^ 62
+  pub in_time : (n : ℕ) → ForSome (dated body.queues n) (IsInTime body.tick)
+  pub contents_there : contents_of body.chunks ≡ within (is_recorded places) (contents_of body.chunks)
+  pub tasks_there : (n : ℕ) → ForSome (rests_of body n) (λ j. is_recorded places j.chunk ≡ true)
+  pub contents_apart : Apart (flat_of t.store) (contents_of body.chunks)
+  pub tasks_apart : (n : ℕ) → IsTrue (is_none (jobs_of t.store n) || is_none (rests_of body n))
+  pub can : CanRelease t.store t.agenda.items (grid_state t.regions) r body.tick body.owed
+  pub room : vec_len t.agenda + length (heirs (release (grid_state t.regions) r) (release_change (grid_state t.regions) r) r) ≤ vec_capacity t.agenda
+
+-- the region was released, and what came back lies in the store
+pub record EndsRegion (old new : Tables) (r : ℕ) (body : RegionData) : Type 0 where
+  pub regions : grid_state new.regions ≡ release (grid_state old.regions) r
+  pub contents : flat_of new.store ≡ joined (flat_of old.store) (contents_of body.chunks)
+  pub tasks : jobs_of new.store ≡ λ n. option_or (jobs_of old.store n) (rests_of body n)
+  pub bags : bag_of new.store ≡ released_bags (release (grid_state old.regions) r) (release_change (grid_state old.regions) r) r body.tick body.owed (bag_of old.store)
+  pub next : next_of new.store ≡ next_of old.store + length (parts_in (release (grid_state old.regions) r) (release_change (grid_state old.regions) r) r)
+  pub agenda : IsAgenda new.agenda.items (grid_state new.regions) (bag_of new.store)
+  pub grid : new.grid ≡ old.grid
+  pub tickets : new.tickets ≡ old.tickets
+  pub course : new.course ≡ old.course
+
+-- the holds of these tasks were dropped, of which the region r had the chunks
+pub record DropsHolds (old new : Tables) (r : ℕ) (due : List Task) : Type 0 where
+  pub regions : grid_state new.regions ≡ drop_each (grid_state old.regions) due
+  pub bags : Loosens (grid_state old.regions) (grid_state new.regions) r (bag_of old.store) (bag_of new.store)
+  pub things : SameThings old.store new.store
+  pub next : next_of new.store ≡ next_of old.store
+  pub spare : new.regions.spare ≡ old.regions.spare
+  pub tasks : new.store.spare ≡ old.store.spare
+  pub slots : new.store.slots ≡ old.store.slots
+  pub grid : new.grid ≡ old.grid
+  pub tickets : new.tickets ≡ old.tickets
+  pub agenda : new.agenda ≡ old.agenda
+  pub course : new.course ≡ old.course

@@ -1,0 +1,81 @@
+-- The ticks that a core gives out and takes back.
+use Rattle.std.specs.Prelude.{ℕ, ◌≡◌, ◌+◌, ◌-◌, true, false, ◌&&◌, nat_eq, if◌then◌else◌, List, [], ◌∷◌, ◌++◌, filter, length, Option, Some, None}
+use Rattle.fol_model.specs.declared.events.Event.TheVariants.{Begin}
+use Rattle.fol_model.specs.declared.events.Entry.{Entry}
+use Rattle.fol_model.specs.declared.tasks.Outcome.{Outcome}
+use Rattle.fol_model.specs.Universe.{all_chunks}
+use Rattle.fol_model.specs.Geometry.{section_of}
+use Rattle.fol_model.specs.GridState.{GridState}
+use Rattle.fol_model.specs.Job.{Job}
+use Rattle.fol_model.specs.ActionStep.{Flat}
+use Rattle.fol_model.specs.FlatTick.{flat_tick}
+use Rattle.fol_model.specs.QueuedTask.{begun}
+use Rattle.fol_model.specs.OpenTick.{NoEnd}
+use Rattle.fol_model.specs.Outputs.{is_chunk_of}
+use Rattle.fol_model.specs.World.{World, due}
+use Rattle.fol_model.specs.Run.{world}
+use Rattle.fol_queues.specs.Waiting.{jobs_of}
+use Rattle.fol_chunks.specs.Contents.{flat_of, within, is_recorded}
+use Rattle.fol_data.specs.declared.tick.Tick.{Tick}
+use Rattle.fol_core.specs.Meaning.{Meaning}
+
+-- a task that is queued on a chunk of a section of r
+abbrev pub queued_in : GridState → ℕ → Option Job → Option Job
+queued_in g r None = None
+queued_in g r (Some j) = if (nat_eq j.taker 0 && nat_eq (g.owner (section_of g.grid j.chunk)) r) then Some j else None
+
+-- what a Begin in the world w, by the worker of the tick of its region, gives the tick to keep: the record of the Begin, the
+-- counter and the owed number after it, and the tasks that are queued after it, with their rests
+pub record IsTickOf (w : World) (tick : Tick) : Type 0 where
+  pub chunks : tick.chunks ≡ filter (is_chunk_of w.grid tick.region) all_chunks
+  pub due : tick.due ≡ due (begun w tick.worker tick.region) tick.region
+  pub counter : tick.body.tick ≡ w.tick tick.region
+  pub owed : tick.body.owed ≡ w.owed tick.region - 1
+  pub queued : jobs_of tick.body.queues (tick.body.tick + 1) ≡ λ n. queued_in w.grid tick.region ((begun w tick.worker tick.region).jobs n)
+
+-- the tick of a Begin of this region by this worker, before any of its tasks ran
+pub record IsTick (w : World) (place seat id : ℕ) (tick : Tick) : Type 0 where
+  pub worker : tick.worker ≡ seat
+  pub region : tick.region ≡ id
+  pub begun : tick.begun ≡ place
+  pub of : IsTickOf w tick
+  pub contents : flat_of tick.body.chunks ≡ within (is_recorded tick.chunks) w.flat
+  pub ran : tick.log.ran ≡ []
+  pub wishes : tick.log.wishes ≡ []
+  pub next : tick.next ≡ 0
+  pub moved : tick.moved ≡ false
+
+-- body and log are those of the whole tick on these blocks and entities, with these outcomes of loads and unloads
+pub record HasRun (given : ℕ → Outcome) (f : Flat) (tick : Tick) : Type 0 where
+  pub contents : flat_of tick.body.chunks ≡ (flat_tick (is_recorded tick.chunks) given tick.due f).flat
+  pub ran : tick.log.ran ≡ (flat_tick (is_recorded tick.chunks) given tick.due f).ran
+  pub wishes : tick.log.wishes ≡ (flat_tick (is_recorded tick.chunks) given tick.due f).wishes
+  pub moved : tick.moved ≡ true
+
+-- the tick was begun in this history, has not ended in it, and is finished: it ran on the blocks and entities that the world had in
+-- its recorded chunks at its Begin
+pub record IsOut (m : Meaning) (tick : Tick) : Type 0 where
+  pub before : List Entry
+  pub since : List Entry
+  pub by : ℕ
+  pub begin : m.history ≡ before ++ (record { by = by; event = Begin tick.worker tick.region }) ∷ since
+  pub place : tick.begun ≡ length before
+  pub runs_on : NoEnd tick.region since
+  pub of : IsTickOf (world m.opening before) tick
+  pub given : ℕ → Outcome
+  pub run : HasRun given (within (is_recorded tick.chunks) (world m.opening before).flat) tick
+
+-- the same tick; how much more its body can take in without taking memory is no part of it
+pub record SameTick (old new : Tick) : Type 0 where
+  pub worker : new.worker ≡ old.worker
+  pub region : new.region ≡ old.region
+  pub begun : new.begun ≡ old.begun
+  pub chunks : new.chunks ≡ old.chunks
+  pub due : new.due ≡ old.due
+  pub counter : new.body.tick ≡ old.body.tick
+  pub owed : new.body.owed ≡ old.body.owed
+  pub tasks : new.body.queues.tasks ≡ old.body.queues.tasks
+  pub contents : flat_of new.body.chunks ≡ flat_of old.body.chunks
+  pub log : new.log ≡ old.log
+  pub next : new.next ≡ old.next
+  pub moved : new.moved ≡ old.moved

@@ -1,0 +1,123 @@
+//! Begins of ticks.
+
+ghost use Rattle.std.specs.Prelude.{◌≡◌, ◌+◌, ◌-◌, ◌≤◌, ℕ, not, true, false, [], filter, OnOk, vec_capacity, IsSome, IfOk, IfSome};
+ghost use Rattle.fol_model.specs.Universe.{all_chunks};
+ghost use Rattle.fol_model.specs.Begin.{begin};
+ghost use Rattle.fol_model.specs.FlatTick.{Rising};
+ghost use Rattle.fol_model.specs.ActionStep.{at_id};
+ghost use Rattle.fol_model.specs.Outputs.{is_chunk_of};
+ghost use Rattle.fol_regions.specs.Table.{grid_state};
+ghost use Rattle.fol_regions.specs.Answers.{IsGiven as IsGivenIn};
+ghost use Rattle.fol_queues.specs.Waiting.{jobs_of as queued_of, task_in, option_filter};
+ghost use Rattle.fol_chunks.specs.Contents.{flat_of as contents_of, is_recorded, outside, within};
+ghost use Rattle.fol_store.specs.Bag.{taken_out};
+ghost use Rattle.fol_store.specs.Gathered.{AreFree};
+ghost use Rattle.fol_store.specs.Stock.{bag_of, due_of, flat_of, jobs_of, next_of};
+ghost use Rattle.fol_core.specs.Agenda.{Covers, HaveBags, IsAgenda, owes as owes_tick};
+ghost use Rattle.fol_core.specs.Answers.{Begins, IsGiven};
+ghost use Rattle.fol_core.specs.Room.{DueRoom};
+ghost use Rattle.fol_core.specs.Begun.{Gathered, due_task, left_job};
+ghost use Rattle.fol_core.specs.Meaning.{Stays, world_of};
+ghost use Rattle.fol_core.specs.Same.{SameThings};
+
+use crate::BeginAnswer;
+use crate::agenda::{owes, tidy};
+use crate::machine::{Core, Room, record};
+use crate::tables::Tables;
+use fol_data::{RegionData, Tick};
+use fol_model::{ChunkPos, Event, Sequence, State, Task, TickLog};
+use fol_store::Taken;
+
+/// What a Begin takes out of the store: the recorded chunks, the due tasks and the rest.
+#[derive(Drop)]
+struct Begun {
+    chunks: Vec<ChunkPos>,
+    due: Vec<Task>,
+    body: RegionData,
+}
+
+impl Core {
+    /// Begins the tick of a region that was reserved for. Over exactly where Finish or Stop stands in the history; else NotReady
+    /// exactly where its state is not Ready; else NotOwing exactly where it owes no tick. Only Got is recorded. Takes no memory.
+    pub fn begin(&mut self, by: u32, worker: u32, id: u64) -> BeginAnswer
+        requires given { IsGiven (world_of self.old) id }
+        requires ready { self.old.room ≡ id }
+        ensures { Begins self.old self.new by worker id result }
+    {
+        if self.tables.course.is_over() {
+            return BeginAnswer::Over;
+        }
+        match self.tables.regions.state(id) {
+            Some(State::Ready) => {}
+            Some(state) => return BeginAnswer::NotReady(state),
+            None => unreachable!(),
+        }
+        if self.tables.store.owed(id) == 0 {
+            return BeginAnswer::NotOwing;
+        }
+        let begun = self.history.as_slice().len() as u64;
+        let room = due_room(self.room.take());
+        let Begun { chunks, due, body } = hand_out(&mut self.tables, id, room);
+        let event = Event::Begin { worker, region: id };
+        record(&mut self.history, &mut self.tables.course, by, event);
+        BeginAnswer::Got(Tick {
+            worker,
+            region: id,
+            begun,
+            chunks: Sequence::of(chunks),
+            due: Sequence::of(due),
+            body,
+            log: TickLog {
+                ran: Sequence::new(self.alloc),
+                wishes: Sequence::new(self.alloc),
+            },
+            next: 0,
+            moved: false,
+        })
+    }
+}
+
+/// The memory for the due tasks that was taken.
+fn due_room(room: Option<Room>) -> Vec<Task>
+    requires there { IsSome room }
+    ensures { IfSome room (λ r. result ≡ r.due) }
+{
+    match room {
+        Some(room) => room.due,
+        None => unreachable!(),
+    }
+}
+
+/// Takes a Ready region that owes a tick out of the store, and begins its tick. `room` has room for the due tasks.
+fn hand_out(tables: &mut Tables, id: u64, room: Vec<Task>) -> Begun
+    requires given { IsGivenIn (grid_state tables.old.regions) id }
+    requires owing { owes_tick (grid_state tables.old.regions) (bag_of tables.old.store) id ≡ true }
+    requires here { (bag_of tables.old.store id).here ≡ true }
+    requires whole { (bag_of tables.old.store id).whole ≡ true }
+    requires empty { room.items ≡ [] }
+    requires room { due_of tables.old.store id ≤ vec_capacity room }
+    requires bags { HaveBags (begin (grid_state tables.old.regions) id) (at_id (bag_of tables.old.store) id (taken_out (bag_of tables.old.store id))) }
+    requires covers { Covers tables.old.agenda.items (begin (grid_state tables.old.regions) id) (at_id (bag_of tables.old.store) id (taken_out (bag_of tables.old.store id))) }
+    ensures chunks { result.chunks.items ≡ (bag_of tables.old.store id).chunks }
+    ensures counter { result.body.tick ≡ (bag_of tables.old.store id).tick }
+    ensures owed { result.body.owed ≡ (bag_of tables.old.store id).owed - 1 }
+    ensures contents { contents_of result.body.chunks ≡ within (is_recorded (bag_of tables.old.store id).chunks) (flat_of tables.old.store) }
+    ensures left { queued_of result.body.queues (result.body.tick + 1) ≡ λ n. left_job (is_recorded (bag_of tables.old.store id).chunks) (jobs_of tables.old.store n) }
+    ensures due { task_in result.due.items ≡ λ n. due_task (is_recorded (bag_of tables.old.store id).chunks) n (jobs_of tables.old.store n) }
+    ensures order { Rising result.due.items }
+    ensures flat { flat_of tables.new.store ≡ outside (is_recorded (bag_of tables.old.store id).chunks) (flat_of tables.old.store) }
+    ensures jobs { jobs_of tables.new.store ≡ λ n. option_filter (λ j. not (is_recorded (bag_of tables.old.store id).chunks j.chunk)) (jobs_of tables.old.store n) }
+    ensures taken { bag_of tables.new.store ≡ at_id (bag_of tables.old.store) id (taken_out (bag_of tables.old.store id)) }
+    ensures next { next_of tables.new.store ≡ next_of tables.old.store }
+    ensures regions { grid_state tables.new.regions ≡ begin (grid_state tables.old.regions) id }
+    ensures agenda { IsAgenda tables.new.agenda.items (grid_state tables.new.regions) (bag_of tables.new.store) }
+    ensures others { (tables.new.grid ≡ tables.old.grid) × (tables.new.tickets.entries ≡ tables.old.tickets.entries) × (tables.new.course ≡ tables.old.course) }
+{
+    let Taken { chunks, mut body } = tables.store.take(id);
+    tables.regions.begin(id);
+    tidy(&mut tables.agenda, &tables.regions, &tables.store);
+    let mut due = room;
+    body.owed -= 1;
+    body.queues.take_due(body.tick + 1, &mut due);
+    Begun { chunks, due, body }
+}

@@ -1,0 +1,201 @@
+//! The end of a tick.
+
+ghost use Rattle.std.specs.Prelude.{◌≡◌, ℕ, ◌+◌, ◌≤◌, ◌<◌, ◌^◌, ◌||◌, ◌++◌, true, List, [], length, IsTrue, vec_len, vec_capacity};
+ghost use Rattle.std.specs.Option.{is_none, option_or, ForSome};
+ghost use Rattle.fol_model.specs.declared.regions.State.TheVariants.{Ticking};
+ghost use Rattle.fol_model.specs.ActionStep.{at_id};
+ghost use Rattle.fol_model.specs.Drop.{drop_hold as drop};
+ghost use Rattle.fol_model.specs.GridState.{is_dead};
+ghost use Rattle.fol_model.specs.Release.{release};
+ghost use Rattle.fol_model.specs.Rules.{Rules};
+ghost use Rattle.fol_end_laws.specs.DroppedHolds.{drop_each};
+ghost use Rattle.fol_chunks.specs.Contents.{Apart, flat_of as contents_of, is_recorded, joined, within};
+ghost use Rattle.fol_data.specs.Rests.{IsInTime, rests_of};
+ghost use Rattle.fol_queues.specs.Waiting.{dated};
+ghost use Rattle.fol_regions.specs.Table.{grid_state};
+ghost use Rattle.fol_regions.specs.Answers.{IsGiven};
+ghost use Rattle.fol_regions.specs.Changes.{release_change};
+ghost use Rattle.fol_store.specs.Stock.{bag_of, flat_of, jobs_of, next_of};
+ghost use Rattle.fol_model.specs.declared.openings.Opening.{Opening};
+ghost use Rattle.fol_model.specs.declared.events.Entry.{Entry};
+ghost use Rattle.fol_model.specs.End.{ended};
+ghost use Rattle.fol_model.specs.Run.{world};
+ghost use Rattle.fol_core.specs.Agenda.{IsAgenda};
+ghost use Rattle.fol_core.specs.Answers.{end_event};
+ghost use Rattle.fol_core.specs.Hands.{since};
+ghost use Rattle.fol_core.specs.MayEnd.{MayEnd};
+ghost use Rattle.fol_core.specs.Stands.{Fits, Stands};
+ghost use Rattle.fol_core.specs.Ticks.{IsOut};
+ghost use Rattle.fol_core.specs.Bags.{Follow};
+ghost use Rattle.fol_core.specs.Released.{CanEnd, DropsHolds, EndsRegion, Loosens, opened_parts, part_bag, parted};
+ghost use Rattle.fol_core.specs.Same.{SameStock, SameThings};
+
+use crate::agenda::tidy;
+use crate::bags::join;
+use crate::tables::Tables;
+use crate::wishes::accept_all;
+use fol_data::{RegionData, Tick};
+use fol_model::{Accept, ChunkPos, Event, Sequence, State, Task};
+use fol_regions::{Regions, Removed};
+use fol_store::Store;
+use std::collections::VecDeque;
+
+/// Ends a finished tick: its holds are dropped, its wishes accepted, and its region released. Answers the event.
+pub(crate) fn end_tick(tables: &mut Tables, tick: Tick, mut accepts: Vec<Accept>) -> Event
+    requires may { MayEnd tables.old tick }
+    requires empty { accepts.items ≡ [] }
+    requires room { length tick.log.wishes ≤ vec_capacity accepts }
+    ensures event { (o : Opening) (h : List Entry) (m : ℕ) → Stands o h tables.old → IsOut (record { opening = o; history = h; room = m }) tick → result ≡ end_event (world o h) tick.worker tick.region tick.log.ran }
+    ensures ended { (o : Opening) (h : List Entry) (m : ℕ) → Stands o h tables.old → IsOut (record { opening = o; history = h; room = m }) tick → Fits tables.new (ended (world o h) tick.region tick.log.ran) (since o h) }
+    ensures course { tables.new.course.size ≡ tables.old.course.size }
+{
+    let Tick {
+        worker,
+        region,
+        chunks,
+        due,
+        mut body,
+        log,
+        ..
+    } = tick;
+    drop_due(tables, region, due.as_slice());
+    body.tick += 1;
+    let counter = body.tick;
+    let wishes = VecDeque::from_vec(log.wishes.into_vec());
+    accept_all(tables, &mut body.chunks, wishes, &mut accepts);
+    end_region(tables, region, chunks.into_vec(), body);
+    Event::End {
+        worker,
+        region,
+        tick: counter,
+        ran: log.ran,
+        accepts: Sequence::of(accepts),
+    }
+}
+
+/// Drops the holds of the tasks that ran in a tick of the region.
+fn drop_due(tables: &mut Tables, region: u64, due: &[Task])
+    requires out { (bag_of tables.old.store region).taken ≡ true }
+    ensures { DropsHolds tables.old tables.new region due.now }
+{
+    drop_holds(&mut tables.regions, &mut tables.store, region, due);
+}
+
+/// Drops the holds of the tasks that ran in a tick of the region. Where a chunk lost its last hold, the region's bag has to be gathered
+/// anew.
+fn drop_holds(regions: &mut Regions, store: &mut Store, region: u64, due: &[Task])
+    requires out { (bag_of store.old region).taken ≡ true }
+    ensures regions { grid_state regions.new ≡ drop_each (grid_state regions.old) due.now }
+    ensures bags { Loosens (grid_state regions.old) (grid_state regions.new) region (bag_of store.old) (bag_of store.new) }
+    ensures things { SameThings store.old store.new }
+    ensures next { next_of store.new ≡ next_of store.old }
+    ensures spare { regions.new.spare ≡ regions.old.spare }
+    ensures tasks { store.new.spare ≡ store.old.spare }
+    ensures slots { store.new.slots ≡ store.old.slots }
+{
+    for task in due {
+        drop_hold(regions, store, region, task.chunk);
+    }
+}
+
+/// Drops one hold of a chunk.
+fn drop_hold(regions: &mut Regions, store: &mut Store, region: u64, chunk: ChunkPos)
+    requires out { (bag_of store.old region).taken ≡ true }
+    ensures regions { grid_state regions.new ≡ drop (grid_state regions.old) chunk }
+    ensures bags { Loosens (grid_state regions.old) (grid_state regions.new) region (bag_of store.old) (bag_of store.new) }
+    ensures things { SameThings store.old store.new }
+    ensures next { next_of store.new ≡ next_of store.old }
+    ensures spare { regions.new.spare ≡ regions.old.spare }
+    ensures tasks { store.new.spare ≡ store.old.spare }
+    ensures slots { store.new.slots ≡ store.old.slots }
+{
+    match regions.remove(chunk) {
+        Removed::Gone => store.unsettle(region),
+        Removed::Lowered => {}
+        Removed::NotLoaded => {}
+    }
+}
+
+/// Releases a Ticking region, whose chunks and data come back.
+pub(crate) fn end_region(tables: &mut Tables, region: u64, chunks: Vec<ChunkPos>, body: RegionData)
+    requires { CanEnd tables.old region chunks.items body }
+    ensures { EndsRegion tables.old tables.new region body }
+{
+    tables.regions.keeps_rules();
+    tables.regions.release(region);
+    tables.store.put(region, chunks, body);
+    let change = tables.regions.last();
+    join(&mut tables.store, change.merges());
+    if is_over(&tables.regions, region) {
+        part(&mut tables.store, region, change.parts());
+        add_all(&mut tables.agenda, change.parts());
+    } else {
+        tables.agenda.push_reserved(region);
+    }
+    tidy(&mut tables.agenda, &tables.regions, &tables.store);
+}
+
+/// Whether a region that was given out is over.
+fn is_over(regions: &Regions, region: u64) -> bool
+    requires given { IsGiven (grid_state regions.now) region }
+    ensures { result ≡ is_dead ((grid_state regions.now).state region) }
+{
+    match regions.state(region) {
+        Some(State::Dead) => true,
+        Some(_) => false,
+        None => unreachable!(),
+    }
+}
+
+/// The region is over, and its parts begin with its numbers.
+fn part(store: &mut Store, region: u64, parts: &[u64])
+    requires here { (bag_of store.old region).here ≡ true }
+    requires follow { Follow (next_of store.old) parts.now }
+    requires slots { length parts.now ≤ store.old.slots }
+    ensures bags { bag_of store.new ≡ parted parts.now region (bag_of store.old) }
+    ensures things { SameThings store.old store.new }
+    ensures next { next_of store.new ≡ next_of store.old + length parts.now }
+{
+    let tick = store.tick(region);
+    let owed = store.owed(region);
+    store.close(region);
+    open_parts(store, parts, tick, owed);
+}
+
+/// The parts of a region get bags with its numbers, for which nothing was gathered.
+fn open_parts(store: &mut Store, parts: &[u64], tick: u64, owed: u32)
+    requires follow { Follow (next_of store.old) parts.now }
+    requires slots { length parts.now ≤ store.old.slots }
+    requires tick { tick ≤ 2 ^ 62 }
+    ensures bags { bag_of store.new ≡ opened_parts tick owed parts.now (bag_of store.old) }
+    ensures things { SameThings store.old store.new }
+    ensures next { next_of store.new ≡ next_of store.old + length parts.now }
+{
+    for id in parts {
+        open_part(store, *id, tick, owed);
+    }
+}
+
+/// A part of a region gets a bag.
+fn open_part(store: &mut Store, id: u64, tick: u64, owed: u32)
+    requires next { id ≡ next_of store.old }
+    requires slots { 1 ≤ store.old.slots }
+    requires tick { tick ≤ 2 ^ 62 }
+    ensures bags { bag_of store.new ≡ at_id (bag_of store.old) id (part_bag tick owed) }
+    ensures things { SameThings store.old store.new }
+    ensures next { next_of store.new ≡ next_of store.old + 1 }
+    ensures slots { store.old.slots ≤ store.new.slots + 1 }
+{
+    store.open(id, tick, owed);
+    store.unsettle(id);
+}
+
+/// Puts the regions on the stack.
+fn add_all(agenda: &mut Vec<u64>, ids: &[u64])
+    requires room { vec_len agenda.old + length ids.now ≤ vec_capacity agenda.old }
+    ensures { agenda.new.items ≡ agenda.old.items ++ ids.now }
+{
+    for id in ids {
+        agenda.push_reserved(*id);
+    }
+}

@@ -1,0 +1,167 @@
+//! Tickets of chunks.
+
+ghost use Rattle.std.specs.Prelude.{◌≡◌, ◌+◌, ◌≤◌, ◌<◌, ◌++◌, IsTrue, IfOk, OnErr, vec_len, vec_capacity, length, nat_eq, if◌then◌else◌};
+ghost use Rattle.fol_model.specs.declared.places.ChunkPos.{ChunkPos};
+ghost use Rattle.fol_model.specs.Geometry.{is_chunk, section_of as section_around};
+ghost use Rattle.fol_model.specs.Add.{is_full};
+ghost use Rattle.fol_sections.specs.Places.{count_at};
+ghost use Rattle.fol_regions.specs.Table.{grid_state};
+ghost use Rattle.fol_regions.specs.Answers.{add_answer};
+ghost use Rattle.fol_regions.specs.Changes.{add_change};
+ghost use Rattle.fol_store.specs.Stock.{bag_of, next_of};
+ghost use Rattle.fol_core.specs.Answers.{LoadRecords, UnloadRecords, load_result, unload_result};
+ghost use Rattle.fol_core.specs.Bags.{unsettled_at};
+ghost use Rattle.fol_core.specs.Follows.{CanFollow, CanHold, Drops, Holds, IsKnown, followed, load_answer_in, target_in, tickets_after};
+ghost use Rattle.fol_core.specs.Meaning.{Stays, world_of};
+ghost use Rattle.fol_core.specs.Posts.{LeavesRoom};
+ghost use Rattle.fol_core.specs.Same.{SameThings};
+
+use crate::agenda::tidy;
+use crate::bags::{join, open_all};
+use crate::machine::{Core, record};
+use crate::tables::{Tables, grow};
+use fol_model::{ChunkPos, Event, Loaded, SectionPos, Unloaded, section_of};
+use fol_regions::{AddAnswer, MergePair, Regions};
+use fol_sections::{count_hold, drop_hold};
+use fol_store::Store;
+use std::alloc::AllocError;
+
+impl Core {
+    /// Adds a ticket to a chunk. Records the load by this caller with its answer, but at Over, which comes exactly where the
+    /// history is finished. After want of memory nothing has changed.
+    pub fn load(&mut self, caller: u32, c: ChunkPos) -> Result<Loaded, AllocError>
+        requires in_range { IsTrue (is_chunk c) }
+        ensures answer { IfOk result (λ a. a ≡ load_result (world_of self.old) c) }
+        ensures recorded { IfOk result (λ a. LoadRecords self.old self.new caller c a) }
+        ensures refused { OnErr result (Stays self.old self.new) }
+    {
+        if self.tables.course.finished {
+            return Ok(Loaded::Over);
+        }
+        self.room = None;
+        grow(&mut self.tables, &mut self.history, 0)?;
+        let answer = loaded(&mut self.tables, c);
+        let event = Event::Load {
+            caller,
+            chunk: c,
+            answer,
+        };
+        record(&mut self.history, &mut self.tables.course, caller, event);
+        Ok(answer)
+    }
+
+    /// Takes a ticket from a chunk. Records the unload by this caller with its answer, but at Over, which comes exactly where the
+    /// history is finished. After want of memory nothing has changed.
+    pub fn unload(&mut self, caller: u32, c: ChunkPos) -> Result<Unloaded, AllocError>
+        requires in_range { IsTrue (is_chunk c) }
+        ensures answer { IfOk result (λ a. a ≡ unload_result (world_of self.old) c) }
+        ensures recorded { IfOk result (λ a. UnloadRecords self.old self.new caller c a) }
+        ensures refused { OnErr result (Stays self.old self.new) }
+    {
+        if self.tables.course.finished {
+            return Ok(Unloaded::Over);
+        }
+        self.room = None;
+        grow(&mut self.tables, &mut self.history, 0)?;
+        let answer = unloaded(&mut self.tables, c);
+        let event = Event::Unload {
+            caller,
+            chunk: c,
+            answer,
+        };
+        record(&mut self.history, &mut self.tables.course, caller, event);
+        Ok(answer)
+    }
+}
+
+/// Adds a ticket, where the chunk can be held.
+fn loaded(tables: &mut Tables, c: ChunkPos) -> Loaded
+    requires { CanHold tables.old c }
+    ensures answer { result ≡ load_answer_in (grid_state tables.old.regions) c }
+    ensures held { Holds tables.old tables.new c }
+    ensures tickets { (q : ChunkPos) → count_at tables.new.tickets.entries q ≡ tickets_after (is_full (grid_state tables.old.regions) c) (count_at tables.old.tickets.entries) c q }
+{
+    match hold(tables, c) {
+        AddAnswer::Full { present, wanted } => Loaded::Full { present, wanted },
+        AddAnswer::Counted | AddAnswer::Changed => {
+            count_hold(&mut tables.tickets, c);
+            Loaded::Counted
+        }
+    }
+}
+
+/// Takes a ticket, where the chunk has one. The chunk's region may have a chunk less then.
+fn unloaded(tables: &mut Tables, c: ChunkPos) -> Unloaded
+    requires known { IsKnown (bag_of tables.old.store) ((grid_state tables.old.regions).owner (section_around tables.old.grid c)) }
+    ensures answer { result ≡ (if nat_eq (count_at tables.old.tickets.entries c) 0 then Unloaded.NoTicket else Unloaded.Lowered) }
+    ensures done { Drops tables.old tables.new c (nat_eq (count_at tables.old.tickets.entries c) 0) }
+{
+    if drop_hold(&mut tables.tickets, c) == 0 {
+        return Unloaded::NoTicket;
+    }
+    let home = section_of(&tables.grid, c);
+    unsettle_owner(&tables.regions, &mut tables.store, home);
+    tables.regions.remove(c);
+    Unloaded::Lowered
+}
+
+/// Counts a hold more of a chunk, and lets bags and stack follow.
+pub(crate) fn hold(tables: &mut Tables, c: ChunkPos) -> AddAnswer
+    requires { CanHold tables.old c }
+    ensures answer { result ≡ add_answer (grid_state tables.old.regions) c }
+    ensures held { Holds tables.old tables.new c }
+    ensures tickets { tables.new.tickets ≡ tables.old.tickets }
+    ensures left { LeavesRoom tables.old tables.new (length (add_change (grid_state tables.old.regions) c).created) }
+{
+    let answer = tables.regions.add(c);
+    follow(
+        &tables.regions,
+        &mut tables.store,
+        section_of(&tables.grid, c),
+    );
+    add_target(&mut tables.agenda, tables.regions.last().merges());
+    tidy(&mut tables.agenda, &tables.regions, &tables.store);
+    answer
+}
+
+/// The bags follow the last change of the regions, after which the region of the section has other chunks.
+fn follow(regions: &Regions, store: &mut Store, s: SectionPos)
+    requires { CanFollow store.old regions.now.last ((grid_state regions.now).owner s) }
+    ensures bags { bag_of store.new ≡ followed ((grid_state regions.now).owner s) regions.now.last (bag_of store.old) }
+    ensures things { SameThings store.old store.new }
+    ensures next { next_of store.new ≡ next_of store.old + length regions.now.last.created }
+    ensures spare { store.new.spare ≡ store.old.spare }
+    ensures slots { store.old.slots ≤ store.new.slots + length regions.now.last.created }
+{
+    let change = regions.last();
+    open_all(store, change.created(), 0, 0);
+    join(store, change.merges());
+    unsettle_owner(regions, store, s);
+}
+
+/// The region of the section, if there is one, has other chunks.
+fn unsettle_owner(regions: &Regions, store: &mut Store, s: SectionPos)
+    requires { IsKnown (bag_of store.old) ((grid_state regions.now).owner s) }
+    ensures bags { bag_of store.new ≡ unsettled_at ((grid_state regions.now).owner s) (bag_of store.old) }
+    ensures things { SameThings store.old store.new }
+    ensures next { next_of store.new ≡ next_of store.old }
+    ensures spare { store.new.spare ≡ store.old.spare }
+    ensures slots { store.new.slots ≡ store.old.slots }
+{
+    if let Some(id) = regions.owner(s) {
+        store.unsettle(id);
+    }
+}
+
+/// The region that others joined may owe a tick now.
+fn add_target(agenda: &mut Vec<u64>, merges: &[MergePair])
+    requires room { vec_len agenda.old < vec_capacity agenda.old }
+    ensures items { agenda.new.items ≡ agenda.old.items ++ target_in merges.now }
+    ensures len { vec_len agenda.new ≤ vec_len agenda.old + 1 }
+    ensures capacity { vec_capacity agenda.new ≡ vec_capacity agenda.old }
+{
+    match merges.first() {
+        Some(pair) => agenda.push_reserved(pair.into),
+        None => {}
+    }
+}

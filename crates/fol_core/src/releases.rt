@@ -1,0 +1,78 @@
+//! The release of a region: a finished tick comes back.
+
+ghost use Rattle.std.specs.Prelude.{◌≡◌, ◌≤◌, [], length, IfOk, IfErr, OnOk, OnErr, vec_len, vec_capacity};
+ghost use Rattle.fol_core.specs.Answers.{end_event};
+ghost use Rattle.fol_core.specs.Meaning.{Records, Stays, world_of};
+ghost use Rattle.fol_core.specs.MayEnd.{HasGrownToEnd};
+ghost use Rattle.fol_core.specs.Same.{SameTables};
+ghost use Rattle.fol_core.specs.Ticks.{IsOut, SameTick};
+
+use crate::ends::end_tick;
+use crate::machine::{Core, record};
+use crate::tables::{MOST, Tables};
+use fol_data::Tick;
+use fol_model::{Accept, Entry};
+use std::alloc::{AllocError, Global};
+
+/// How many parts a region can fall into at most.
+const PARTS: u64 = 1820;
+
+/// How many wishes a tick may have, so that the regions that they make can be counted.
+const WISHES: u64 = u32::MAX as u64;
+
+impl Core {
+    /// Ends a tick that `begin` gave out and that is finished. Answers the new length of the history. After want of memory nothing
+    /// has changed, and the tick is handed back.
+    pub fn release(&mut self, alloc: Global, tick: Tick) -> Result<u64, Tick>
+        requires out { IsOut self.old tick }
+        ensures length { IfOk result (λ n. n ≡ length self.new.history) }
+        ensures recorded { OnOk result (Records self.old self.new tick.worker (end_event (world_of self.old) tick.worker tick.region tick.log.ran)) }
+        ensures back { IfErr result (λ t. SameTick tick t) }
+        ensures refused { OnErr result (Stays self.old self.new) }
+    {
+        let mut tick = tick;
+        self.room = None;
+        match grow_to_end(alloc, &mut self.tables, &mut self.history, &mut tick) {
+            Err(_) => Err(tick),
+            Ok(accepts) => {
+                let asked = tick.log.wishes.len() as u64;
+                let worker = tick.worker;
+                let event = end_tick(&mut self.tables, tick, accepts);
+                record(&mut self.history, &mut self.tables.course, worker, event);
+                self.tables.course.size += asked;
+                Ok(self.history.len() as u64)
+            }
+        }
+    }
+}
+
+/// Takes the memory for the End of a tick, and for a Stop after it: that of its entry, and of what its wishes make.
+fn grow_to_end(
+    alloc: Global,
+    tables: &mut Tables,
+    history: &mut Vec<Entry>,
+    tick: &mut Tick,
+) -> Result<Vec<Accept>, AllocError>
+    ensures same { SameTables tables.old tables.new }
+    ensures tick { SameTick tick.old tick.new }
+    ensures entries { history.new.items ≡ history.old.items }
+    ensures len { vec_len history.new ≡ vec_len history.old }
+    ensures capacity { vec_capacity history.old ≤ vec_capacity history.new }
+    ensures ok { IfOk result (λ accepts. HasGrownToEnd tables.new history.new tick.new accepts) }
+{
+    let asked = tick.log.wishes.len();
+    if asked as u64 >= WISHES
+        || tables.course.size >= MOST
+        || asked as u64 >= MOST - tables.course.size
+    {
+        return Err(AllocError);
+    }
+    history.reserve(2)?;
+    let accepts = Vec::with_capacity(alloc, asked)?;
+    tables.regions.reserve(asked as u32 + 1)?;
+    tables.store.reserve(asked as u64, asked as u64 + PARTS)?;
+    tables.tickets.reserve(1)?;
+    tables.agenda.reserve(asked + PARTS as usize)?;
+    tick.body.chunks.reserve(asked as u64)?;
+    Ok(accepts)
+}

@@ -1,0 +1,76 @@
+//! The tables that stand for the world after a history.
+
+ghost use Rattle.std.specs.Prelude.{◌≡◌, ◌+◌, ◌≤◌, ◌<◌, ◌^◌, ◌||◌, OnOk, vec_len, vec_capacity};
+ghost use Rattle.std.specs.HashMap.{spare as room_of};
+ghost use Rattle.fol_core.specs.Same.{SameTables};
+ghost use Rattle.fol_core.specs.Room.{HasGrown};
+
+use fol_model::{Entry, Grid};
+use fol_regions::Regions;
+use fol_sections::Numbers;
+use fol_store::Store;
+use std::alloc::AllocError;
+
+/// How many entries and answers of Ends a history may have, but for a Stop.
+pub(crate) const MOST: u64 = 1 << 50;
+
+/// How far the world has come.
+#[derive(Clone, Copy)]
+pub(crate) struct Course {
+    /// The number of the next task.
+    pub(crate) next_job: u64,
+    pub(crate) in_phase: bool,
+    /// The ticks of all phases.
+    pub(crate) sum: u32,
+    pub(crate) stopped: bool,
+    pub(crate) finished: bool,
+    /// How many entries the history has, and answers that its Ends list.
+    pub(crate) size: u64,
+}
+
+impl Course {
+    /// Whether Finish or Stop stands in the history.
+    pub(crate) fn is_over(&self) -> bool
+        ensures { result ≡ (self.now.finished || self.now.stopped) }
+    {
+        self.finished || self.stopped
+    }
+}
+
+/// The world after a history.
+#[derive(Drop)]
+pub(crate) struct Tables {
+    pub(crate) grid: Grid,
+    /// Sections, regions and holds.
+    pub(crate) regions: Regions,
+    /// What no worker has in its hands.
+    pub(crate) store: Store,
+    /// The tickets of the chunks.
+    pub(crate) tickets: Numbers,
+    /// A stack of regions: each that is Ready and owes a tick is in it, and its top is such a one.
+    pub(crate) agenda: Vec<u64>,
+    pub(crate) course: Course,
+}
+
+/// Takes the memory for an entry with one hold more, for so many tasks, and for a Stop after it.
+pub(crate) fn grow(
+    tables: &mut Tables,
+    history: &mut Vec<Entry>,
+    tasks: u64,
+) -> Result<(), AllocError>
+    ensures same { SameTables tables.old tables.new }
+    ensures entries { history.new.items ≡ history.old.items }
+    ensures len { vec_len history.new ≡ vec_len history.old }
+    ensures capacity { vec_capacity history.old ≤ vec_capacity history.new }
+    ensures ok { OnOk result (HasGrown tables.new history.new tasks) }
+{
+    history.reserve(2)?;
+    if tables.course.size >= MOST {
+        return Err(AllocError);
+    }
+    tables.regions.reserve(1)?;
+    tables.store.reserve(tasks, 1)?;
+    tables.tickets.reserve(1)?;
+    tables.agenda.reserve(1)?;
+    Ok(())
+}
