@@ -1,0 +1,181 @@
+#!/usr/bin/env python3
+"""Writes the world and the script of each workload into a folder.
+
+    python3 bench/workloads.py FOLDER [WORKLOAD [SIZE]]
+
+A workload is two texts, FOLDER/WORKLOAD/world.txt and FOLDER/WORKLOAD/script.txt. Doubling SIZE doubles its work. With no WORKLOAD
+all are written, each at its own SIZE, which stands in WORKLOADS below and can be doubled twice within the limits of the texts.
+"""
+
+import sys
+from pathlib import Path
+
+FILE_LIMIT = 16_777_216
+TICK_LIMIT = 10_000
+SECTION_LIMIT = 16_384
+
+
+def idle(size):
+    """SIZE regions of one loaded chunk each, in which nothing happens, tick 200 times each."""
+    yield from grid(0, 1, 1, 2, 1, 6)
+    yield from script()
+    for region in range(size):
+        yield f"load {8 * (region % 64)} {8 * (region // 64)}"
+    yield from run(200)
+
+
+def entities(size):
+    """SIZE entities walk for 50 ticks over one region of 32 by 32 chunks, each its own way."""
+    yield from grid(2, 1, 1, 2, 1, 6)
+    for number in range(size):
+        x, z = 37 * number % 512, 91 * number % 512
+        vx, vz = number % 33 - 16, number // 33 % 33 - 16
+        yield f"entity {number + 1} {x} {number % 256} {z} {vx} {vz}"
+    yield from script()
+    yield from square(0, 0, 32, 32)
+    yield from run(50)
+
+
+def posts(size):
+    """SIZE tasks that set blocks in 16 regions, due over 100 ticks."""
+    yield from grid(0, 1, 1, 2, 1, 6)
+    yield from script()
+    for region in range(16):
+        yield f"load {8 * region} 0"
+    for number in range(size):
+        chunk = 8 * (number % 16)
+        x, y = 16 * chunk + number % 16, number // 16 % 256
+        yield f"post {chunk} 0 {1 + number % 100} set {x} {y} {number % 7} {1 + number % 65_535}"
+    yield from run(100)
+
+
+def merges(size):
+    """SIZE times, 32 regions with 100 blocks each become 16 by a chunk between each two, and 32 again when it goes."""
+    pairs = [32 * pair for pair in range(16)]
+    yield from grid(0, 1, 1, 2, 1, 6)
+    for left in pairs:
+        for chunk in (left, left + 6):
+            for number in range(100):
+                yield f"block {16 * chunk + number % 16} {number // 16} 0 {number + 1}"
+    yield from script()
+    for left in pairs:
+        yield f"load {left} 0"
+        yield f"load {left + 6} 0"
+    for _ in range(size):
+        for left in pairs:
+            yield f"load {left + 3} 0"
+        yield from run(1)
+        for left in pairs:
+            yield f"unload {left + 3} 0"
+        yield from run(1)
+
+
+def large(size):
+    """One region of SIZE sections, 50 wide, looks for parts at the end of each of 20 ticks, before each of which a chunk comes or goes."""
+    yield from grid(0, 1, 1, 1, 0, 1)
+    yield from script()
+    yield from square(0, 0, 48, size // 50 - 2)
+    for _ in range(10):
+        yield "load 48 0"
+        yield from run(1)
+        yield "unload 48 0"
+        yield from run(1)
+
+
+def table(size):
+    """SIZE times, 1,024 regions of 16 sections fill the table of 16,384 sections, and all go in one tick."""
+    corners = [(8 * (region % 32), 8 * (region // 32)) for region in range(SECTION_LIMIT // 16)]
+    chunks = [(x + dx, z + dz) for x, z in corners for dz in (0, 1) for dx in (0, 1)]
+    yield from grid(0, 1, 1, 2, 1, 6)
+    yield from script()
+    for _ in range(size):
+        for x, z in chunks:
+            yield f"load {x} {z}"
+        for x, z in chunks:
+            yield f"unload {x} {z}"
+        yield from run(1)
+
+
+# Each workload with its least size.
+WORKLOADS = {
+    "idle": (idle, 450),
+    "entities": (entities, 10_000),
+    "posts": (posts, 60_000),
+    "merges": (merges, 100),
+    "large": (large, 2_500),
+    "table": (table, 4),
+}
+
+
+def grid(*numbers):
+    """The two first lines of a world."""
+    yield "world 1"
+    yield "grid " + " ".join(str(number) for number in numbers)
+
+
+def script():
+    """Marks where the script begins."""
+    yield None
+
+
+def square(left, top, width, height):
+    """Loads a rectangle of chunks, row by row."""
+    for z in range(top, top + height):
+        for x in range(left, left + width):
+            yield f"load {x} {z}"
+
+
+def run(ticks):
+    """A phase."""
+    yield f"run {ticks}"
+    yield "end"
+
+
+def texts(lines):
+    """The world text and the script text of these lines."""
+    parts = [[], []]
+    place = 0
+    for line in lines:
+        if line is None:
+            place += 1
+        else:
+            parts[place].append(line)
+    return ["".join(line + "\n" for line in part) for part in parts]
+
+
+def check(name, size, world, commands):
+    """Stops where a text is past the limits of the program."""
+    ticks = sum(int(line[4:]) for line in commands.splitlines() if line.startswith("run "))
+    for what, number, limit in (
+        ("bytes of the world", len(world), FILE_LIMIT),
+        ("bytes of the script", len(commands), FILE_LIMIT),
+        ("ticks", ticks, TICK_LIMIT),
+    ):
+        if number > limit:
+            sys.exit(f"{name} {size}: {number} {what} are more than {limit}")
+
+
+def write(folder, name, size):
+    """Writes a workload."""
+    make, _ = WORKLOADS[name]
+    world, commands = texts(make(size))
+    check(name, size, world, commands)
+    place = Path(folder) / name
+    place.mkdir(parents=True, exist_ok=True)
+    (place / "world.txt").write_text(world)
+    (place / "script.txt").write_text(commands)
+
+
+def main(words):
+    if not 1 <= len(words) <= 3 or (len(words) > 1 and words[1] not in WORKLOADS):
+        sys.exit(__doc__ + "\nWorkloads: " + ", ".join(WORKLOADS))
+    if len(words) == 1:
+        for name, (_, size) in WORKLOADS.items():
+            write(words[0], name, size)
+    else:
+        size = int(words[2]) if len(words) == 3 else WORKLOADS[words[1]][1]
+        write(words[0], words[1], size)
+
+
+if __name__ == "__main__":
+    main(sys.argv[1:])
