@@ -1,5 +1,5 @@
 -- Lists by number.
-use Rattle.std.specs.Prelude.{ℕ, List, [], length, sum_by, slice_index_or, slice_set}
+use Rattle.std.specs.Prelude.{ℕ, ◌-◌, List, [], ◌++◌, length, replicate, sum_by, slice_index_or, slice_set}
 
 -- a list for each number from 0 on, and how many elements they may hold together
 pub record Numbered (T : Type 0) : Type 0 where
@@ -17,3 +17,7 @@ total v = sum_by length v.lists
 -- one list is another one now, and all else stays
 abbrev pub with_list : {T : Type 0} → Numbered T → ℕ → List T → Numbered T
 with_list v n xs = record v { lists = slice_set v.lists n xs }
+
+-- the same lists, and empty ones up to so many numbers
+abbrev pub with_numbers : {T : Type 0} → Numbered T → ℕ → Numbered T
+with_numbers v n = record v { lists = v.lists ++ replicate (n - length v.lists) [] }

@@ -1,7 +1,7 @@
 //! Lists by number.
 
 ghost use Rattle.std.specs.Prelude.{◌≡◌, ◌≢◌, ◌+◌, ◌<◌, ◌≤◌, ◌^◌, IfOk, OnOk, OnErr, [], ◌++◌, length, replicate, slice_set};
-ghost use Rattle.fol_lists.specs.Numbered.{Numbered, list_at, total, with_list};
+ghost use Rattle.fol_lists.specs.Numbered.{Numbered, list_at, total, with_list, with_numbers};
 
 use crate::cells::{grow, join};
 use crate::spans::Span;
@@ -151,13 +151,15 @@ impl<T: Copy> Lists<T> {
         Ok(())
     }
 
-    /// Adds empty lists, as many as are wanted. Nothing changes where memory is short.
-    pub fn add_numbers(&mut self, more: usize) -> Result<(), AllocError>
-        requires { length self.old.lists + more < 2 ^ 62 }
-        ensures ok { OnOk result (self.new ≡ record self.old { lists = self.old.lists ++ replicate more [] }) }
+    /// Adds empty lists until there are `numbers`, if there are fewer. Nothing changes where memory is short.
+    pub fn reserve_numbers(&mut self, numbers: usize) -> Result<(), AllocError>
+        ensures ok { OnOk result (self.new ≡ with_numbers self.old numbers) }
         ensures err { OnErr result (self.new ≡ self.old) }
     {
-        self.spans.resize(self.spans.len() + more, Span::EMPTY)?;
+        if numbers <= self.spans.len() {
+            return Ok(());
+        }
+        self.spans.resize(numbers, Span::EMPTY)?;
         Ok(())
     }
 

@@ -16,7 +16,7 @@ fn lists_grow_and_join(rt: HostRuntime) -> Result<(), Fail> {
     assert_eq!(rt; lists.get(0), [4, 3, 5, 6].as_slice());
     lists.swap(0, 1);
     lists.clear(0);
-    lists.add_numbers(1)?;
+    lists.reserve_numbers(3)?;
     lists.reserve_room(5)?;
     assert!(rt; lists.numbers() == 3 && lists.room() >= 5);
     lists.put(2, &[7]);

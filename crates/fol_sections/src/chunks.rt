@@ -47,12 +47,12 @@ fn list_row(holds: &Numbers, out: &mut Vec<ChunkPos>, first: ChunkPos, row: u32,
     requires few { (row ≤ 32) × (n ≤ 32) }
     requires room { length out.old.items + count_by (is_held holds.now.entries) (row_of chunk_at first.x (first.z +ℤ pos row) n) ≤ vec_capacity out.old }
     ensures listed { out.new.items ≡ out.old.items ++ filter (is_held holds.now.entries) (row_of chunk_at first.x (first.z +ℤ pos row) n) }
-    ensures room { vec_capacity out.old ≤ vec_capacity out.new }
+    ensures capacity { vec_capacity out.new ≡ vec_capacity out.old }
 {
     for i in 0..n {
         let c = beside(first, i, row);
         if is_loaded(holds, c) {
-            let _ = out.push(c);
+            out.push_reserved(c);
         }
     }
 }
@@ -63,7 +63,7 @@ fn list_square(holds: &Numbers, out: &mut Vec<ChunkPos>, first: ChunkPos, side: 
     requires few { side ≤ 32 }
     requires room { length out.old.items + count_by (is_held holds.now.entries) (rows_of chunk_at first.x first.z side side) ≤ vec_capacity out.old }
     ensures listed { out.new.items ≡ out.old.items ++ filter (is_held holds.now.entries) (rows_of chunk_at first.x first.z side side) }
-    ensures room { vec_capacity out.old ≤ vec_capacity out.new }
+    ensures capacity { vec_capacity out.new ≡ vec_capacity out.old }
 {
     for row in 0..side {
         list_row(holds, out, first, row, side);
@@ -92,7 +92,7 @@ pub fn list_section(holds: &Numbers, out: &mut Vec<ChunkPos>, grid: &Grid, s: Se
     requires near { (nat_abs s.x ≤ 1000008) × (nat_abs s.z ≤ 1000008) }
     requires room { length out.old.items + count_by (is_held holds.now.entries) (rows_of chunk_at (s.x *ℤ pos (2 ^ grid.now.shift)) (s.z *ℤ pos (2 ^ grid.now.shift)) (2 ^ grid.now.shift) (2 ^ grid.now.shift)) ≤ vec_capacity out.old }
     ensures listed { out.new.items ≡ out.old.items ++ filter (is_held holds.now.entries) (rows_of chunk_at (s.x *ℤ pos (2 ^ grid.now.shift)) (s.z *ℤ pos (2 ^ grid.now.shift)) (2 ^ grid.now.shift) (2 ^ grid.now.shift)) }
-    ensures room { vec_capacity out.old ≤ vec_capacity out.new }
+    ensures capacity { vec_capacity out.new ≡ vec_capacity out.old }
 {
     let shift = shift_of(grid);
     list_square(holds, out, first_chunk(s, shift), side_of(shift));

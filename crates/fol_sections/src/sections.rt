@@ -136,9 +136,10 @@ impl Sections {
         near(&self.pages, s) == 0
     }
 
-    /// How many loaded chunks a section has; 0 for one that is not present.
+    /// How many loaded chunks a section has, at most 1,024; 0 for one that is not present.
     pub fn loaded_in(&self, s: SectionPos) -> u64
-        ensures { result ≡ loaded_count self.now s }
+        ensures value { result ≡ loaded_count self.now s }
+        ensures few { result ≤ 1024 }
     {
         loaded(&self.pages, s)
     }
@@ -147,7 +148,7 @@ impl Sections {
     pub fn chunks_in(&self, s: SectionPos, out: &mut Vec<ChunkPos>)
         requires room { length out.old.items + loaded_count self.now s ≤ vec_capacity out.old }
         ensures chunks { out.new.items ≡ out.old.items ++ filter (is_loaded_chunk_of self.now s) all_chunks }
-        ensures room { vec_capacity out.old ≤ vec_capacity out.new }
+        ensures capacity { vec_capacity out.new ≡ vec_capacity out.old }
     {
         if loaded(&self.pages, s) > 0 {
             list_section(&self.holds, out, &self.grid, s);

@@ -1,4 +1,4 @@
-use Rattle.std.proofs.Common.{◌≡◌, ◌≤◌, ◌++◌}
+use Rattle.std.proofs.Common.{◌≡◌, ◌++◌}
 use Rattle.std.specs.Prelude.{pos, ◌+ℤ◌}
 use Rattle.std.specs.List.{filter}
 use Rattle.std.specs.Vec.{vec_capacity}
@@ -9,5 +9,5 @@ use Rattle.fol_sections.proofs.chunks.list_row.Given as goal
 abbrev pub invariant-loop-i : goal.invariant-loop-i
 invariant-loop-i l = record {
   listed : l.out.items ≡ l.initial.out.items ++ filter (is_held l.holds.entries) (row_of chunk_at l.first.x (l.first.z +ℤ pos l.row) l.i);
-  room : vec_capacity l.initial.out ≤ vec_capacity l.out;
+  capacity : vec_capacity l.out ≡ vec_capacity l.initial.out;
 }

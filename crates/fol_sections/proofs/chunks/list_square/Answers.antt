@@ -1,4 +1,4 @@
-use Rattle.std.proofs.Common.{◌+◌, sym, ◌∙◌, ap, arith, ◌++◌, append_assoc, length, length-append}
+use Rattle.std.proofs.Common.{◌+◌, refl, sym, ◌∙◌, ap, arith, ◌++◌, append_assoc, length, length-append}
 use Rattle.std.specs.Prelude.{ℤ, pos, ◌+ℤ◌}
 use Rattle.std.specs.List.{count_by, filter}
 use Rattle.std.proofs.lemmas.List.Elements.{filter-append}
@@ -12,7 +12,7 @@ use Rattle.fol_sections.proofs.chunks.list_square.Goals as goal
 pub loop-row-init : goal.loop-row-init
 loop-row-init c = record {
   listed = sym (ap (λ xs. c.args.out.now.items ++ filter (is_held c.args.holds.now.entries) xs) (rows-none chunk_at c.args.first.x c.args.first.z c.args.side) ∙ append-none c.args.out.now.items);
-  room = omega arith;
+  capacity = refl;
 }
 
 pub list_row-requires-clause-room : goal.list_row-requires-clause-room
@@ -27,7 +27,7 @@ list_row-requires-clause-room c =
       ap length c.loop-row.invariant.listed,
       length-append c.args.out.now.items (filter test (rows_of chunk_at x z row n)),
       length-filter test (rows_of chunk_at x z row n),
-      c.loop-row.invariant.room,
+      c.loop-row.invariant.capacity,
       c.requires.room,
       rows_part chunk_at test x z (row + 1) n n (omega arith),
       ap (count_by test) (rows-more chunk_at x z row n),
@@ -45,5 +45,5 @@ loop-row-preserved c =
       listed = c.list_row.ensures.listed ∙ ap (λ xs. xs ++ filter test (row_of chunk_at x (z +ℤ pos row) n)) c.loop-row.invariant.listed
           ∙ append_assoc c.args.out.now.items (filter test (rows_of chunk_at x z row n)) (filter test (row_of chunk_at x (z +ℤ pos row) n))
           ∙ ap (λ xs. c.args.out.now.items ++ xs) (sym (ap (filter test) (rows-more chunk_at x z row n) ∙ filter-append test (rows_of chunk_at x z row n) (row_of chunk_at x (z +ℤ pos row) n)));
-      room = omega (arith, c.list_row.ensures.room, c.loop-row.invariant.room);
+      capacity = c.list_row.ensures.capacity ∙ c.loop-row.invariant.capacity;
     }
