@@ -1,23 +1,23 @@
 -- The steps of a hold more, region by region.
-use Rattle.std.proofs.Common.{◌≡◌, ◌⊎◌, ℕ, zero, suc, ◌+◌, ◌≤◌, ◌<◌, refl, sym, ◌∙◌, ap, arith, Bool, true, false, cond, not, ◌&&◌, ◌||◌, List, [], ◌∷◌, ◌++◌, length, take, get_or, inl, inr, append_assoc, length-append}
-use Rattle.std.specs.Prelude.{◌≢◌, filter, map, nat_eq, nat_lt, if◌then◌else◌}
+use Rattle.std.proofs.Common.{◌≡◌, ◌⊎◌, ℕ, zero, suc, ◌+◌, ◌≤◌, ◌<◌, refl, sym, ◌∙◌, ap, arith, Bool, true, false, cond, not, ◌&&◌, ◌||◌, List, [], ◌∷◌, ◌++◌, length, take, get_or, inl, inr, append_assoc}
+use Rattle.std.specs.Prelude.{◌≢◌, filter, nat_eq, nat_lt}
 use Rattle.std.specs.List.{list_any}
 use Rattle.std.specs.List.Sorted.{IsStrictlySortedBy}
 use Rattle.std.specs.Ordering.{nat_cmp, ordering_reverse}
 use Rattle.std.specs.declared.cmp.Ordering.{Ordering}
-use Rattle.std.specs.declared.cmp.Ordering.TheVariants.{Less, Equal}
+use Rattle.std.specs.declared.cmp.Ordering.TheVariants.{Less}
 use Rattle.std.proofs.Math.Path.{fun_ext}
-use Rattle.std.proofs.lemmas.Bool.{cases_Bool, cases_eq, true≢false, eq-eqb, eqb-true, ne_eqb, or_cases, or_left, or_right, or_parts, and_parts, ltb-true, ltb-false, eqb-false}
-use Rattle.std.proofs.lemmas.List.Folds.{list_any-append, list_any_more}
+use Rattle.std.proofs.lemmas.Bool.{cases_Bool, cases_eq, true≢false, eq-eqb, eqb-true, ne_eqb, or_cases, or_left, or_right, or_parts, and_parts, ltb-true, ltb-false}
+use Rattle.std.proofs.lemmas.List.Folds.{list_any_more}
 use Rattle.std.proofs.lemmas.Map.Keys.{Less-from_sorted}
 use Rattle.fol_lists.specs.Numbered.{total}
 use Rattle.fol_model.specs.declared.places.SectionPos.{SectionPos}
 use Rattle.fol_model.specs.declared.regions.State.{State}
 use Rattle.fol_model.specs.declared.regions.State.TheVariants.{Dead}
-use Rattle.fol_model.specs.GridState.{is_ticking, with_state}
+use Rattle.fol_model.specs.GridState.{is_ticking}
 use Rattle.fol_laws.proofs.NumberOrder.{numbers_tell}
 use Rattle.fol_regions.specs.Added.{Gathers, IsChoice, Waits, gathered, is_drawn, is_id}
-use Rattle.fol_regions.specs.Book.{Book, KeepsRoom, Merges, SetsPair, owner_of, state_of, waits_of, is_live, merged_waits, with_pair}
+use Rattle.fol_regions.specs.Book.{Book, Merges, SetsPair, owner_of, state_of, waits_of, is_live}
 use Rattle.fol_regions.specs.Changes.{Changes, into}
 use Rattle.std.proofs.lemmas.List.{map-append}
 use Rattle.fol_regions.proofs.HandSteps.{keeps_room-trans}

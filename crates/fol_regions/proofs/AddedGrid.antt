@@ -1,9 +1,9 @@
 -- What the tables are after a hold more that wants sections.
-use Rattle.std.proofs.Common.{◌≡◌, ◌⊎◌, ℕ, ◌+◌, ◌≤◌, ◌<◌, refl, sym, ◌∙◌, ap, arith, subst, Bool, true, false, cond, not, ◌&&◌, ◌||◌, List, [], ◌∷◌, length, inl, inr}
+use Rattle.std.proofs.Common.{◌≡◌, ℕ, ◌+◌, ◌≤◌, ◌<◌, refl, sym, ◌∙◌, ap, arith, Bool, true, false, cond, not, ◌&&◌, ◌||◌, List, [], ◌∷◌, length, inl, inr}
 use Rattle.std.specs.Prelude.{◌≢◌, filter, nat_eq, nat_lt, nat_le, nat_abs}
-use Rattle.std.specs.List.{list_any, count_by}
+use Rattle.std.specs.List.{list_any}
 use Rattle.std.proofs.Math.Path.{fun_ext}
-use Rattle.std.proofs.lemmas.Bool.{cases_Bool, cases_eq, true≢false, eq-eqb, eqb-true, ne_eqb, or_cases, or_left, or_right, and_parts, and_from, leb-true, le-leb, lt-ltb, ltb-true, ltb-false}
+use Rattle.std.proofs.lemmas.Bool.{cases_Bool, cases_eq, true≢false, eq-eqb, eqb-true, ne_eqb, or_cases, or_left, or_right, and_parts, and_from, leb-true, lt-ltb, ltb-false}
 use Rattle.std.proofs.lemmas.List.Sums.{length-filter}
 use Rattle.fol_model.specs.declared.places.ChunkPos.{ChunkPos}
 use Rattle.fol_model.specs.declared.places.SectionPos.{SectionPos}
@@ -14,10 +14,9 @@ use Rattle.fol_model.specs.Add.{is_wanted, is_near, is_near_calm, is_near_tickin
 use Rattle.fol_model.specs.Counting.{some_below}
 use Rattle.fol_model.specs.Geometry.{is_chunk, is_section, is_within, section_of}
 use Rattle.fol_model.specs.GridNumbers.{IsGrid}
-use Rattle.fol_model.specs.GridState.{GridState, is_ticking, size}
+use Rattle.fol_model.specs.GridState.{is_ticking, size}
 use Rattle.fol_model.specs.Rules.{Rules}
 use Rattle.fol_model.specs.Universe.{all_sections, numbers_below}
-use Rattle.fol_laws.specs.Target.{IsLargest}
 use Rattle.fol_laws.proofs.AddTarget.{calm_below, near_has, near_lives}
 use Rattle.fol_laws.proofs.AddEffect.{target_awaits}
 use Rattle.fol_laws.proofs.RegionLaws.{add_targets_the_largest}
@@ -28,7 +27,7 @@ use Rattle.fol_laws.proofs.Tests.{same_answer}
 use Rattle.fol_laws.proofs.AllSections.{some_section-gives}
 use Rattle.fol_regions.specs.Added.{Grows, IsChoice, Waits, bare, calm_size, extended_change, is_calm, is_drawn, is_id}
 use Rattle.fol_regions.specs.Book.{Book, IsBook, SetsState, owner_of, state_of, waits_of, is_live, rows_of, ahead_of}
-use Rattle.fol_regions.specs.Changes.{Changes, drawn_in, into}
+use Rattle.fol_regions.specs.Changes.{drawn_in, into}
 use Rattle.fol_regions.specs.Near.{is_close}
 use Rattle.fol_regions.specs.Rows.{is_among}
 use Rattle.fol_regions.proofs.BookFacts.{owner_live}

@@ -1,8 +1,7 @@
 -- Which sections are among a list.
 use Rattle.std.proofs.Common.{◌≡◌, ℕ, zero, suc, ◌+◌, ◌<◌, refl, sym, ◌∙◌, ap, arith, Bool, true, false, cond, ◌||◌, List, [], ◌∷◌, length, get_or, take}
 use Rattle.std.specs.Cmp.{both_ways}
-use Rattle.std.proofs.lemmas.Bool.{cases_Bool, or_left, or_right}
-use Rattle.std.proofs.Common.{inl, inr}
+use Rattle.std.proofs.lemmas.Bool.{or_left, or_right}
 use Rattle.std.proofs.lemmas.List.Folds.{list_any_more}
 use Rattle.fol_model.specs.declared.places.SectionPos.{SectionPos}
 use Rattle.fol_model.specs.Geometry.{same_section}

@@ -1,11 +1,13 @@
 -- What follows from the lists of the tables.
-use Rattle.std.proofs.Common.{◌≡◌, ℕ, zero, suc, ◌+◌, ◌≤◌, ◌<◌, refl, sym, ◌∙◌, ap, arith, Bool, true, false, cond, not, ◌&&◌, ◌||◌, List, [], ◌∷◌, length, inl, inr}
-use Rattle.std.specs.Prelude.{◌≢◌, filter, nat_eq, nat_lt}
+use Rattle.std.proofs.Common.{◌≡◌, ℕ, ◌≤◌, ◌<◌, refl, sym, ◌∙◌, ap, arith, true, false, ◌&&◌, List, [], length, inl, inr}
+use Rattle.std.specs.Prelude.{◌≢◌, nat_eq, nat_lt}
 use Rattle.std.specs.List.{list_any}
-use Rattle.std.proofs.lemmas.Bool.{cases_Bool, cases_eq, cases_lt, and_parts, true≢false, eq-eqb, eqb-true, ltb-true, lt-ltb}
+use Rattle.std.proofs.lemmas.Bool.{cases_Bool, cases_lt, and_parts, true≢false, eq-eqb, eqb-true, ltb-true, lt-ltb}
 use Rattle.std.proofs.lemmas.List.{get_or_past, get_or-set_same, get_or-set_other}
 use Rattle.fol_lists.specs.Numbered.{Numbered, list_at, with_list}
-use Rattle.fol_model.specs.Universe.{numbers_below}
+use Rattle.fol_model.specs.Universe.{all_sections, count_sections}
+use Rattle.std.proofs.lemmas.List.Sums.{length-filter}
+use Rattle.fol_laws.proofs.ListCounts.{count_by-mono}
 use Rattle.fol_regions.specs.Slots.{SlotTable, slot_of}
 use Rattle.fol_regions.specs.Book.{Book, IsBook, is_live, owner_of, rows_of, ahead_of, behind_of, waits_of}
 use Rattle.fol_regions.proofs.SlotSteps.{slot-le, slot_tells}
@@ -82,3 +84,14 @@ owner_live b is s p = elim (cases_Bool (is_live b (owner_of b s))) [
       let has = chosen (λ q. nat_eq (owner_of b q) (owner_of b s)) (λ q h. is.limits q (omega (arith, eqb-true (owner_of b q) (owner_of b s) h))) s in
       absurd (true≢false (sym (has ∙ eq-eqb (owner_of b s) (owner_of b s) refl) ∙ ap (λ xs. is_among xs s) (sym (is.rows (owner_of b s) p)) ∙ ap (λ xs. is_among xs s) none))
 ]
+
+-- a region has no more sections than are present
+pub row_most : (b : Book) (r : ℕ) → IsBook b → 0 < r → count_sections (λ s. nat_lt 0 (owner_of b s)) ≤ 16384 → length (rows_of b r) ≤ 16384
+row_most b r h pos few =
+    omega (
+      arith,
+      ap length (h.rows r pos),
+      length-filter (λ s. nat_eq (owner_of b s) r) all_sections,
+      count_by-mono (λ s. nat_eq (owner_of b s) r) (λ s. nat_lt 0 (owner_of b s)) (λ s e. let o : owner_of b s ≡ r = eqb-true _ _ e in let q = pos in lt-ltb 0 _ (omega arith)) all_sections,
+      few,
+    )

@@ -1,5 +1,5 @@
 -- What a test keeps of all sections, and of the numbers below a number.
-use Rattle.std.proofs.Common.{zero, suc, ◌≡◌, ℕ, ◌+◌, ◌≤◌, ◌<◌, refl, sym, ◌∙◌, ap, arith, subst, Bool, true, false, cond, not, ◌&&◌, ◌||◌, List, [], ◌∷◌, ◌++◌, length, inl, inr}
+use Rattle.std.proofs.Common.{zero, suc, ◌≡◌, ℕ, ◌+◌, ◌≤◌, ◌<◌, refl, sym, ◌∙◌, ap, arith, Bool, true, false, cond, not, ◌&&◌, ◌||◌, List, [], ◌∷◌, inl, inr}
 use Rattle.std.specs.Prelude.{filter, nat_eq, nat_lt}
 use Rattle.std.specs.List.{AllByRecursion, list_any, count_by}
 use Rattle.std.specs.List.Sorted.{IsStrictlySortedBy}
@@ -7,7 +7,7 @@ use Rattle.std.specs.Ordering.{nat_cmp}
 use Rattle.std.specs.Cmp.{nat_cmp_is}
 use Rattle.std.specs.declared.cmp.Ordering.TheVariants.{Less}
 use Rattle.std.proofs.Math.Path.{fun_ext}
-use Rattle.std.proofs.lemmas.Bool.{cases_Bool, cases_eq, and_parts, and_from, or_cases, true≢false, eq-eqb, eqb-true, ne_eqb, lt-ltb, ltb-true, le-ltb, leb-true, ltb-false}
+use Rattle.std.proofs.lemmas.Bool.{cases_Bool, cases_eq, and_parts, or_cases, true≢false, eq-eqb, eqb-true, ne_eqb, lt-ltb, ltb-true, le-ltb, ltb-false}
 use Rattle.std.proofs.lemmas.List.Folds.{list_any-append}
 use Rattle.std.proofs.lemmas.List.Kept.{IsStrictlySortedBy-filter}
 use Rattle.fol_model.specs.declared.places.SectionPos.{SectionPos}
@@ -15,7 +15,7 @@ use Rattle.fol_model.specs.Geometry.{is_section, same_section}
 use Rattle.fol_model.specs.Universe.{all_sections, numbers_below, section_cmp}
 use Rattle.fol_laws.proofs.ListCounts.{count_by-cons}
 use Rattle.fol_laws.proofs.NumberOrder.{numbers_tell, numbers_sorted, number_rows_are, in_numbers}
-use Rattle.fol_laws.proofs.SectionOrder.{sections_sorted, section_members, sections_listed}
+use Rattle.fol_laws.proofs.SectionOrder.{sections_sorted, section_members}
 use Rattle.fol_laws.proofs.AllSections.{some_section-is, some_section-gives}
 use Rattle.fol_laws.proofs.SamePlaces.{same_section-true, same_section-self}
 use Rattle.fol_laws.proofs.SortedRows.{AllBefore, sorted_append}

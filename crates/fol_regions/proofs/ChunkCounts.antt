@@ -1,13 +1,14 @@
--- The loaded chunks of a region, counted section by section.
-use Rattle.std.proofs.Common.{◌≡◌, ℕ, zero, suc, ◌+◌, ◌≤◌, ◌<◌, refl, sym, ◌∙◌, ap, arith, Bool, true, false, cond, inl, inr, ◌&&◌, ◌||◌, List, [], ◌∷◌, length, get_or, take}
-use Rattle.std.specs.Prelude.{◌≢◌, nat_eq, nat_lt, count_by}
-use Rattle.std.specs.List.{list_any}
-use Rattle.std.specs.List.Sorted.{IsStrictlySortedBy}
+-- The loaded chunks of a region, counted and listed section by section.
+use Rattle.std.proofs.Common.{◌≡◌, ℕ, zero, suc, ◌+◌, ◌≤◌, ◌<◌, refl, sym, ◌∙◌, ap, arith, Bool, true, false, cond, inl, inr, ◌&&◌, ◌||◌, List, [], ◌∷◌, ◌++◌, length, get_or, take, subst}
+use Rattle.std.specs.Prelude.{nat_eq, nat_lt, count_by, filter}
+use Rattle.std.specs.List.Sorted.{IsPermutation, IsSortedBy, IsStrictlySortedBy}
+use Rattle.std.specs.Ordering.{is_lt}
 use Rattle.std.specs.declared.cmp.Ordering.TheVariants.{Less}
-use Rattle.std.proofs.lemmas.Bool.{cases_Bool, true≢false}
+use Rattle.std.proofs.lemmas.Bool.{cases_Bool, true≢false, and_parts, and_from, or_cases, or_left, or_right}
 use Rattle.std.proofs.lemmas.List.{take_all}
 use Rattle.std.proofs.lemmas.List.Kept.{IsStrictlySortedBy-filter}
-use Rattle.std.proofs.lemmas.List.Sums.{count_by-le-length}
+use Rattle.std.proofs.lemmas.List.Sorted.{IsPermutation-append_left, IsPermutation-sym, IsPermutation-trans, length_permutation}
+use Rattle.std.proofs.lemmas.List.Sums.{length-filter}
 use Rattle.std.proofs.lemmas.Map.Keys.{Less-from_sorted}
 use Rattle.std.proofs.Math.Path.{fun_ext}
 use Rattle.fol_model.specs.declared.places.ChunkPos.{ChunkPos}
@@ -15,16 +16,20 @@ use Rattle.fol_model.specs.declared.places.SectionPos.{SectionPos}
 use Rattle.fol_model.specs.Geometry.{same_section, section_of}
 use Rattle.fol_model.specs.Outputs.{is_chunk_of, chunk_count}
 use Rattle.fol_model.specs.Universe.{all_chunks, all_sections, section_cmp}
+use Rattle.fol_laws.specs.ChunkOrder.{chunk_cmp}
+use Rattle.fol_laws.proofs.ChunkOrder.{chunks_tell, chunks_sorted}
+use Rattle.fol_laws.proofs.ListCounts.{count_by-mono}
 use Rattle.fol_laws.proofs.SamePlaces.{same_section-true}
 use Rattle.fol_laws.proofs.SectionOrder.{sections_sorted}
 use Rattle.fol_sections.specs.Table.{holds_of, is_loaded_chunk_of, loaded_count}
 use Rattle.fol_sections.specs.Table as sections
-use Rattle.fol_regions.proofs.AllChunks.{chunks_in_all}
 use Rattle.fol_split.proofs.Places.{same_section-swap}
 use Rattle.fol_regions.specs.Book.{Book, IsBook, owner_of, rows_of}
 use Rattle.fol_regions.specs.Released.{grid_of}
 use Rattle.fol_regions.specs.Rows.{is_among}
 use Rattle.fol_regions.proofs.Among.{among_more}
+use Rattle.fol_regions.proofs.Chosen.{filter_like, none_kept}
+use Rattle.fol_regions.proofs.InOrder.{filter_either, sorted_is}
 use Rattle.fol_regions.proofs.PartNumbers.{not_both}
 use Rattle.fol_regions.proofs.PartedBooks.{row_members}
 use Rattle.fol_regions.proofs.PartingSteps.{count_parts}
@@ -53,13 +58,11 @@ fresh_section xs h i d l = go i (omega arith)
         ] in
         ap (λ m. is_among (take m xs) b) (suc_one j) ∙ among_more xs j d b (omega (arith, k, l)) ∙ (λ m. before m || n m)
 
-pub count_few : (p : ChunkPos → Bool) → count_by p all_chunks ≤ 4000004000001
-count_few p = omega (arith, count_by-le-length p all_chunks, chunks_in_all)
-
-pub counted_more : (s : sections.Table) (xs : List SectionPos) (i : ℕ) (d : SectionPos) → i < length xs → is_among (take i xs) (get_or xs i d) ≡ false
-    → count_by (is_loaded_among s (take (i + 1) xs)) all_chunks ≡ count_by (is_loaded_among s (take i xs)) all_chunks + loaded_count s (get_or xs i d)
-unfolding loaded_count is_loaded_chunk_of
-counted_more s xs i d l fresh = count_parts (is_loaded_among s (take (i + 1) xs)) (is_loaded_among s (take i xs)) (is_loaded_chunk_of s (get_or xs i d)) (λ c.
+-- one more section's chunks come, and no chunk twice
+loaded_more : (s : sections.Table) (xs : List SectionPos) (i : ℕ) (d : SectionPos) → i < length xs → is_among (take i xs) (get_or xs i d) ≡ false
+    → (c : ChunkPos) → cond (is_loaded_among s (take (i + 1) xs) c) 1 0 ≡ cond (is_loaded_among s (take i xs) c) 1 0 + cond (is_loaded_chunk_of s (get_or xs i d) c) 1 0
+unfolding is_loaded_chunk_of
+loaded_more s xs i d l fresh c =
     let q : SectionPos = section_of s.grid c in
     let m = among_more xs i d q l in
     elim (cases_Bool (nat_lt 0 (holds_of s c))) [
@@ -76,7 +79,53 @@ counted_more s xs i d l fresh = count_parts (is_loaded_among s (take (i + 1) xs)
             rw (h, n, e) (omega arith)
       ]
       | inr h ↦ rw h refl
-    ]) all_chunks
+    ]
+
+pub counted_more : (s : sections.Table) (xs : List SectionPos) (i : ℕ) (d : SectionPos) → i < length xs → is_among (take i xs) (get_or xs i d) ≡ false
+    → count_by (is_loaded_among s (take (i + 1) xs)) all_chunks ≡ count_by (is_loaded_among s (take i xs)) all_chunks + loaded_count s (get_or xs i d)
+unfolding loaded_count
+counted_more s xs i d l fresh = count_parts (is_loaded_among s (take (i + 1) xs)) (is_loaded_among s (take i xs)) (is_loaded_chunk_of s (get_or xs i d)) (loaded_more s xs i d l fresh) all_chunks
+
+-- what was listed, and then one more section's chunks
+pub listed_more : (s : sections.Table) (xs : List SectionPos) (i : ℕ) (d : SectionPos) (out : List ChunkPos) → i < length xs → is_among (take i xs) (get_or xs i d) ≡ false
+    → IsPermutation out (filter (is_loaded_among s (take i xs)) all_chunks) → IsPermutation (out ++ filter (is_loaded_chunk_of s (get_or xs i d)) all_chunks) (filter (is_loaded_among s (take (i + 1) xs)) all_chunks)
+listed_more s xs i d out l fresh h =
+    let more = filter (is_loaded_chunk_of s (get_or xs i d)) all_chunks in
+    let before = filter (is_loaded_among s (take i xs)) all_chunks in
+    IsPermutation-trans (out ++ more) (before ++ more) (filter (is_loaded_among s (take (i + 1) xs)) all_chunks) (IsPermutation-append_left more out before h)
+    (filter_either (is_loaded_among s (take (i + 1) xs)) (is_loaded_among s (take i xs)) (is_loaded_chunk_of s (get_or xs i d)) (loaded_more s xs i d l fresh) all_chunks)
+
+among_taken : (xs : List SectionPos) (i : ℕ) (q : SectionPos) → is_among (take i xs) q ≡ true → is_among xs q ≡ true
+among_taken xs zero q h = absurd (true≢false (sym h))
+among_taken [] (suc i) q h = h
+among_taken (x ∷ xs) (suc i) q h = elim (or_cases (same_section q x) (is_among (take i xs) q) h) [
+  | inl e ↦ or_left _ _ e
+  | inr e ↦ or_right _ _ (among_taken xs i q e)
+]
+
+-- there is room for one more section's chunks
+pub listed_fits : (s : sections.Table) (xs : List SectionPos) (i : ℕ) (d : SectionPos) (out : List ChunkPos) → i < length xs → is_among (take i xs) (get_or xs i d) ≡ false
+    → IsPermutation out (filter (is_loaded_among s (take i xs)) all_chunks) → length out + loaded_count s (get_or xs i d) ≤ count_by (is_loaded_among s xs) all_chunks
+listed_fits s xs i d out l fresh h =
+    omega (
+      arith,
+      length_permutation out (filter (is_loaded_among s (take i xs)) all_chunks) h,
+      length-filter (is_loaded_among s (take i xs)) all_chunks,
+      counted_more s xs i d l fresh,
+      count_by-mono (is_loaded_among s (take (i + 1) xs)) (is_loaded_among s xs) (λ c e. let a = and_parts (nat_lt 0 (holds_of s c)) (is_among (take (i + 1) xs) (section_of s.grid c)) e in and_from _ _ a.0 (among_taken xs (i + 1) (section_of s.grid c) a.1)) all_chunks,
+    )
+
+-- nothing is listed yet
+pub listed_none : (s : sections.Table) (xs : List SectionPos) → filter (is_loaded_among s (take 0 xs)) all_chunks ≡ []
+listed_none s xs = none_kept (is_loaded_among s (take 0 xs)) (λ c. elim (cases_Bool (nat_lt 0 (holds_of s c))) [ inl e ↦ rw e refl | inr e ↦ rw e refl ]) all_chunks
+
+-- what was listed, after a sort
+pub listed_all : (s : sections.Table) (xs : List SectionPos) (i : ℕ) (out sorted : List ChunkPos) → length xs ≤ i → IsPermutation out (filter (is_loaded_among s (take i xs)) all_chunks)
+    → IsPermutation out sorted → IsSortedBy (λ a b. is_lt (chunk_cmp a b)) sorted → sorted ≡ filter (is_loaded_among s xs) all_chunks
+listed_all s xs i out sorted l h moved up =
+    let whole : IsPermutation out (filter (is_loaded_among s xs) all_chunks) = let e = take_all i xs l in subst (λ (ys : List SectionPos). IsPermutation out (filter (is_loaded_among s ys) all_chunks)) e h in
+    sorted_is chunk_cmp chunks_tell sorted (filter (is_loaded_among s xs) all_chunks) up (IsStrictlySortedBy-filter chunk_cmp (is_loaded_among s xs) all_chunks chunks_sorted)
+    (IsPermutation-trans sorted out (filter (is_loaded_among s xs) all_chunks) (IsPermutation-sym out sorted moved) whole)
 
 pub counted_all : (s : sections.Table) (b : Book) (r i : ℕ) → IsBook b → 0 < r → length (rows_of b r) ≤ i → count_by (is_loaded_among s (take i (rows_of b r))) all_chunks ≡ chunk_count (grid_of s b) r
 unfolding grid_of
@@ -94,9 +143,9 @@ counted_none s xs = none_at all_chunks
 pub row_rising : (b : Book) (r : ℕ) → IsBook b → 0 < r → IsStrictlySortedBy section_cmp (rows_of b r)
 row_rising b r h pos = rw (h.rows r pos) (IsStrictlySortedBy-filter section_cmp (λ s. nat_eq (owner_of b s) r) all_sections sections_sorted)
 
-pub loaded_few : (s : sections.Table) (q : SectionPos) → loaded_count s q ≤ 4000004000001
-unfolding loaded_count
-loaded_few s q = count_few (is_loaded_chunk_of s q)
-
 pub counted_rows : (s : sections.Table) (b : Book) (r : ℕ) → IsBook b → 0 < r → count_by (is_loaded_among s (rows_of b r)) all_chunks ≡ chunk_count (grid_of s b) r
 counted_rows s b r h pos = ap (λ xs. count_by (is_loaded_among s xs) all_chunks) (sym (take_all (length (rows_of b r)) (rows_of b r) (omega arith))) ∙ counted_all s b r (length (rows_of b r)) h pos (omega arith)
+
+pub listed_rows : (s : sections.Table) (b : Book) (r : ℕ) → IsBook b → 0 < r → filter (is_loaded_among s (rows_of b r)) all_chunks ≡ filter (is_chunk_of (grid_of s b) r) all_chunks
+unfolding grid_of
+listed_rows s b r h pos = filter_like (is_loaded_among s (rows_of b r)) (is_chunk_of (grid_of s b) r) (λ c. ap (λ v. nat_lt 0 (holds_of s c) && v) (row_members b r pos h (section_of s.grid c))) all_chunks

@@ -1,16 +1,15 @@
 -- What the tables say after a released region was cleaned.
-use Rattle.std.proofs.Common.{◌≡◌, ℕ, zero, suc, ◌+◌, ◌≤◌, ◌<◌, refl, sym, ◌∙◌, ap, arith, Bool, true, false, inl, inr, not, ◌&&◌, List, [], ◌∷◌, length, get_or}
-use Rattle.std.specs.Prelude.{◌≢◌, nat_eq, nat_le, nat_lt, if◌then◌else◌, filter}
+use Rattle.std.proofs.Common.{◌≡◌, ℕ, zero, suc, ◌+◌, ◌≤◌, ◌<◌, refl, sym, ◌∙◌, ap, arith, true, false, inl, inr, ◌&&◌, List, [], ◌∷◌, length, get_or}
+use Rattle.std.specs.Prelude.{nat_eq, nat_le, nat_lt, if◌then◌else◌, filter}
 use Rattle.std.proofs.Math.Path.{fun_ext}
-use Rattle.std.proofs.lemmas.Bool.{cases_Bool, cases_eq, eq-eqb, ne_eqb, eqb-true, true≢false, and_parts, and_from, and_left, le-leb, lt-leb, ltb-true, ltb-false}
+use Rattle.std.proofs.lemmas.Bool.{cases_Bool, cases_eq, eq-eqb, ne_eqb, true≢false, and_parts, and_from, le-leb, lt-leb, ltb-true, ltb-false}
 use Rattle.std.proofs.lemmas.List.{get_or_past}
 use Rattle.fol_model.specs.declared.places.SectionPos.{SectionPos}
-use Rattle.fol_model.specs.declared.regions.State.{State}
 use Rattle.fol_model.specs.declared.regions.State.TheVariants.{Ready, Ticking, Dead}
-use Rattle.fol_model.specs.Geometry.{is_section, same_section}
+use Rattle.fol_model.specs.Geometry.{same_section}
 use Rattle.fol_model.specs.Universe.{all_sections}
-use Rattle.fol_model.specs.GridState.{GridState, in_margin, with_state}
-use Rattle.fol_model.specs.Release.{joined_owner, joined_waits, remains, parts, part_of, part_id, is_part_id, cleaned}
+use Rattle.fol_model.specs.GridState.{GridState, in_margin}
+use Rattle.fol_model.specs.Release.{joined_owner, joined_waits, remains, parts, part_of, cleaned}
 use Rattle.fol_model.specs.Rules.{Rules}
 use Rattle.fol_laws.proofs.AllSections.{some_section-is}
 use Rattle.fol_laws.proofs.SamePlaces.{same_section-self}
@@ -21,7 +20,7 @@ use Rattle.fol_split.specs.Parts.{ArePartsOf}
 use Rattle.fol_regions.specs.Book.{Book, owner_of, state_of, waits_of, SetsState}
 use Rattle.fol_regions.specs.Released.{Keeps, Ends, Splits, id_in}
 use Rattle.fol_regions.specs.Rows.{is_among}
-use Rattle.fol_regions.proofs.PartNumbers.{parts_found, part_found, found_by_number, found_stays}
+use Rattle.fol_regions.proofs.PartNumbers.{parts_found, part_found, found_by_number}
 
 -- the number by which a section is found, where it is in one part alone
 pub id_found : (found : List (List SectionPos)) (n i : ℕ) (s : SectionPos) → i < length found → is_among (get_or found i []) s ≡ true

@@ -1,6 +1,6 @@
 -- The sections of a hold more go to the target.
-use Rattle.std.proofs.Common.{◌≡◌, ◌⊎◌, ℕ, ◌+◌, ◌≤◌, ◌<◌, refl, sym, ◌∙◌, ap, arith, subst, Bool, true, false, cond, not, ◌&&◌, ◌||◌, List, [], ◌∷◌, length, inl, inr}
-use Rattle.std.specs.Prelude.{◌≢◌, nat_eq, nat_lt}
+use Rattle.std.proofs.Common.{◌≡◌, ℕ, ◌+◌, ◌≤◌, ◌<◌, refl, sym, ◌∙◌, ap, arith, Bool, true, false, cond, not, ◌&&◌, ◌||◌, List, [], ◌∷◌, length, inl, inr}
+use Rattle.std.specs.Prelude.{◌≢◌, nat_eq}
 use Rattle.std.specs.List.{list_any}
 use Rattle.std.proofs.Math.Path.{fun_ext}
 use Rattle.std.proofs.lemmas.Bool.{cases_Bool, cases_eq, true≢false, eq-eqb, eqb-true, ne_eqb, or_cases, or_left, or_right, and_parts, and_from}
@@ -8,12 +8,12 @@ use Rattle.fol_lists.specs.Numbered.{total}
 use Rattle.fol_model.specs.declared.places.SectionPos.{SectionPos}
 use Rattle.fol_model.specs.declared.regions.State.{State}
 use Rattle.fol_model.specs.declared.regions.State.TheVariants.{Ready, Dead}
-use Rattle.fol_model.specs.GridState.{is_ticking, with_state}
+use Rattle.fol_model.specs.GridState.{is_ticking}
 use Rattle.fol_laws.proofs.Tests.{same_answer}
 use Rattle.fol_regions.specs.Added.{Gathers, Grows, IsChoice, calm_size, is_calm, is_drawn, is_id}
 use Rattle.fol_regions.specs.Book.{Book, IsBook, Gives, Makes, owner_of, state_of, waits_of, is_live, rows_of}
 use Rattle.fol_regions.specs.Rows.{is_among}
-use Rattle.fol_regions.proofs.BookFacts.{live_next, waits_next, waiter_lives}
+use Rattle.fol_regions.proofs.BookFacts.{live_next, waiter_lives}
 
 and_false : (x : Bool) → (x && false) ≡ false
 and_false true = refl

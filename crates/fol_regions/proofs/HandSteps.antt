@@ -1,16 +1,15 @@
 -- A region waits in place of another one.
-use Rattle.std.proofs.Common.{◌≡◌, ℕ, ◌+◌, ◌≤◌, ◌<◌, refl, sym, ◌∙◌, ap, arith, Bool, true, false, cond, not, ◌&&◌, ◌||◌, List, [], ◌∷◌, length, inl, inr}
-use Rattle.std.specs.Prelude.{◌≢◌, nat_eq, nat_lt, Option, Some, None}
+use Rattle.std.proofs.Common.{◌≡◌, ℕ, ◌<◌, refl, sym, ◌∙◌, ap, arith, Bool, true, false, cond, not, ◌&&◌, ◌||◌, List, [], ◌∷◌, inl, inr}
+use Rattle.std.specs.Prelude.{◌≢◌, nat_eq, Some, None}
 use Rattle.std.specs.List.{list_any, count_by}
 use Rattle.std.specs.Ordering.{nat_cmp, eq_by_cmp}
 use Rattle.std.proofs.Math.Path.{fun_ext}
 use Rattle.std.proofs.lemmas.Bool.{cases_Bool, cases_eq, true≢false, eq-eqb, eqb-true, ne_eqb, or_left}
-use Rattle.fol_lists.specs.Numbered.{total}
 use Rattle.fol_model.specs.Universe.{numbers_below}
 use Rattle.fol_laws.proofs.Listed as listed
 use Rattle.fol_laws.proofs.NumberOrder.{numbers_tell, numbers_sorted, in_numbers}
 use Rattle.fol_regions.specs.Links.{first_id}
-use Rattle.fol_regions.specs.Book.{Book, IsBook, KeepsRoom, HandsOne, HandsOn, owner_of, state_of, is_live, ahead_of, waits_of, with_pair, handed_waits, merged_waits}
+use Rattle.fol_regions.specs.Book.{Book, IsBook, KeepsRoom, ahead_of, waits_of, with_pair, handed_waits, merged_waits}
 use Rattle.fol_regions.proofs.BookFacts.{waits_next}
 
 module _ (w : ℕ → ℕ → Bool) (u t v : ℕ) (apart : u ≢ t) where

@@ -1,16 +1,13 @@
 -- A hold more in both tables.
 use Rattle.std.proofs.Common.{◌≡◌, ℕ, zero, suc, ◌+◌, ◌*◌, ◌≤◌, ◌<◌, refl, sym, ◌∙◌, ap, arith, Bool, true, false, cond, not, ◌&&◌, ◌||◌, List, [], ◌∷◌, length, length-append, inl, inr}
-use Rattle.std.specs.Prelude.{◌≢◌, ℤ, pos, neg_ℤ, ◌+ℤ◌, map, flat_map, filter, nat_eq, nat_lt}
-use Rattle.std.specs.List.{count_by}
-use Rattle.std.proofs.Math.Path.{fun_ext}
+use Rattle.std.specs.Prelude.{ℤ, pos, neg_ℤ, ◌+ℤ◌, map, flat_map, filter, nat_eq, nat_lt}
 use Rattle.std.proofs.Math.Nat.{mul-le-mul}
-use Rattle.std.proofs.lemmas.Bool.{cases_Bool, cases_eq, true≢false, eq-eqb, eqb-true, ne_eqb, lt-ltb, ltb-true, ltb-false, leb-true, and_parts}
+use Rattle.std.proofs.lemmas.Bool.{cases_Bool, eqb-true, lt-ltb, ltb-false, leb-true, and_parts}
 use Rattle.std.proofs.lemmas.List.{length-map}
 use Rattle.std.proofs.lemmas.List.Concat.{flat_map-cons}
 use Rattle.std.proofs.lemmas.List.Sums.{length-filter, count_by-le-length}
 use Rattle.fol_model.specs.declared.places.ChunkPos.{ChunkPos}
 use Rattle.fol_model.specs.declared.places.SectionPos.{SectionPos}
-use Rattle.fol_model.specs.declared.grids.Grid.{Grid}
 use Rattle.fol_model.specs.Add.{add, counted, extended, is_full, is_greatest, is_near, is_near_calm, is_wanted, target, target_waits, wanted}
 use Rattle.fol_model.specs.Geometry.{is_chunk, is_section, is_within, section_of}
 use Rattle.fol_model.specs.GridNumbers.{IsGrid}
@@ -27,12 +24,11 @@ use Rattle.fol_sections.specs.Table as sections
 use Rattle.fol_sections.specs.Table.{holds_of, presence_of, is_missing, missing_count, is_full_for, added, Adds, IsSame}
 use Rattle.fol_sections.specs.declared.answers.Added.{Added}
 use Rattle.fol_sections.specs.declared.answers.Added.TheVariants as answers
-use Rattle.fol_regions.specs.declared.answers.AddAnswer.{AddAnswer}
 use Rattle.fol_regions.specs.declared.answers.AddAnswer.TheVariants.{Counted, Changed, Full}
 use Rattle.fol_regions.specs.Added.{bare, extended_change}
 use Rattle.fol_regions.specs.Answers.{add_answer}
 use Rattle.fol_regions.specs.Book.{Book, owner_of, state_of, waits_of}
-use Rattle.fol_regions.specs.Changes.{Changes, add_change, drawn_in, nothing}
+use Rattle.fol_regions.specs.Changes.{add_change, nothing}
 use Rattle.fol_regions.specs.Released.{IsPresence, grid_of}
 use Rattle.fol_regions.proofs.Chosen.{count_like, filter_like}
 

@@ -1,22 +1,20 @@
 -- The regions that wait for a region, in the order in which they join it.
-use Rattle.std.proofs.Common.{◌≡◌, ℕ, zero, suc, ◌+◌, ◌≤◌, ◌<◌, refl, sym, ◌∙◌, ap, arith, Bool, true, false, cond, inl, inr, not, ◌&&◌, ◌||◌, List, [], ◌∷◌, ◌++◌, length, get_or, take}
-use Rattle.std.specs.Prelude.{◌≢◌, nat_eq, nat_lt, filter, map}
+use Rattle.std.proofs.Common.{◌≡◌, ℕ, zero, suc, ◌+◌, ◌≤◌, ◌<◌, refl, sym, ◌∙◌, ap, arith, Bool, true, false, inl, inr, List, [], ◌∷◌, ◌++◌, length, get_or, take}
+use Rattle.std.specs.Prelude.{◌≢◌, nat_eq, nat_lt, filter}
 use Rattle.std.specs.List.{list_any}
 use Rattle.std.specs.List.Sorted.{IsStrictlySortedBy}
 use Rattle.std.specs.Ordering.{nat_cmp}
 use Rattle.std.specs.declared.cmp.Ordering.TheVariants.{Less}
-use Rattle.std.proofs.lemmas.Bool.{cases_Bool, cases_eq, eq-eqb, ne_eqb, eqb-true, true≢false, lt-ltb}
-use Rattle.std.proofs.lemmas.List.{take_more, take_all, map-append, get_or_past}
+use Rattle.std.proofs.lemmas.Bool.{cases_Bool, cases_eq, ne_eqb, eqb-true, true≢false, lt-ltb}
+use Rattle.std.proofs.lemmas.List.{take_more, map-append, get_or_past}
 use Rattle.std.proofs.lemmas.List.Folds.{list_any_more}
 use Rattle.std.proofs.lemmas.List.Kept.{IsStrictlySortedBy-filter}
 use Rattle.std.proofs.lemmas.List.Sums.{length-filter}
 use Rattle.std.proofs.lemmas.Map.Keys.{Less-from_sorted}
-use Rattle.fol_model.specs.declared.places.SectionPos.{SectionPos}
 use Rattle.fol_model.specs.Universe.{all_sections, count_sections, numbers_below}
 use Rattle.fol_laws.proofs.ListCounts.{count_by-mono}
 use Rattle.fol_laws.proofs.NumberOrder.{numbers_sorted}
-use Rattle.fol_regions.specs.declared.change.MergePair.{MergePair}
-use Rattle.fol_regions.specs.Book.{Book, IsBook, Merges, owner_of, waits_of, is_live, rows_of, ahead_of, behind_of}
+use Rattle.fol_regions.specs.Book.{Book, IsBook, Merges, owner_of, waits_of, is_live, ahead_of, behind_of}
 use Rattle.fol_regions.specs.Changes.{into}
 use Rattle.fol_regions.specs.Released.{is_id, Joins}
 use Rattle.fol_regions.specs.Slots.{slot_of}

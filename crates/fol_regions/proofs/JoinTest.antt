@@ -1,6 +1,6 @@
 -- What the tables say after the joins of a release, and the tests that a release makes then.
-use Rattle.std.proofs.Common.{◌≡◌, ℕ, zero, suc, ◌+◌, ◌*◌, ◌≤◌, ◌<◌, refl, sym, ◌∙◌, ap, arith, Bool, true, false, inl, inr, not, ◌&&◌, ◌||◌, List, [], ◌∷◌, ◌++◌, length}
-use Rattle.std.specs.Prelude.{◌≢◌, nat_eq, nat_le, if◌then◌else◌, filter, count_by}
+use Rattle.std.proofs.Common.{◌≡◌, ℕ, zero, suc, ◌<◌, refl, sym, ◌∙◌, ap, arith, Bool, true, false, inl, inr, not, ◌&&◌, List, [], ◌∷◌, length}
+use Rattle.std.specs.Prelude.{nat_eq, if◌then◌else◌, filter, count_by}
 use Rattle.std.specs.List.{list_any}
 use Rattle.std.proofs.Math.Path.{fun_ext}
 use Rattle.std.proofs.lemmas.Bool.{cases_Bool, cases_eq, eq-eqb, ne_eqb, eqb-true, true≢false, and_parts, and_from}
@@ -8,19 +8,17 @@ use Rattle.std.proofs.lemmas.List.Elements.{filter-append}
 use Rattle.std.proofs.lemmas.List.Folds.{list_any-append}
 use Rattle.std.proofs.lemmas.List.Sums.{length-filter}
 use Rattle.fol_model.specs.declared.places.SectionPos.{SectionPos}
-use Rattle.fol_model.specs.declared.grids.Grid.{Grid}
-use Rattle.fol_model.specs.declared.regions.State.{State}
 use Rattle.fol_model.specs.declared.regions.State.TheVariants.{Transient, Ready, Ticking, Dead}
 use Rattle.fol_model.specs.Counting.{some_below}
 use Rattle.fol_model.specs.Universe.{all_sections, numbers_below}
-use Rattle.fol_model.specs.GridState.{GridState, in_margin, with_state}
-use Rattle.fol_model.specs.Release.{joined_owner, joined_waits, joined_size, joined_dead, passes_on, must_wait, cleans, held, rested}
+use Rattle.fol_model.specs.GridState.{GridState, in_margin}
+use Rattle.fol_model.specs.Release.{joined_owner, joined_waits, joined_size, joined_dead, passes_on, must_wait, held, rested}
 use Rattle.fol_model.specs.Rules.{Rules}
 use Rattle.fol_laws.proofs.NumbersBelow.{some_below-is, some_below-gives}
 use Rattle.fol_laws.proofs.Tests.{same_answer}
 use Rattle.fol_laws.proofs.ListCounts.{count_by-cons}
 use Rattle.fol_laws.proofs.Joins as joins
-use Rattle.fol_regions.specs.Book.{Book, owner_of, state_of, waits_of, is_live, SetsState}
+use Rattle.fol_regions.specs.Book.{Book, owner_of, state_of, waits_of, SetsState}
 use Rattle.fol_regions.specs.Released.{is_id, Joins}
 
 -- ---- numbers that pass a test

@@ -31,4 +31,6 @@ pub mod AddedGrid
 pub mod HoldSteps
 pub mod TableSteps
 pub mod ChunkCounts
-pub mod AllChunks
+pub mod InOrder
+pub mod LiveRegions
+pub mod CopySteps

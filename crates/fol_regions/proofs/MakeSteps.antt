@@ -3,22 +3,22 @@ use Rattle.std.proofs.Common.{◌≡◌, ℕ, zero, suc, ◌+◌, ◌≤◌, ◌
 use Rattle.std.specs.Prelude.{◌≢◌, ℤ, filter, nat_eq, nat_lt, Option, Some, None, is_some, sum_by, replicate}
 use Rattle.std.specs.List.{count_by, list_any}
 use Rattle.std.proofs.Math.Path.{fun_ext}
-use Rattle.std.proofs.lemmas.Bool.{cases_Bool, cases_eq, true≢false, eq-eqb, eqb-true, ne_eqb, lt-ltb, le-ltb}
+use Rattle.std.proofs.lemmas.Bool.{cases_Bool, cases_eq, true≢false, eq-eqb, ne_eqb, lt-ltb, le-ltb}
 use Rattle.std.proofs.lemmas.List.{length-replicate, length-set, get_or-set_same, get_or-set_other}
 use Rattle.std.proofs.lemmas.List.Elements.{filter-append}
 use Rattle.std.proofs.lemmas.List.Sums.{sum_by-cons}
-use Rattle.fol_lists.specs.Numbered.{Numbered, list_at, total, with_list}
+use Rattle.fol_lists.specs.Numbered.{list_at, total, with_list}
 use Rattle.fol_model.specs.declared.places.SectionPos.{SectionPos}
 use Rattle.fol_model.specs.declared.regions.State.{State}
 use Rattle.fol_model.specs.GridState.{with_state}
-use Rattle.fol_model.specs.Universe.{all_sections, count_sections, numbers_below}
+use Rattle.fol_model.specs.Universe.{all_sections, numbers_below}
 use Rattle.fol_laws.proofs.ListCounts.{count_by-cons, count_by-none}
 use Rattle.fol_regions.specs.declared.slots.Region.{Region}
 use Rattle.fol_regions.specs.Owners.{entry_of, owner_in}
 use Rattle.fol_regions.specs.Rows.{is_among}
 use Rattle.fol_regions.specs.Slots.{SlotTable, region_at, slot_of, slot_state}
 use Rattle.fol_regions.specs.Book.{Book, IsBook, Makes, owner_of, state_of, is_live, rows_of, ahead_of, behind_of, waits_of}
-use Rattle.fol_regions.proofs.BookFacts.{live_slot, slot_live, not_live, no_list, owner_live, live_next, waits_next, waiter_lives}
+use Rattle.fol_regions.proofs.BookFacts.{slot_live, not_live, no_list, owner_live, live_next, waits_next, waiter_lives}
 use Rattle.fol_regions.proofs.Chosen.{filter_like, none_kept}
 use Rattle.fol_regions.proofs.LinkSteps.{append-none}
 use Rattle.fol_regions.proofs.OwnSteps.{own_other, own_here, own_count, own_limits}

@@ -1,26 +1,22 @@
 -- A region with no pairs becomes part of another one.
-use Rattle.std.proofs.Common.{◌≡◌, ℕ, ◌+◌, ◌≤◌, ◌<◌, refl, sym, ◌∙◌, ap, arith, Bool, true, false, cond, not, ◌&&◌, ◌||◌, List, [], length, inl, inr}
+use Rattle.std.proofs.Common.{◌≡◌, ℕ, ◌+◌, ◌<◌, refl, sym, ◌∙◌, ap, arith, Bool, true, false, cond, not, ◌&&◌, ◌||◌, List, [], length, inl, inr}
 use Rattle.std.specs.Prelude.{◌≢◌, ℤ, filter, nat_eq, nat_lt}
-use Rattle.std.specs.List.{count_by, list_any}
+use Rattle.std.specs.List.{list_any}
 use Rattle.std.proofs.Math.Path.{fun_ext}
 use Rattle.std.proofs.lemmas.Bool.{cases_Bool, cases_eq, true≢false, eq-eqb, eqb-true, ne_eqb, lt-ltb, le-ltb, ltb-true}
 use Rattle.std.proofs.lemmas.List.{length-set, get_or-set_same, get_or-set_other}
 use Rattle.std.proofs.lemmas.List.Sums.{length-filter}
-use Rattle.fol_lists.specs.Numbered.{Numbered, list_at, total, with_list}
+use Rattle.fol_lists.specs.Numbered.{list_at, total, with_list}
 use Rattle.fol_model.specs.declared.places.SectionPos.{SectionPos}
-use Rattle.fol_model.specs.declared.regions.State.{State}
-use Rattle.fol_model.specs.declared.regions.State.TheVariants.{Dead}
 use Rattle.fol_model.specs.Geometry.{is_section}
-use Rattle.fol_model.specs.GridState.{with_state}
 use Rattle.fol_model.specs.Universe.{all_sections, count_sections, numbers_below}
-use Rattle.fol_laws.proofs.ListCounts.{count_by-mono}
 use Rattle.fol_regions.specs.Owners.{owner_in}
-use Rattle.fol_regions.specs.Rows.{IsRow, is_among, united}
-use Rattle.fol_regions.specs.Slots.{SlotTable, slot_of, slot_state}
-use Rattle.fol_regions.specs.Book.{Book, IsBook, owner_of, state_of, is_live, rows_of, ahead_of, behind_of, waits_of}
-use Rattle.fol_regions.proofs.BookFacts.{live_slot, no_list, put_at, put_other}
-use Rattle.fol_regions.proofs.Chosen.{chosen, filter_like, count_like, count_either, none_kept, row_chosen, united_chosen}
-use Rattle.fol_regions.proofs.SlotSteps.{slot-le, slot_tells}
+use Rattle.fol_regions.specs.Rows.{is_among, united}
+use Rattle.fol_regions.specs.Slots.{SlotTable, slot_of}
+use Rattle.fol_regions.specs.Book.{Book, IsBook, owner_of, is_live, rows_of, ahead_of, behind_of, waits_of}
+use Rattle.fol_regions.proofs.BookFacts.{live_slot, no_list}
+use Rattle.fol_regions.proofs.Chosen.{chosen, filter_like, count_like, count_either, none_kept, united_chosen}
+use Rattle.fol_regions.proofs.SlotSteps.{slot_tells}
 use Rattle.fol_regions.proofs.Totals.{total_two}
 
 -- the sections of a region

@@ -1,9 +1,7 @@
 -- Two lists in order, merged.
 use Rattle.std.proofs.Common.{◌≡◌, ℕ, ◌+◌, ◌≤◌, ◌<◌, refl, sym, ◌∙◌, ap, arith, subst, Bool, true, false, ◌||◌, List, [], ◌∷◌, ◌++◌, length, take, drop, get_or, append_assoc, inl, inr, length-append, ◌⊎◌}
-use Rattle.std.specs.Prelude.{filter}
-use Rattle.std.specs.List.{AllByRecursion, list_any}
+use Rattle.std.specs.List.{AllByRecursion}
 use Rattle.std.specs.List.Sorted.{IsStrictlySortedBy}
-use Rattle.std.specs.declared.cmp.Ordering.{Ordering}
 use Rattle.std.specs.declared.cmp.Ordering.TheVariants.{Less, Equal, Greater}
 use Rattle.std.specs.Ordering.{ordering_reverse}
 use Rattle.std.proofs.lemmas.List.{take-append-drop, drop_more, drop_all}
@@ -11,7 +9,7 @@ use Rattle.std.proofs.lemmas.List.Folds.{list_any-append}
 use Rattle.std.proofs.lemmas.Bool.{or_cases}
 use Rattle.fol_model.specs.declared.places.SectionPos.{SectionPos}
 use Rattle.fol_model.specs.Geometry.{same_section}
-use Rattle.fol_model.specs.Universe.{section_cmp, all_sections}
+use Rattle.fol_model.specs.Universe.{section_cmp}
 use Rattle.fol_laws.proofs.SectionOrder.{sections_tell, section_rows_are}
 use Rattle.fol_regions.specs.Rows.{IsRow, is_among, united}
 use Rattle.fol_regions.proofs.Among.{among_more, same_section-swap}

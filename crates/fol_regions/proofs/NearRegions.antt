@@ -1,22 +1,20 @@
 -- The regions of the sections of a square, row by row.
-use Rattle.std.proofs.Common.{◌≡◌, ℕ, zero, suc, ◌+◌, ◌<◌, refl, sym, ◌∙◌, ap, arith, Bool, true, false, cond, ◌&&◌, ◌||◌, List, [], ◌∷◌, ◌++◌, inl, inr}
+use Rattle.std.proofs.Common.{◌≡◌, ℕ, zero, suc, ◌+◌, ◌<◌, refl, sym, ◌∙◌, ap, arith, Bool, true, false, ◌&&◌, ◌||◌, List, [], ◌∷◌, ◌++◌, inl, inr}
 use Rattle.std.specs.Prelude.{ℤ, pos, neg_ℤ, ◌+ℤ◌, ◌-ℤ◌, map, flat_map, nat_eq, nat_lt}
 use Rattle.std.specs.List.{list_any, filter}
 use Rattle.std.proofs.lemmas.List.{map-append}
-use Rattle.std.proofs.lemmas.List.Elements.{filter-append}
 use Rattle.std.proofs.lemmas.Grind.{flat_map-append}
 use Rattle.std.proofs.lemmas.List.Concat.{flat_map-cons}
 use borrow.Author.Differences.{ints}
 use Rattle.fol_model.specs.declared.places.SectionPos.{SectionPos}
-use Rattle.std.proofs.lemmas.Bool.{cases_Bool, cases_eq, and_parts, and_from, or_cases, or_left, or_right, true≢false, eq-eqb, eqb-true, ne_eqb, lt-ltb, le-ltb, ltb-true}
+use Rattle.std.proofs.lemmas.Bool.{cases_Bool, cases_eq, and_parts, and_from, or_cases, or_left, or_right, true≢false, eq-eqb, eqb-true, ne_eqb, lt-ltb, ltb-true}
 use Rattle.std.proofs.lemmas.List.Folds.{list_any-append}
 use Rattle.fol_model.specs.Geometry.{is_section, is_within, same_section}
-use Rattle.fol_model.specs.Universe.{from, square, numbers_below, some_section, all_sections}
+use Rattle.fol_model.specs.Universe.{from, square, numbers_below}
 use Rattle.fol_laws.proofs.AllSections.{some_section-is, some_section-gives}
 use Rattle.fol_laws.proofs.SamePlaces.{same_section-true, same_section-self}
 use Rattle.fol_laws.proofs.SectionOrder.{square_members}
 use Rattle.fol_laws.proofs.Tests.{same_answer}
-use Rattle.fol_regions.specs.Rows.{is_among}
 use Rattle.fol_regions.proofs.Chosen.{chosen_below, filter_like, with_chosen}
 use Rattle.fol_regions.specs.Near.{has_one, is_close, noted, regions_of, row_of, rows_of}
 

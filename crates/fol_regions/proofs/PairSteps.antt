@@ -1,11 +1,11 @@
 -- A pair of two regions comes or goes.
-use Rattle.std.proofs.Common.{◌≡◌, ℕ, ◌+◌, ◌≤◌, ◌<◌, refl, sym, ◌∙◌, ap, arith, Bool, true, false, cond, not, ◌&&◌, ◌||◌, List, [], ◌∷◌, ◌++◌, length, length-append, inl, inr}
+use Rattle.std.proofs.Common.{◌≡◌, ℕ, ◌+◌, ◌≤◌, ◌<◌, refl, sym, ◌∙◌, ap, arith, Bool, true, false, cond, not, ◌&&◌, ◌||◌, List, [], ◌∷◌, length, length-append, inl, inr}
 use Rattle.std.specs.Prelude.{◌≢◌, filter, nat_eq, nat_lt}
 use Rattle.std.specs.List.{list_any}
 use Rattle.std.proofs.Math.Path.{fun_ext}
-use Rattle.std.proofs.lemmas.Bool.{cases_Bool, cases_eq, true≢false, eq-eqb, eqb-true, ne_eqb, or_cases}
+use Rattle.std.proofs.lemmas.Bool.{cases_Bool, cases_eq, true≢false, eq-eqb, ne_eqb, or_cases}
 use Rattle.std.proofs.lemmas.List.{length-set}
-use Rattle.fol_lists.specs.Numbered.{Numbered, list_at, total, with_list}
+use Rattle.fol_lists.specs.Numbered.{total, with_list}
 use Rattle.fol_model.specs.Universe.{numbers_below}
 use Rattle.fol_regions.specs.Links.{with_id, without_id}
 use Rattle.fol_regions.specs.Slots.{slot_of}
@@ -13,7 +13,6 @@ use Rattle.fol_regions.specs.Book.{Book, IsBook, SetsPair, owner_of, state_of, i
 use Rattle.fol_regions.proofs.BookFacts.{put_at, put_other, put_unused, live_slot, live_next, waits_next, waiter_lives}
 use Rattle.fol_regions.proofs.Chosen.{chosen_below, filter_like, with_chosen, without_chosen}
 use Rattle.fol_regions.proofs.LinkSteps.{filter_le, two_sides}
-use Rattle.fol_regions.proofs.Totals.{total_with}
 
 and_false : (x : Bool) → (x && false) ≡ false
 and_false true = refl

@@ -1,11 +1,11 @@
 -- The parts that a splitter finds of the sections that stay are the parts of the release, in their order.
-use Rattle.std.proofs.Common.{◌≡◌, ℕ, zero, suc, ◌+◌, ◌-◌, ◌≤◌, ◌<◌, refl, sym, ◌∙◌, ap, arith, Bool, true, false, inl, inr, ◌⊎◌, ◌&&◌, List, [], ◌∷◌, length, get_or}
-use Rattle.std.specs.Prelude.{◌≢◌, IsTrue, pos}
-use Rattle.std.specs.List.{All, list_any, position_or_len}
+use Rattle.std.proofs.Common.{◌≡◌, ℕ, zero, suc, ◌+◌, ◌-◌, ◌≤◌, ◌<◌, sym, ◌∙◌, ap, arith, Bool, true, inl, inr, ◌⊎◌, ◌&&◌, List, [], ◌∷◌, length, get_or}
+use Rattle.std.specs.Prelude.{◌≢◌, pos}
+use Rattle.std.specs.List.{list_any}
 use Rattle.std.specs.List.Sorted.{IsStrictlySortedBy}
 use Rattle.std.specs.Ordering.{on, ordering_reverse}
 use Rattle.std.specs.declared.cmp.Ordering.TheVariants.{Less}
-use Rattle.std.proofs.lemmas.Bool.{cases_Bool, cases_order, cases_lt, cases_eq, and_parts, and_from, or_left, or_cases, true≢false}
+use Rattle.std.proofs.lemmas.Bool.{cases_order, cases_lt, cases_eq, and_parts, and_from, or_left, or_cases, true≢false}
 use Rattle.std.proofs.lemmas.Map.Keys.{Less-from_sorted}
 use Rattle.std.proofs.lemmas.List.{get_or_default}
 use Rattle.std.proofs.lemmas.List.Sums.{passes_at_first, fails_before_first}
@@ -15,17 +15,17 @@ use Rattle.fol_model.specs.Geometry.{is_section, is_within, same_section}
 use Rattle.fol_model.specs.Universe.{all_sections, section_cmp}
 use Rattle.fol_model.specs.GridState.{GridState}
 use Rattle.fol_model.specs.Counting.{count_below}
-use Rattle.fol_model.specs.Release.{remains, is_beside, is_linked, leader, is_leader, parts, part_of}
+use Rattle.fol_model.specs.Release.{remains, is_linked, leader, is_leader, parts, part_of}
 use Rattle.fol_model.specs.Rules.{Rules}
 use Rattle.fol_laws.specs.Parts.{IsPath}
-use Rattle.fol_laws.proofs.SamePlaces.{same_section-true, same_section-self}
+use Rattle.fol_laws.proofs.SamePlaces.{same_section-self}
 use Rattle.fol_laws.proofs.CountBelow.{count_below-lt}
 use Rattle.fol_laws.proofs.Linked.{part_at, part_below, leader_below, leader_is, same_leader, through_self}
 use Rattle.fol_laws.proofs.SectionOrder.{sections_sorted}
 use Rattle.fol_laws.proofs.AllSections.{some_section-is}
 use Rattle.fol_laws.proofs.PartClasses.{parts_are_classes}
 use Rattle.fol_laws.proofs.Joins.{remains_in}
-use Rattle.fol_split.specs.Parts.{is_among, least_of, ArePartsOf, IsPart, IsChain, IsJoined}
+use Rattle.fol_split.specs.Parts.{is_among, least_of, ArePartsOf, IsPart, IsChain}
 use Rattle.fol_split.proofs.Search.{at_index}
 use Rattle.fol_split.proofs.Places.{section_order}
 

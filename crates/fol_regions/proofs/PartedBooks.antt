@@ -1,20 +1,19 @@
 -- Tables after a region lost sections or ended.
-use Rattle.std.proofs.Common.{◌≡◌, ℕ, ◌+◌, ◌≤◌, ◌<◌, refl, sym, ◌∙◌, ap, arith, Bool, true, false, inl, inr, not, ◌&&◌, List, [], ◌∷◌, length}
+use Rattle.std.proofs.Common.{◌≡◌, ℕ, ◌≤◌, ◌<◌, refl, sym, ◌∙◌, ap, arith, Bool, true, false, inl, inr, not, ◌&&◌, List, [], ◌∷◌, length}
 use Rattle.std.specs.Prelude.{nat_eq, nat_lt, if◌then◌else◌, filter}
-use Rattle.std.specs.List.{list_any}
 use Rattle.std.proofs.Math.Path.{fun_ext}
-use Rattle.std.proofs.lemmas.Bool.{cases_Bool, cases_eq, eq-eqb, ne_eqb, eqb-true, true≢false, and_parts, and_from}
+use Rattle.std.proofs.lemmas.Bool.{cases_Bool, eq-eqb, ne_eqb, eqb-true, true≢false}
 use Rattle.fol_lists.specs.Numbered.{with_list, list_at, total}
 use Rattle.fol_regions.proofs.Totals.{total_with}
 use Rattle.fol_model.specs.declared.places.SectionPos.{SectionPos}
 use Rattle.fol_model.specs.declared.regions.State.TheVariants.{Dead}
-use Rattle.fol_model.specs.Geometry.{is_section, same_section}
+use Rattle.fol_model.specs.Geometry.{same_section}
 use Rattle.fol_model.specs.Universe.{all_sections, count_sections}
 use Rattle.fol_model.specs.GridState.{with_state}
 use Rattle.fol_laws.proofs.AllSections.{some_section-is}
 use Rattle.fol_laws.proofs.SamePlaces.{same_section-self}
 use Rattle.fol_laws.proofs.SectionOrder.{section_members}
-use Rattle.fol_regions.specs.Book.{Book, IsBook, KeepsRoom, owner_of, state_of, waits_of, is_live, rows_of, ahead_of, behind_of}
+use Rattle.fol_regions.specs.Book.{Book, IsBook, owner_of, state_of, waits_of, is_live, rows_of, ahead_of, behind_of}
 use Rattle.fol_regions.specs.Slots.{slot_of, slot_state}
 use Rattle.fol_regions.specs.Rows.{is_among}
 use Rattle.fol_regions.specs.Released.{Keeps, Ends}

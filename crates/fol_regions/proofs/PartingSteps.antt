@@ -1,13 +1,13 @@
 -- Tables whose lists agree but for one region, while that region loses sections, ends or falls into parts.
-use Rattle.std.proofs.Common.{◌≡◌, ℕ, zero, suc, ◌+◌, ◌≤◌, ◌<◌, refl, sym, ◌∙◌, ap, subst, arith, Bool, true, false, cond, inl, inr, ◌⊎◌, not, ◌&&◌, List, [], ◌∷◌, ◌++◌, length, add-one}
+use Rattle.std.proofs.Common.{◌≡◌, ℕ, ◌+◌, ◌≤◌, ◌<◌, refl, sym, ◌∙◌, ap, arith, Bool, true, false, cond, inl, inr, ◌⊎◌, ◌&&◌, List, [], ◌∷◌, length, add-one}
 use Rattle.std.specs.Prelude.{◌≢◌, nat_eq, nat_lt, if◌then◌else◌, filter, count_by}
 use Rattle.std.specs.List.{list_any}
 use Rattle.std.proofs.Math.Path.{fun_ext}
-use Rattle.std.proofs.lemmas.Bool.{cases_Bool, cases_eq, cases_lt, eq-eqb, ne_eqb, eqb-true, eqb-false, true≢false, and_parts, and_from, lt-ltb, ltb-true, ltb-false}
+use Rattle.std.proofs.lemmas.Bool.{cases_Bool, cases_eq, cases_lt, eq-eqb, ne_eqb, eqb-true, true≢false, and_parts, and_from, lt-ltb, ltb-true, ltb-false}
 use Rattle.std.proofs.lemmas.List.{append-nil, get_or-set_same, get_or-set_other, get_or_past, length-set}
 use Rattle.std.proofs.lemmas.List.Elements.{filter-append}
 use Rattle.std.proofs.lemmas.List.Sums.{length-filter}
-use Rattle.fol_lists.specs.Numbered.{Numbered, list_at, total, with_list}
+use Rattle.fol_lists.specs.Numbered.{list_at, total, with_list}
 use Rattle.fol_model.specs.declared.places.SectionPos.{SectionPos}
 use Rattle.fol_model.specs.Geometry.{is_section, same_section}
 use Rattle.fol_model.specs.Universe.{all_sections, count_sections, numbers_below}
@@ -16,7 +16,7 @@ use Rattle.fol_laws.proofs.SamePlaces.{same_section-self}
 use Rattle.fol_laws.proofs.SectionOrder.{section_members}
 use Rattle.fol_laws.proofs.ListCounts.{count_by-cons}
 use Rattle.fol_laws.proofs.NumbersBelow.{some_below-gives}
-use Rattle.fol_regions.specs.Book.{Book, IsBook, owner_of, state_of, waits_of, is_live, rows_of, ahead_of, behind_of}
+use Rattle.fol_regions.specs.Book.{Book, IsBook, owner_of, waits_of, is_live, rows_of, ahead_of, behind_of}
 use Rattle.fol_regions.specs.Slots.{slot_of}
 use Rattle.fol_regions.specs.Rows.{is_among}
 use Rattle.fol_regions.proofs.SlotSteps.{slot_tells, slot-le}

@@ -1,15 +1,10 @@
 -- What a release needs of the tables, and what it leaves.
 use Rattle.std.proofs.Common.{◌≡◌, ℕ, ◌+◌, ◌*◌, ◌≤◌, ◌<◌, refl, sym, ◌∙◌, ap, arith, Bool, true, false, inl, inr, not, ◌&&◌, ◌||◌, List, [], ◌∷◌, ◌++◌, length, get_or}
 use Rattle.std.specs.Prelude.{◌≢◌, nat_eq, nat_lt, nat_le, if◌then◌else◌, filter, Option, Some, None, IsTrue}
-use Rattle.std.specs.List.{All, list_any, range_with_len, IsDistinct}
-use Rattle.std.specs.List.Sorted.{IsStrictlySortedBy}
-use Rattle.std.proofs.Math.Path.{fun_ext}
-use Rattle.std.proofs.lemmas.Bool.{cases_Bool, cases_eq, eq-eqb, ne_eqb, eqb-true, true≢false, and_parts, and_from, or_parts, lt-ltb, le-ltb, ltb-true, ltb-false, le-leb, lt-leb}
+use Rattle.std.specs.List.{All, range_with_len, IsDistinct}
+use Rattle.std.proofs.lemmas.Bool.{cases_Bool, eq-eqb, ne_eqb, eqb-true, true≢false, and_parts, and_from, or_parts, lt-ltb, le-ltb, ltb-true, le-leb, lt-leb}
 use Rattle.std.proofs.lemmas.List.{append-nil}
-use Rattle.std.proofs.lemmas.List.Sums.{length-filter}
 use Rattle.fol_model.specs.declared.places.SectionPos.{SectionPos}
-use Rattle.fol_model.specs.declared.grids.Grid.{Grid}
-use Rattle.fol_model.specs.declared.regions.State.{State}
 use Rattle.fol_model.specs.declared.regions.State.TheVariants.{Transient, Ready, Ticking, Dead}
 use Rattle.fol_model.specs.Geometry.{same_section}
 use Rattle.fol_model.specs.GridNumbers.{IsGrid}
@@ -18,7 +13,6 @@ use Rattle.fol_model.specs.Universe.{all_sections, count_sections, numbers_below
 use Rattle.fol_model.specs.GridState.{GridState, in_margin}
 use Rattle.fol_model.specs.Release.{release, joined_owner, joined_waits, joined_size, joined_dead, passes_on, must_wait, cleans, cleaned, held, rested, remains, parts, part_id, is_part_id}
 use Rattle.fol_model.specs.Rules.{Rules}
-use Rattle.fol_laws.proofs.ListCounts.{count_by-mono}
 use Rattle.fol_laws.proofs.SectionOrder.{section_members}
 use Rattle.fol_laws.proofs.CleanedGrid as grid
 use Rattle.fol_laws.proofs.Joins as joins
@@ -27,10 +21,10 @@ use Rattle.fol_sections.specs.Table as sections
 use Rattle.fol_split.specs.Parts.{ArePartsOf}
 use Rattle.fol_regions.specs.declared.slots.Region.{Region}
 use Rattle.fol_regions.specs.Book.{Book, IsBook, SetsState, KeepsRoom, owner_of, state_of, waits_of, is_live, rows_of, ahead_of, behind_of}
-use Rattle.fol_regions.specs.Changes.{Changes, into, release_change, waiting_for, part_ids, nothing}
+use Rattle.fol_regions.specs.Changes.{Changes, into, release_change, waiting_for, part_ids}
 use Rattle.fol_regions.specs.Released.{is_id, Joins, Cleans, Keeps, Ends, Splits, IsPresence, grid_of, with_parts}
 use Rattle.fol_regions.specs.Rows.{is_among}
-use Rattle.fol_regions.specs.Slots.{slot_of, slot_state, region_at, state_in}
+use Rattle.fol_regions.specs.Slots.{slot_state, region_at, state_in}
 use Rattle.fol_regions.proofs.BookFacts as facts
 use Rattle.fol_regions.proofs.ChangeLists.{numbers_from}
 use Rattle.fol_regions.proofs.CleanSteps as clean
@@ -59,6 +53,11 @@ pub margin_is : (s : sections.Table) (b : Book) (q : SectionPos) → in_margin (
 unfolding grid_of in_margin in_margin_of
 margin_is s b q = refl
 
+-- at most 16,384 sections have an owner
+pub owned_few : (s : sections.Table) (b : Book) → Rules (grid_of s b) → count_sections (λ q. nat_lt 0 (owner_of b q)) ≤ 16384
+unfolding grid_of
+owned_few s b rules = rules.count
+
 module _ (s : sections.Table) (b : Book) (t : ℕ) (rules : Rules (grid_of s b)) (ticks : (grid_of s b).state t ≡ Ticking) (h : IsBook b) where
   -- ---- before the joins
   pub shown : test.Shows (grid_of s b) b
@@ -81,8 +80,7 @@ module _ (s : sections.Table) (b : Book) (t : ℕ) (rules : Rules (grid_of s b))
   ]
 
   pub few : count_sections (λ q. nat_lt 0 (owner_of b q)) ≤ 16384
-  unfolding grid_of
-  few = rules.count
+  few = owned_few s b rules
 
   -- ---- after them
   module _ (j : Book) (ids : List ℕ) (is : ids ≡ behind_of b t) (w : Joins b j t ids) (k : IsBook j) where

@@ -1,14 +1,12 @@
 -- The sections of a region that stay, and the parts into which they fall.
-use Rattle.std.proofs.Common.{◌≡◌, ℕ, zero, suc, ◌+◌, ◌≤◌, ◌<◌, refl, sym, ◌∙◌, ap, arith, Bool, true, false, inl, inr, not, ◌&&◌, List, [], ◌∷◌, ◌++◌, length, get_or}
+use Rattle.std.proofs.Common.{◌≡◌, ℕ, ◌+◌, ◌≤◌, ◌<◌, refl, sym, ◌∙◌, ap, arith, Bool, true, false, inl, inr, ◌&&◌, List, [], ◌∷◌, ◌++◌, length, get_or}
 use Rattle.std.specs.Prelude.{nat_eq, nat_lt, if◌then◌else◌, filter, IsTrue, map, pos as int_pos}
-use Rattle.std.specs.List.{All, list_any, range_with_len, IsDistinct}
+use Rattle.std.specs.List.{All, range_with_len, IsDistinct}
 use Rattle.std.specs.List.Sorted.{IsStrictlySortedBy}
 use Rattle.std.specs.Ordering.{on}
 use Rattle.std.specs.declared.cmp.Ordering.TheVariants.{Less}
-use Rattle.std.proofs.Math.Path.{fun_ext}
-use Rattle.std.proofs.lemmas.Bool.{cases_Bool, cases_eq, cases_order, eq-eqb, ne_eqb, eqb-true, true≢false, and_parts, and_from, lt-ltb, ltb-true}
+use Rattle.std.proofs.lemmas.Bool.{cases_Bool, cases_order, eq-eqb, ne_eqb, eqb-true, and_parts, lt-ltb}
 use Rattle.std.proofs.lemmas.List.Kept.{IsStrictlySortedBy-filter}
-use Rattle.std.proofs.lemmas.List.Sums.{length-filter}
 use Rattle.std.proofs.lemmas.Map.Keys.{Less-from_sorted, sorted_from_all_adjacent}
 use Rattle.std.proofs.lemmas.List.{get_or-map, length-map}
 use Rattle.fol_model.specs.declared.places.SectionPos.{SectionPos}
@@ -24,6 +22,7 @@ use Rattle.fol_regions.specs.Book.{Book, IsBook, SetsState, owner_of, waits_of, 
 use Rattle.fol_regions.specs.Changes.{Changes}
 use Rattle.fol_regions.specs.Released.{AreRows, Cleans, Ends, Keeps, Splits, with_parts}
 use Rattle.fol_regions.specs.Rows.{is_among}
+use Rattle.fol_regions.proofs.BookFacts.{row_most}
 use Rattle.fol_regions.proofs.PartNumbers.{first_among, first_least, not_both}
 use Rattle.fol_regions.proofs.PartedBooks.{row_members, length-filter_le}
 use Rattle.fol_regions.proofs.SplitSteps.{placed_some}
@@ -87,14 +86,7 @@ module _ (b : Book) (t : ℕ) (h : IsBook b) (live : is_live b t ≡ true) (p : 
   living_within = λ k d l. living_limits (get_or living k d) (among_at living k d l)
 
   pub row_few : count_sections (λ s. nat_lt 0 (owner_of b s)) ≤ 16384 → length (rows_of b t) ≤ 16384
-  row_few few =
-      omega (
-        arith,
-        ap length (h.rows t pos),
-        length-filter (λ s. nat_eq (owner_of b s) t) all_sections,
-        count_by-mono (λ s. nat_eq (owner_of b s) t) (λ s. nat_lt 0 (owner_of b s)) (λ s e. let o : owner_of b s ≡ t = eqb-true _ _ e in let q = pos in lt-ltb 0 _ (omega arith)) all_sections,
-        few,
-      )
+  row_few few = row_most b t h pos few
 
   pub living_few : count_sections (λ s. nat_lt 0 (owner_of b s)) ≤ 16384 → length living ≤ 16384
   living_few few = omega (arith, ap length is, length-filter_le p (rows_of b t), row_few few)

@@ -24,7 +24,7 @@ least-none p n h = elim (cases_lt (least p n) n) [
 pub least-one : (p : ℕ → Bool) (n k : ℕ) → k < n → p k ≡ true → ((m : ℕ) → m < n → p m ≡ true → m ≡ k) → least p n ≡ k
 least-one p n k l h only = let b = least-below p n k l h in let m : least p n < n = omega arith in only (least p n) m (least-passes p n m)
 
-has-some : (id : ℕ) (o : Option Region) → has_id id o ≡ true → (r : Region) × (o ≡ Some r) × (r.id ≡ id)
+pub has-some : (id : ℕ) (o : Option Region) → has_id id o ≡ true → (r : Region) × (o ≡ Some r) × (r.id ≡ id)
 has-some id None h = absurd (true≢false (sym h))
 has-some id (Some r) h = (r, refl, eqb-true r.id id h)
 

@@ -1,18 +1,17 @@
 -- A region that falls into parts, one part after another.
-use Rattle.std.proofs.Common.{◌≡◌, ℕ, zero, suc, ◌+◌, ◌≤◌, ◌<◌, refl, sym, ◌∙◌, ap, arith, Bool, true, false, inl, inr, ◌&&◌, ◌||◌, List, [], ◌∷◌, ◌++◌, length, get_or, take}
-use Rattle.std.specs.Prelude.{◌≢◌, nat_eq, nat_lt, nat_le, if◌then◌else◌, filter, count_by, sum_by, is_some, Option, Some, None}
+use Rattle.std.proofs.Common.{◌≡◌, ℕ, zero, suc, ◌+◌, ◌≤◌, ◌<◌, refl, sym, ◌∙◌, ap, arith, Bool, true, false, inl, inr, ◌&&◌, ◌||◌, List, [], ◌∷◌, length, get_or, take}
+use Rattle.std.specs.Prelude.{◌≢◌, nat_eq, nat_lt, nat_le, if◌then◌else◌, count_by, sum_by, is_some, Option, Some, None}
 use Rattle.std.specs.List.{list_any}
 use Rattle.std.proofs.Math.Path.{fun_ext}
-use Rattle.std.proofs.lemmas.Bool.{cases_Bool, cases_eq, cases_lt, eq-eqb, ne_eqb, eqb-true, true≢false, and_parts, and_from, or_cases, or_left, or_right, lt-ltb, le-ltb, le-leb, lt-leb}
+use Rattle.std.proofs.lemmas.Bool.{cases_Bool, cases_eq, cases_lt, eq-eqb, ne_eqb, eqb-true, true≢false, or_cases, or_left, or_right, lt-ltb, le-ltb, le-leb, lt-leb}
 use Rattle.std.proofs.lemmas.List.{take_all}
 use Rattle.std.proofs.lemmas.List.Folds.{list_any_more}
 use Rattle.fol_lists.specs.Numbered.{with_list, list_at, total}
 use Rattle.fol_model.specs.declared.places.SectionPos.{SectionPos}
-use Rattle.fol_model.specs.declared.regions.State.{State}
 use Rattle.fol_model.specs.declared.regions.State.TheVariants.{Ready, Dead}
 use Rattle.fol_model.specs.Universe.{all_sections, count_sections}
 use Rattle.fol_model.specs.GridState.{with_state}
-use Rattle.fol_regions.specs.Book.{Book, IsBook, KeepsRoom, owner_of, state_of, waits_of, is_live, rows_of, ahead_of, behind_of}
+use Rattle.fol_regions.specs.Book.{Book, IsBook, KeepsRoom, owner_of, state_of, waits_of, is_live, rows_of}
 use Rattle.fol_regions.specs.Slots.{slot_of, slot_state, region_at}
 use Rattle.fol_regions.specs.Rows.{is_among}
 use Rattle.fol_regions.specs.Released.{Splits, AreRows, id_in}

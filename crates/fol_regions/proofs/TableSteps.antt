@@ -1,24 +1,23 @@
 -- What the calls of a region table keep and say.
-use Rattle.std.proofs.Common.{◌≡◌, ℕ, ◌+◌, ◌-◌, ◌*◌, ◌≤◌, ◌<◌, refl, sym, ◌∙◌, ap, arith, Bool, true, false, inl, inr, not, ◌&&◌, List, [], length}
+use Rattle.std.proofs.Common.{◌≡◌, ℕ, ◌-◌, ◌*◌, ◌≤◌, ◌<◌, refl, sym, ◌∙◌, ap, arith, true, false, inl, inr, ◌&&◌, List, []}
 use Rattle.std.specs.Prelude.{◌≢◌, nat_eq, nat_lt, if◌then◌else◌, Some, None, slice_index_or}
 use Rattle.std.proofs.Math.Path.{fun_ext}
-use Rattle.std.proofs.lemmas.Bool.{cases_Bool, cases_eq, eq-eqb, ne_eqb, eqb-true, true≢false, lt-ltb, le-ltb}
+use Rattle.std.proofs.lemmas.Bool.{cases_Bool, true≢false, lt-ltb, le-ltb}
 use Rattle.fol_model.specs.declared.places.SectionPos.{SectionPos}
 use Rattle.fol_model.specs.declared.places.ChunkPos.{ChunkPos}
 use Rattle.fol_model.specs.declared.grids.Grid.{Grid}
 use Rattle.fol_model.specs.declared.regions.State.{State}
 use Rattle.fol_model.specs.declared.regions.State.TheVariants.{Transient, Ready, Ticking, Dead}
 use Rattle.fol_model.specs.GridNumbers.{IsGrid}
-use Rattle.fol_model.specs.GridState.{GridState, at_chunk, empty, with_state, is_ready}
+use Rattle.fol_model.specs.GridState.{at_chunk, empty, is_ready}
 use Rattle.fol_model.specs.Begin.{begin}
 use Rattle.fol_model.specs.Drop.{drop_hold}
 use Rattle.fol_model.specs.Release.{release}
-use Rattle.fol_model.specs.Rules.{Rules}
 use Rattle.fol_laws.proofs.SmallSteps.{begin_keeps, drop_keeps, empty_keeps}
 use Rattle.fol_laws.proofs.ReleaseKeeps.{release_keeps}
 use Rattle.fol_sections.specs.Table.{IsEmpty, IsSame, holds_of, presence_of, removed}
 use Rattle.fol_sections.specs.Table as sections
-use Rattle.fol_regions.specs.Answers.{begin_answer, begun_state, remove_answer, some_id, state_answer}
+use Rattle.fol_regions.specs.Answers.{begun_state, remove_answer, some_id}
 use Rattle.fol_regions.specs.Book.{Book, HasRoomFor, IsAlike, IsBook, KeepsRoom, SetsState, owner_of, state_of, waits_of, is_live, rows_of, ahead_of, behind_of}
 use Rattle.fol_regions.specs.Slots.{SlotTable, slot_of, slot_state}
 use Rattle.fol_lists.specs.Numbered.{Numbered, total}
@@ -34,7 +33,7 @@ pub state_is : (t : Table) → grid_state t ≡ grid_of t.sections t.book
 unfolding grid_state grid_of
 state_is t = refl
 
-dead_if : (x : State) → ((x ≢ Dead) → ⊥) → x ≡ Dead
+pub dead_if : (x : State) → ((x ≢ Dead) → ⊥) → x ≡ Dead
 dead_if Transient h = absurd (h (λ e. cc))
 dead_if Ready h = absurd (h (λ e. cc))
 dead_if Ticking h = absurd (h (λ e. cc))
@@ -222,6 +221,10 @@ state_some n next x y e l same = let a : nat_lt 0 n ≡ true = lt-ltb 0 n (omega
 
 pub state_none : (n next : ℕ) (y : State) → next ≤ n → None ≡ (if (nat_lt 0 n && nat_lt n next) then Some y else None)
 state_none n next y l = let b : nat_lt n next ≡ false = le-ltb n next l in elim (cases_Bool (nat_lt 0 n)) [ inl a ↦ rw (a, b) refl | inr a ↦ rw a refl ]
+
+-- in lists of its own for what is near
+pub kept_near : (grid : Grid) (s : sections.Table) (b : Book) (events near made near_too made_too : ℕ) → IsKept grid s b events near made → 625 ≤ near_too → 625 ≤ made_too → IsKept grid s b events near_too made_too
+kept_near grid s b events near made near_too made_too k l m = record { same = k.same; numbers = k.numbers; rules = k.rules; presence = k.presence; spare = k.spare; room = k.room; near = l; made = m }
 
 pub alike_same : (b : Book) → IsAlike b b
 alike_same b = record { owner = refl; state = refl; waits = refl; live = refl; next = refl }

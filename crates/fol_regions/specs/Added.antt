@@ -1,5 +1,5 @@
 -- What the steps of a hold more do to the tables of regions.
-use Rattle.std.specs.Prelude.{◌≡◌, ◌≢◌, ◌⊎◌, ◌∷◌, ℕ, ◌+◌, ◌<◌, ◌≤◌, Bool, true, false, not, ◌&&◌, ◌||◌, nat_eq, nat_lt, if◌then◌else◌, List, [], ◌++◌, length, filter, map}
+use Rattle.std.specs.Prelude.{◌≡◌, ◌≢◌, ◌⊎◌, ◌∷◌, ℕ, ◌+◌, ◌<◌, ◌≤◌, Bool, true, false, not, ◌&&◌, ◌||◌, nat_eq, if◌then◌else◌, List, [], ◌++◌, length, filter}
 use Rattle.std.specs.List.{list_any}
 use Rattle.fol_lists.specs.Numbered.{total}
 use Rattle.fol_model.specs.declared.places.ChunkPos.{ChunkPos}

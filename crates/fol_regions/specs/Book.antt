@@ -1,5 +1,5 @@
 -- What the tables of the regions say: who owns each section, what each region may do, which region waits for which, and the lists of each.
-use Rattle.std.specs.Prelude.{◌≡◌, ◌≢◌, [], ℕ, ℤ, ◌+◌, ◌*◌, ◌<◌, ◌≤◌, Bool, true, not, ◌&&◌, ◌||◌, nat_eq, nat_lt, if◌then◌else◌, List, filter, length}
+use Rattle.std.specs.Prelude.{◌≡◌, ◌≢◌, [], ℕ, ℤ, ◌+◌, ◌<◌, ◌≤◌, Bool, true, not, ◌&&◌, ◌||◌, nat_eq, nat_lt, if◌then◌else◌, List, filter, length}
 use Rattle.std.specs.List.{list_any}
 use Rattle.fol_lists.specs.Numbered.{Numbered, list_at, total}
 use Rattle.fol_model.specs.declared.places.SectionPos.{SectionPos}

@@ -1,6 +1,6 @@
 //! The loaded chunks of some sections, counted section by section.
 
-ghost use Rattle.std.specs.Prelude.{◌≡◌, ◌&&◌, nat_lt, count_by};
+ghost use Rattle.std.specs.Prelude.{◌≡◌, ◌*◌, ◌≤◌, ◌&&◌, nat_lt, count_by, length};
 ghost use Rattle.std.specs.List.Sorted.{IsStrictlySortedBy};
 ghost use Rattle.fol_model.specs.Geometry.{section_of};
 ghost use Rattle.fol_model.specs.Universe.{all_chunks, section_cmp};
@@ -10,10 +10,12 @@ ghost use Rattle.fol_regions.specs.Rows.{is_among};
 use fol_model::SectionPos;
 use fol_sections::Sections;
 
-/// How many loaded chunks the sections of a rising list have.
+/// How many loaded chunks the sections of a rising list have, at most 1,024 each.
 pub fn count_chunks(sections: &Sections, row: &[SectionPos]) -> u64
     requires rising { IsStrictlySortedBy section_cmp row.now }
-    ensures { result ≡ count_by (λ c. nat_lt 0 (holds_of sections.now c) && is_among row.now (section_of sections.now.grid c)) all_chunks }
+    requires few { length row.now ≤ 16384 }
+    ensures value { result ≡ count_by (λ c. nat_lt 0 (holds_of sections.now c) && is_among row.now (section_of sections.now.grid c)) all_chunks }
+    ensures few { result ≤ 1024 * length row.now }
 {
     let mut count = 0;
     for s in row {

@@ -11,6 +11,7 @@
 mod add;
 mod answers;
 mod change;
+mod chunks;
 mod counts;
 mod links;
 mod near;
@@ -21,6 +22,8 @@ mod release;
 mod rows;
 mod slots;
 mod tables;
+#[cfg(test)]
+mod tests;
 
 pub use answers::{AddAnswer, Begun};
 pub use change::{Change, MergePair};

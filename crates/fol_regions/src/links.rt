@@ -2,7 +2,7 @@
 
 ghost use Rattle.std.specs.Prelude.{◌≡◌, ◌+◌, ◌<◌, ◌≤◌, ◌^◌, [], length, replicate, IfOk, OnOk};
 ghost use Rattle.std.specs.Vec.{vec_capacity};
-ghost use Rattle.fol_lists.specs.Numbered.{list_at, total, with_list};
+ghost use Rattle.fol_lists.specs.Numbered.{list_at, total, with_list, with_numbers};
 ghost use Rattle.fol_regions.specs.Links.{with_id, without_id};
 
 use fol_lists::Lists;
@@ -107,12 +107,14 @@ impl Links {
         Ok(())
     }
 
-    /// The same lists with the same room, in memory of their own.
-    pub fn copy(&self, alloc: Global) -> Result<Links, AllocError>
-        ensures { IfOk result (λ v. v ≡ self.now) }
+    /// The same lists with the same room, and empty ones up to so many numbers, in memory of their own.
+    pub fn copy(&self, alloc: Global, numbers: usize) -> Result<Links, AllocError>
+        ensures { IfOk result (λ v. v ≡ with_numbers self.now numbers) }
     {
+        let mut lists = self.lists.copy(alloc)?;
+        lists.reserve_numbers(numbers)?;
         Ok(Links {
-            lists: self.lists.copy(alloc)?,
+            lists,
             made: Vec::with_capacity(alloc, self.room)?,
             used: self.used,
             room: self.room,

@@ -15,6 +15,7 @@ ghost use Rattle.fol_regions.specs.Changes.{add_change, release_change};
 ghost use Rattle.fol_regions.specs.Answers.{IsGiven, add_answer, remove_answer, begin_answer, begun_state, some_id, state_answer};
 
 use crate::add::hold;
+use crate::chunks::list_chunks;
 use crate::counts::count_chunks;
 use crate::release::Releaser;
 use crate::tables::Tables;
@@ -73,6 +74,24 @@ impl Regions {
             made: Vec::with_capacity(alloc, MOST_NEAR)?,
             change: Change::new(alloc)?,
             spare: 0,
+        })
+    }
+
+    /// The same table, with the same last change and memory for as many events, in memory of its own.
+    pub fn copy(&self, alloc: Global) -> Result<Regions, AllocError>
+        ensures state { IfOk result (λ t. grid_state t ≡ grid_state self.now) }
+        ensures last { IfOk result (λ t. t.last ≡ self.now.last) }
+        ensures spare { IfOk result (λ t. self.now.spare ≤ t.spare) }
+    {
+        Ok(Regions {
+            grid: self.grid,
+            sections: self.sections.copy(alloc)?,
+            tables: self.tables.copy(alloc)?,
+            releaser: Releaser::new(alloc)?,
+            near: Vec::with_capacity(alloc, MOST_NEAR)?,
+            made: Vec::with_capacity(alloc, MOST_NEAR)?,
+            change: self.change.copy(alloc)?,
+            spare: self.spare,
         })
     }
 
@@ -199,6 +218,22 @@ impl Regions {
         }
     }
 
+    /// The id that the next new region gets: the ids below it were given out.
+    pub fn next_id(&self) -> u64
+        ensures { result ≡ (grid_state self.now).next }
+    {
+        self.tables.next_id()
+    }
+
+    /// The regions that are not Dead, rising. Goes over these alone, and takes memory for them.
+    pub fn live(&self, alloc: Global) -> Result<Vec<u64>, AllocError>
+        ensures { IfOk result (λ ids. ids.items ≡ filter (λ r. not (is_dead ((grid_state self.now).state r))) (numbers_below (grid_state self.now).next)) }
+    {
+        self.tables.keeps_lists();
+        self.tables.keeps_states();
+        self.tables.live(alloc)
+    }
+
     /// The Ticking regions that a region waits for, rising.
     pub fn waits_for(&self, id: u64) -> &[u64]
         requires given { IsGiven (grid_state self.now) id }
@@ -217,13 +252,26 @@ impl Regions {
         self.tables.sections(id)
     }
 
-    /// How many loaded chunks a region has.
+    /// How many loaded chunks a region has: at most 1,024 in each of at most 16,384 sections.
     pub fn chunk_count(&self, id: u64) -> u64
         requires given { IsGiven (grid_state self.now) id }
-        ensures { result ≡ chunk_count (grid_state self.now) id }
+        ensures value { result ≡ chunk_count (grid_state self.now) id }
+        ensures few { result < 2 ^ 32 }
     {
         self.tables.keeps_lists();
         count_chunks(&self.sections, self.tables.sections(id))
+    }
+
+    /// Puts the loaded chunks of a region into an empty list with room for them, by `(z, x)`. Takes no memory.
+    pub fn list_chunks(&self, id: u64, out: &mut Vec<ChunkPos>)
+        requires given { IsGiven (grid_state self.now) id }
+        requires empty { out.old.items ≡ [] }
+        requires room { chunk_count (grid_state self.now) id ≤ vec_capacity out.old }
+        ensures chunks { out.new.items ≡ filter (is_chunk_of (grid_state self.now) id) all_chunks }
+        ensures capacity { vec_capacity out.new ≡ vec_capacity out.old }
+    {
+        self.tables.keeps_lists();
+        list_chunks(&self.sections, self.tables.sections(id), out);
     }
 
     /// How many holds a chunk has.

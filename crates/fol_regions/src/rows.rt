@@ -4,7 +4,7 @@ ghost use Rattle.std.specs.Prelude.{◌≡◌, ◌≢◌, ◌+◌, ◌<◌, ◌�
 ghost use Rattle.std.specs.List.{All};
 ghost use Rattle.std.specs.List.Sorted.{IsStrictlySortedBy};
 ghost use Rattle.std.specs.Vec.{vec_capacity};
-ghost use Rattle.fol_lists.specs.Numbered.{list_at, total, with_list};
+ghost use Rattle.fol_lists.specs.Numbered.{list_at, total, with_list, with_numbers};
 ghost use Rattle.fol_model.specs.Geometry.{is_section};
 ghost use Rattle.fol_model.specs.Universe.{section_cmp};
 ghost use Rattle.fol_regions.specs.Rows.{united, IsRow};
@@ -46,6 +46,18 @@ impl Rows {
     {
         Ok(Rows {
             lists: Lists::new(alloc, numbers, MOST)?,
+            made: Vec::with_capacity(alloc, MOST)?,
+        })
+    }
+
+    /// The same lists, and empty ones up to so many numbers, in memory of their own.
+    pub fn copy(&self, alloc: Global, numbers: usize) -> Result<Rows, AllocError>
+        ensures { IfOk result (λ v. v ≡ with_numbers self.now numbers) }
+    {
+        let mut lists = self.lists.copy(alloc)?;
+        lists.reserve_numbers(numbers)?;
+        Ok(Rows {
+            lists,
             made: Vec::with_capacity(alloc, MOST)?,
         })
     }

@@ -1,7 +1,10 @@
 //! The regions that are not Dead, by id.
 
-ghost use Rattle.std.specs.Prelude.{◌≡◌, ◌≢◌, ℕ, ◌+◌, ◌*◌, ◌<◌, ◌≤◌, nat_eq, if◌then◌else◌, Some, None, cond, IfOk, count_by, is_some};
+ghost use Rattle.std.specs.Prelude.{◌≡◌, ◌≢◌, ℕ, ◌+◌, ◌*◌, ◌<◌, ◌≤◌, nat_eq, nat_lt, if◌then◌else◌, Some, None, cond, IfOk, count_by, is_some};
 ghost use Rattle.std.specs.HashMap.{get as number_of, hash_map_len, spare};
+ghost use Rattle.std.specs.List.{list_any};
+ghost use Rattle.std.specs.List.Sorted.{IsStrictlySortedBy};
+ghost use Rattle.std.specs.Ordering.{nat_cmp};
 ghost use Rattle.fol_model.specs.declared.regions.State.TheVariants.{Dead};
 ghost use Rattle.fol_model.specs.GridState.{with_state};
 ghost use Rattle.fol_regions.specs.SlotKeys.{AreKeys};
@@ -61,6 +64,19 @@ impl Slots {
         })
     }
 
+    /// The same regions in the same slots, in memory of their own. There may be more slots.
+    pub fn copy(&self, alloc: Global) -> Result<Slots, AllocError>
+        ensures regions { IfOk result (λ v. v.regions ≡ self.now.regions) }
+        ensures room { IfOk result (λ v. self.now.room ≤ v.room) }
+    {
+        let mut regions = self.regions.clone()?;
+        regions.reserve(self.regions.capacity() - self.regions.len())?;
+        let most = 2 * regions.capacity();
+        let mut keys = self.keys.clone()?;
+        keys.reserve(most)?;
+        Ok(Slots { regions, keys })
+    }
+
     /// How many slots there are.
     pub fn room(&self) -> usize
         ensures room { result ≡ self.now.room }
@@ -104,6 +120,21 @@ impl Slots {
             Some(region) => region.state,
             None => State::Dead,
         }
+    }
+
+    /// The ids of the regions that have a slot, rising. Goes over the slots, so a Dead region costs nothing.
+    pub fn ids(&self, alloc: Global) -> Result<Vec<u64>, AllocError>
+        ensures rising { IfOk result (λ ids. IsStrictlySortedBy nat_cmp ids.items) }
+        ensures members { IfOk result (λ ids. (id : ℕ) → list_any (nat_eq id) ids.items ≡ nat_lt (slot_of self.now id) self.now.room) }
+    {
+        let mut ids = Vec::with_capacity(alloc, self.regions.len())?;
+        for slot in 0..self.regions.capacity() {
+            if let Some(region) = self.regions.get(slot) {
+                ids.push(region.id)?;
+            }
+        }
+        ids.sort_unstable();
+        Ok(ids)
     }
 
     /// Changes the state of a region that has a slot.

@@ -4,7 +4,7 @@ ghost use Rattle.std.specs.Prelude.{◌≡◌, ◌≢◌, ℕ, ◌+◌, ◌<◌,
 ghost use Rattle.fol_lists.specs.Numbered.{total};
 ghost use Rattle.fol_model.specs.declared.places.SectionPos.{SectionPos};
 ghost use Rattle.fol_model.specs.declared.regions.State.TheVariants.{Ready};
-ghost use Rattle.fol_model.specs.Universe.{all_sections, count_sections};
+ghost use Rattle.fol_model.specs.Universe.{all_sections, count_sections, numbers_below};
 ghost use Rattle.fol_regions.specs.Links.{first_id};
 ghost use Rattle.fol_regions.specs.Rows.{is_among};
 
@@ -67,6 +67,28 @@ impl Tables {
         })
     }
 
+    /// The same tables with the same room, in memory of their own.
+    pub fn copy(&self, alloc: Global) -> Result<Tables, AllocError>
+        ensures same { IfOk result (IsAlike self.now) }
+        ensures free { IfOk result (λ b. self.now.free ≤ b.free) }
+        ensures ahead { IfOk result (λ b. (total b.ahead ≡ total self.now.ahead) × (b.ahead.room ≡ self.now.ahead.room)) }
+        ensures behind { IfOk result (λ b. (total b.behind ≡ total self.now.behind) × (b.behind.room ≡ self.now.behind.room)) }
+    {
+        self.slots.keeps_slots();
+        let slots = self.slots.copy(alloc)?;
+        let numbers = slots.room();
+        let mut owners = self.owners.clone()?;
+        owners.reserve(self.owners.capacity() - self.owners.len())?;
+        Ok(Tables {
+            owners,
+            slots,
+            rows: self.rows.copy(alloc, numbers)?,
+            ahead: self.ahead.copy(alloc, numbers)?,
+            behind: self.behind.copy(alloc, numbers)?,
+            next: self.next,
+        })
+    }
+
     /// What the lists of the tables keep.
     pub fn keeps_lists(&self)
         ensures { IsBook self.now }
@@ -86,6 +108,13 @@ impl Tables {
         ensures { result ≡ state_of self.now id }
     {
         self.slots.state(id)
+    }
+
+    /// The regions that have a slot, rising.
+    pub fn live(&self, alloc: Global) -> Result<Vec<u64>, AllocError>
+        ensures { IfOk result (λ ids. ids.items ≡ filter (is_live self.now) (numbers_below self.now.next)) }
+    {
+        self.slots.ids(alloc)
     }
 
     /// The sections of a region, in order; none where it has no slot.

@@ -1,8 +1,8 @@
-use Rattle.std.proofs.Common.{◌≡◌, ◌<◌, ◌+◌, sym, ◌∙◌, ap, arith, subst, cond, get_or, take, true, false, length, inl, inr, ℕ}
+use Rattle.std.proofs.Common.{◌≡◌, sym, ◌∙◌, ap, arith, subst, cond, get_or, true, false, inl, inr}
 use Rattle.std.specs.Prelude.{nat_eq}
 use Rattle.std.proofs.lemmas.Bool.{cases_eq, eq-eqb, ne_eqb}
 use Rattle.std.proofs.lemmas.List.{take_all}
-use Rattle.fol_regions.specs.Added.{IsChoice, calm_size, is_id}
+use Rattle.fol_regions.specs.Added.{IsChoice, calm_size}
 use Rattle.fol_regions.proofs.AddSteps.{choice_none, choice_taken, choice_left, better_than, id_at}
 use Rattle.fol_regions.proofs.add.choose.Goals as goal
 use Rattle.fol_regions.proofs.add.choose.Goals.{then-is_better, else-is_better}

@@ -1,14 +1,11 @@
-use Rattle.std.proofs.Common.{◌≡◌, ◌+◌, sym, ◌∙◌, ap, subst, length, List, ℕ}
-use Rattle.std.specs.Prelude.{filter, nat_eq}
-use Rattle.std.specs.List.Sorted.{IsStrictlySortedBy}
+use Rattle.std.proofs.Common.{◌+◌, sym, ◌∙◌, ap, subst}
+use Rattle.std.specs.Prelude.{filter}
 use Rattle.std.specs.Ordering.{nat_cmp}
 use Rattle.std.proofs.lemmas.List.Kept.{IsStrictlySortedBy-filter}
-use Rattle.fol_model.specs.declared.places.SectionPos.{SectionPos}
-use Rattle.fol_model.specs.Add.{is_wanted}
 use Rattle.fol_model.specs.Geometry.{section_of}
 use Rattle.fol_model.specs.Universe.{all_sections, numbers_below}
 use Rattle.fol_laws.proofs.NumberOrder.{numbers_sorted}
-use Rattle.fol_regions.specs.Added.{Grows, Waits, bare}
+use Rattle.fol_regions.specs.Added.{Waits}
 use Rattle.fol_regions.specs.Book.{owner_of}
 use Rattle.fol_regions.specs.Near.{is_close}
 use Rattle.fol_regions.specs.Rows.{is_among}

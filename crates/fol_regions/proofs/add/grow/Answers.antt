@@ -1,10 +1,10 @@
-use Rattle.std.proofs.Common.{◌≡◌, ◌<◌, ◌≤◌, ℕ, refl, sym, ◌∙◌, ap, arith, subst, cond, true, false, [], ◌∷◌, ◌++◌, List, length, Bool, not, ◌&&◌}
+use Rattle.std.proofs.Common.{◌≡◌, ◌<◌, ℕ, refl, sym, ◌∙◌, ap, arith, subst, cond, true, false, [], ◌∷◌, ◌++◌, List, Bool, not, ◌&&◌}
 use Rattle.std.specs.Prelude.{nat_eq, filter}
 use Rattle.std.proofs.lemmas.Bool.{eq-eqb, ne_eqb, or_left, or_right}
 use Rattle.fol_model.specs.GridState.{is_ticking}
-use Rattle.fol_regions.specs.Added.{IsChoice, Grows, calm_size, is_calm, is_drawn, is_id}
-use Rattle.fol_regions.specs.Book.{Book, state_of}
-use Rattle.fol_regions.specs.Changes.{Changes, into, nothing}
+use Rattle.fol_regions.specs.Added.{IsChoice, Grows, calm_size, is_drawn, is_id}
+use Rattle.fol_regions.specs.Book.{state_of}
+use Rattle.fol_regions.specs.Changes.{Changes, into}
 use Rattle.fol_regions.proofs.GrowSteps as grow
 use Rattle.fol_regions.proofs.add.grow.Goals as goal
 

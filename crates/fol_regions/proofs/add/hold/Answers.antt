@@ -1,9 +1,8 @@
-use Rattle.std.proofs.Common.{◌≡◌, ◌+◌, ◌≤◌, ℕ, sym, ◌∙◌, ap, arith, subst, length, List, Bool}
-use Rattle.std.proofs.lemmas.Bool.{eqb-false, ltb-false}
+use Rattle.std.proofs.Common.{◌≡◌, sym, ◌∙◌, ap, arith, subst, Bool}
+use Rattle.std.proofs.lemmas.Bool.{eqb-false}
 use Rattle.fol_model.specs.declared.grids.Grid.{Grid}
 use Rattle.fol_model.specs.declared.places.SectionPos.{SectionPos}
 use Rattle.fol_model.specs.Add.{extended, is_wanted, wanted}
-use Rattle.fol_model.specs.GridState as grid
 use Rattle.fol_model.specs.Rules.{Rules}
 use Rattle.fol_model.specs.Universe.{all_sections}
 use Rattle.std.specs.Prelude.{filter}

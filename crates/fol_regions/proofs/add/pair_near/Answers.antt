@@ -1,10 +1,9 @@
-use Rattle.std.proofs.Common.{◌≡◌, ◌≤◌, ◌<◌, ◌+◌, sym, ◌∙◌, ap, arith, subst, get_or, take, true, false, length, ℕ, Bool, List}
+use Rattle.std.proofs.Common.{◌≡◌, ◌+◌, sym, ◌∙◌, ap, arith, subst, get_or, take, length, ℕ}
 use Rattle.std.proofs.lemmas.List.{take_all, length-take-le}
 use Rattle.fol_model.specs.declared.regions.State.{State}
 use Rattle.fol_model.specs.GridState.{is_ticking}
-use Rattle.fol_regions.specs.Added.{Waits, is_id}
-use Rattle.fol_regions.specs.Book.{Book, is_live, state_of}
-use Rattle.fol_regions.proofs.AddSteps.{waits_none, waits_left, waits_taken, id_more, id_at}
+use Rattle.fol_regions.specs.Added.{Waits}
+use Rattle.fol_regions.proofs.AddSteps.{waits_left, waits_taken, id_more}
 use Rattle.fol_regions.proofs.add.pair_near.Goals as goal
 use Rattle.fol_regions.proofs.add.pair_near.Goals.{then-is_ticking, else-is_ticking}
 

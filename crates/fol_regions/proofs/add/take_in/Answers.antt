@@ -1,10 +1,8 @@
-use Rattle.std.proofs.Common.{[], ◌∷◌, ◌++◌, ◌≡◌, ◌≤◌, ◌<◌, ◌+◌, refl, sym, ◌∙◌, ap, arith, subst, get_or, take, true, false, length, ℕ, Bool, List, length-append}
+use Rattle.std.proofs.Common.{[], ◌∷◌, ◌++◌, ◌≡◌, ◌+◌, refl, sym, ◌∙◌, ap, arith, subst, get_or, take, length, ℕ, List, length-append}
 use Rattle.std.specs.Prelude.{filter}
 use Rattle.std.proofs.lemmas.List.{take_all, length-take-le, length-map}
 use Rattle.std.proofs.lemmas.List.Folds.{list_any_more}
-use Rattle.fol_model.specs.GridState.{is_ticking}
-use Rattle.fol_regions.specs.Added.{Gathers, gathered, is_drawn, is_id}
-use Rattle.fol_regions.specs.Book.{Book, is_live, state_of}
+use Rattle.fol_regions.specs.Added.{Gathers, gathered, is_drawn}
 use Rattle.fol_regions.specs.declared.change.MergePair.{MergePair}
 use Rattle.fol_regions.specs.Changes.{Changes, into}
 use Rattle.fol_regions.proofs.AddSteps as steps

@@ -1,6 +1,5 @@
 use Rattle.std.proofs.Common.{◌≡◌, take}
 use Rattle.fol_regions.specs.Added.{Gathers, gathered, is_drawn}
-use Rattle.fol_regions.proofs.AddSteps.{gathers_none}
 use Rattle.fol_regions.proofs.add.take_in.Given as goal
 
 abbrev pub invariant-loop-id : goal.invariant-loop-id

@@ -1,10 +1,9 @@
-use Rattle.std.proofs.Common.{◌≡◌, ◌<◌, ◌+◌, ◌*◌, ◌++◌, [], sym, ◌∙◌, ap, arith, length, List}
-use Rattle.std.specs.Prelude.{pos, ◌-ℤ◌, nat_abs}
+use Rattle.std.proofs.Common.{◌≡◌, ◌<◌, ◌+◌, ◌*◌, sym, ◌∙◌, ap, arith, length}
 use borrow.Author.Differences.{ints}
 use Rattle.fol_model.specs.declared.places.SectionPos.{SectionPos}
-use Rattle.fol_model.specs.Universe.{numbers_below, square}
+use Rattle.fol_model.specs.Universe.{numbers_below}
 use Rattle.fol_regions.specs.Book.{owner_of}
-use Rattle.fol_regions.specs.Near.{regions_of, rows_of, row_of, has_one, is_close}
+use Rattle.fol_regions.specs.Near.{regions_of, rows_of}
 use Rattle.fol_regions.proofs.BookFacts.{owner_live, live_next}
 use Rattle.fol_regions.proofs.Chosen.{filter_like}
 use Rattle.fol_regions.proofs.NearRegions.{regions_none, regions_square, rows-none, rows-more, rows-square}

@@ -1,4 +1,4 @@
-use Rattle.std.proofs.Common.{◌≡◌, ◌<◌, ◌+◌, ◌++◌, [], ◌∷◌, sym, ◌∙◌, ap, arith, append_assoc, List}
+use Rattle.std.proofs.Common.{◌≡◌, ◌<◌, ◌++◌, [], ◌∷◌, sym, ◌∙◌, ap, arith, append_assoc}
 use Rattle.std.specs.Prelude.{pos, ◌+ℤ◌}
 use Rattle.fol_model.specs.declared.places.SectionPos.{SectionPos}
 use Rattle.fol_regions.specs.Book.{owner_of}

@@ -1,4 +1,4 @@
-use Rattle.std.proofs.Common.{sym, ◌∙◌, ap, rules, arith, ◌≡◌, ℕ}
+use Rattle.std.proofs.Common.{sym, ◌∙◌, ap, rules, arith, ◌≡◌}
 use Rattle.std.specs.Prelude.{is_some}
 use Rattle.std.specs.Option.{option_copied_mut, unwrap_or}
 use Rattle.std.proofs.lemmas.Int.{to_z-of_z}

@@ -1,7 +1,7 @@
-use Rattle.std.proofs.Common.{◌≡◌, ◌<◌, ◌≤◌, ap, sym, arith, length, take, get_or, [], length-take-le}
+use Rattle.std.proofs.Common.{ap, sym, arith, length, take, [], length-take-le}
 use Rattle.std.proofs.lemmas.List.{length-map, take_more}
 use Rattle.fol_regions.specs.declared.change.MergePair.{MergePair}
-use Rattle.fol_regions.specs.Changes.{Changes, into}
+use Rattle.fol_regions.specs.Changes.{Changes}
 use Rattle.fol_regions.proofs.JoinAll.{still_live, t_live, still_last, joined_more, into_more, apart_at, ids_few}
 use Rattle.fol_regions.proofs.release.join_all.Goals as goal
 

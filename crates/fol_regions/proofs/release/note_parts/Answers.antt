@@ -1,4 +1,4 @@
-use Rattle.std.proofs.Common.{◌≡◌, ◌+◌, ap, arith, ◌∷◌, [], ◌++◌, length, length-append}
+use Rattle.std.proofs.Common.{◌+◌, ap, arith, ◌∷◌, [], length, length-append}
 use Rattle.std.proofs.lemmas.List.{append_assoc}
 use Rattle.std.proofs.lemmas.List.FromFn.{length-range_with_len}
 use Rattle.std.specs.List.{range_with_len}

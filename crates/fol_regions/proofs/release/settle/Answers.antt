@@ -1,4 +1,4 @@
-use Rattle.std.proofs.Common.{◌≡◌, ◌<◌, ap, arith, not, length, []}
+use Rattle.std.proofs.Common.{ap, arith, not, length}
 use Rattle.std.specs.Prelude.{Bool}
 use Rattle.fol_model.specs.declared.places.SectionPos.{SectionPos}
 use Rattle.fol_regions.specs.Changes.{Changes}

@@ -1,4 +1,4 @@
-use Rattle.std.proofs.Common.{◌≡◌, ◌+◌, ◌++◌, [], ◌∷◌, sym, ◌∙◌, ap, arith, subst, get_or, length, drop, length-append, length-drop, List, inl, inr}
+use Rattle.std.proofs.Common.{◌+◌, ◌++◌, sym, ◌∙◌, ap, arith, subst, length, drop, length-append, length-drop, List, inl, inr}
 use Rattle.std.specs.Prelude.{pos}
 use Rattle.std.proofs.lemmas.List.{take_rest}
 use Rattle.fol_model.specs.declared.places.SectionPos.{SectionPos}

@@ -1,7 +1,5 @@
-use Rattle.std.proofs.Common.{◌≡◌, ◌≤◌, ◌+◌, ◌*◌, ◌-◌, ◌∙◌, refl, sym, ap, arith, subst}
-use Rattle.fol_model.specs.declared.grids.Grid.{Grid}
+use Rattle.std.proofs.Common.{◌∙◌, sym, arith, subst}
 use Rattle.fol_model.specs.GridNumbers.{IsGrid}
-use Rattle.fol_model.specs.GridState.{GridState}
 use Rattle.fol_model.specs.Rules.{Rules}
 use Rattle.fol_laws.proofs.RegionLaws.{add_keeps_rules}
 use Rattle.fol_regions.specs.Released.{grid_of}

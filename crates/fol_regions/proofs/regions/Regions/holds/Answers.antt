@@ -1,7 +1,4 @@
-use Rattle.std.proofs.Common.{◌≡◌, ◌∙◌, refl, sym, ap, arith}
-use Rattle.fol_regions.specs.Released.{grid_of}
 use Rattle.fol_regions.specs.Table.{grid_state}
-use Rattle.fol_regions.proofs.TableSteps as steps
 use Rattle.fol_regions.proofs.regions.Regions.holds.Goals as goal
 
 pub returns : goal.returns

@@ -1,7 +1,5 @@
-use Rattle.std.proofs.Common.{◌≡◌, ◌∙◌, refl, sym, ap, arith}
 use Rattle.fol_regions.specs.Released.{grid_of}
 use Rattle.fol_regions.specs.Table.{grid_state}
-use Rattle.fol_regions.proofs.TableSteps as steps
 use Rattle.fol_regions.proofs.regions.Regions.keeps_rules.Goals as goal
 
 pub returns : goal.returns

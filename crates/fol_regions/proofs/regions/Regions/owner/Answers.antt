@@ -1,5 +1,4 @@
-use Rattle.std.proofs.Common.{◌≡◌, ◌∙◌, refl, sym, ap, arith}
-use Rattle.fol_regions.specs.Released.{grid_of}
+use Rattle.std.proofs.Common.{◌∙◌, sym}
 use Rattle.fol_regions.specs.Table.{grid_state}
 use Rattle.fol_regions.proofs.TableSteps as steps
 use Rattle.fol_regions.proofs.regions.Regions.owner.Goals as goal

@@ -1,11 +1,9 @@
-use Rattle.std.proofs.Common.{◌≡◌, ◌<◌, ◌≤◌, ◌∙◌, refl, sym, ap, arith, not, true, false, length, [], List, ◌+◌}
-use Rattle.fol_model.specs.GridNumbers.{GridNumbers, IsGrid}
+use Rattle.std.proofs.Common.{◌≡◌, ◌∙◌, refl, sym, ap, arith, true, false, length, ◌+◌}
+use Rattle.fol_model.specs.GridNumbers.{GridNumbers}
 use Rattle.fol_model.specs.Release.{cleans, must_wait}
-use Rattle.fol_regions.specs.Book.{behind_of, is_live}
-use Rattle.fol_regions.specs.Changes.{Changes}
+use Rattle.fol_regions.specs.Book.{behind_of}
 use Rattle.fol_regions.specs.Released.{grid_of}
 use Rattle.fol_regions.proofs.JoinAll.{ids_few}
-use Rattle.fol_regions.proofs.JoinSteps.{rooms_both}
 use Rattle.fol_regions.proofs.ReleaseFacts as facts
 use Rattle.fol_regions.proofs.release.Releaser.release.Goals as goal
 

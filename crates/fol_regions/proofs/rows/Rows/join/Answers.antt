@@ -1,6 +1,6 @@
-use Rattle.std.proofs.Common.{◌≡◌, ◌≤◌, ◌+◌, ℕ, [], sym, ◌∙◌, ap, arith, length}
+use Rattle.std.proofs.Common.{◌≤◌, ◌+◌, ◌∙◌, ap, arith, length}
 use Rattle.fol_lists.specs.Numbered.{list_at, total, with_list}
-use Rattle.fol_regions.proofs.Totals.{two_le, total_two, list_le, total_with}
+use Rattle.fol_regions.proofs.Totals.{two_le, total_two}
 use Rattle.fol_regions.proofs.rows.Rows.join.Goals as goal
 
 pub merge-requires-clause-room : goal.merge-requires-clause-room

@@ -1,7 +1,6 @@
-use Rattle.std.proofs.Common.{◌≡◌, ℕ, ◌+◌, ◌<◌, sym, ◌∙◌, ap, arith}
+use Rattle.std.proofs.Common.{◌+◌, arith}
 use Rattle.std.specs.HashMap.{hash_map_len, spare}
-use Rattle.fol_regions.specs.declared.slots.Region.{Region}
-use Rattle.fol_regions.specs.Slots.{SlotTable, slot_of}
+use Rattle.fol_regions.specs.Slots.{SlotTable}
 use Rattle.fol_regions.proofs.SlotSteps.{free_slot, keys_come, slots-come, states-come}
 use Rattle.fol_regions.proofs.slots.Slots.insert.Goals as goal
 

@@ -1,7 +1,7 @@
-use Rattle.std.proofs.Common.{◌≡◌, ◌∙◌, ap, refl}
+use Rattle.std.proofs.Common.{ap}
 use Rattle.std.specs.Prelude.{None}
 use Rattle.std.specs.List.{slice_index_or}
-use Rattle.fol_regions.specs.Slots.{SlotTable, has_id, slot_of}
+use Rattle.fol_regions.specs.Slots.{has_id, slot_of}
 use Rattle.fol_regions.proofs.SlotSteps.{least-none}
 use Rattle.fol_regions.proofs.slots.Slots.new.Goals as goal
 

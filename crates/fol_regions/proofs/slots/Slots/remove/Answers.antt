@@ -1,6 +1,6 @@
-use Rattle.std.proofs.Common.{◌≡◌, ◌+◌, sym, ◌∙◌, ap}
+use Rattle.std.proofs.Common.{◌+◌}
 use Rattle.std.specs.HashMap.{hash_map_len, spare}
-use Rattle.fol_regions.specs.Slots.{SlotTable, slot_of}
+use Rattle.fol_regions.specs.Slots.{SlotTable}
 use Rattle.fol_regions.proofs.SlotSteps.{removed_slots, removed_states}
 use Rattle.fol_regions.proofs.slots.Slots.remove.Goals as goal
 

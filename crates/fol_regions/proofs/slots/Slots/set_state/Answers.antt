@@ -1,8 +1,7 @@
-use Rattle.std.proofs.Common.{◌≡◌, ◌+◌, sym, ◌∙◌, ap, arith, ◌<◌}
+use Rattle.std.proofs.Common.{◌≡◌, sym, ◌∙◌, ap, arith}
 use Rattle.std.specs.Prelude.{ℕ, Some, None}
 use Rattle.std.specs.List.{slice_index_or}
 use Rattle.fol_regions.specs.declared.slots.Region.{Region}
-use Rattle.std.specs.HashMap.{hash_map_len, spare}
 use Rattle.fol_model.specs.GridState.{with_state}
 use Rattle.fol_regions.specs.Slots.{SlotTable, slot_of, slot_state}
 use Rattle.fol_regions.proofs.SlotSteps.{slot_has, set_slots, set_states}

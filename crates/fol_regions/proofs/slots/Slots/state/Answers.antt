@@ -1,7 +1,7 @@
 use Rattle.std.proofs.Common.{◌≡◌, sym, ◌∙◌, ap}
 use Rattle.std.specs.Prelude.{Some, None}
 use Rattle.std.specs.Option.{option_copied}
-use Rattle.fol_regions.specs.Slots.{SlotTable, region_at, state_in, slot_of, slot_state}
+use Rattle.fol_regions.specs.Slots.{SlotTable, region_at, state_in, slot_state}
 use Rattle.fol_regions.proofs.slots.Slots.state.Goals as goal
 
 pub returns-in-Some : goal.returns-in-Some

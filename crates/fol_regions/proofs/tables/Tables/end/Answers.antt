@@ -1,8 +1,6 @@
-use Rattle.std.proofs.Common.{refl, true, false, ◌≡◌, [], ◌∙◌, sym, ap, if◌then◌else◌, cond}
+use Rattle.std.proofs.Common.{refl}
 use Rattle.std.specs.HashMap.{spare}
-use Rattle.fol_model.specs.declared.places.SectionPos.{SectionPos}
 use Rattle.fol_regions.specs.Book.{Book, owner_of, rows_of}
-use Rattle.fol_regions.specs.Rows.{is_among}
 use Rattle.fol_regions.proofs.PartedBooks.{slot_listed, ended_book, ended_is}
 use Rattle.fol_regions.proofs.tables.Tables.end.Goals as goal
 

@@ -1,11 +1,8 @@
-use Rattle.std.proofs.Common.{◌≡◌, ◌≤◌, ◌+◌, ℕ, refl, sym, ◌∙◌, ap, arith, true, length, List, cond}
+use Rattle.std.proofs.Common.{◌∙◌, ap, arith}
 use Rattle.std.specs.HashMap.{spare}
-use Rattle.fol_lists.specs.Numbered.{list_at, total, with_list}
-use Rattle.fol_model.specs.declared.places.SectionPos.{SectionPos}
-use Rattle.fol_regions.specs.Rows.{IsRow, is_among, united}
-use Rattle.fol_regions.specs.Slots.{slot_of}
-use Rattle.fol_regions.specs.Book.{Book, IsBook, Gives, owner_of, rows_of}
-use Rattle.fol_regions.specs.Owners.{owner_in}
+use Rattle.fol_lists.specs.Numbered.{list_at, with_list}
+use Rattle.fol_regions.specs.Rows.{is_among, united}
+use Rattle.fol_regions.specs.Book.{Book, owner_of, rows_of}
 use Rattle.fol_regions.proofs.BookFacts.{live_slot}
 use Rattle.fol_regions.proofs.Chosen.{row_chosen}
 use Rattle.fol_regions.proofs.GiveSteps.{given_book, given_is}

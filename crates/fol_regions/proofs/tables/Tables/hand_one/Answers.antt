@@ -1,4 +1,4 @@
-use Rattle.std.proofs.Common.{◌≡◌, ℕ, sym, ◌∙◌, ap, arith, Bool}
+use Rattle.std.proofs.Common.{ℕ, ◌∙◌, ap, arith, Bool}
 use Rattle.fol_regions.proofs.BookFacts.{awaited_lives}
 use Rattle.fol_regions.proofs.tables.Tables.hand_one.Goals as goal
 

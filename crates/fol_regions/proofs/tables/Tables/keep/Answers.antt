@@ -1,4 +1,4 @@
-use Rattle.std.proofs.Common.{refl, not, true, ◌≡◌, ap, length}
+use Rattle.std.proofs.Common.{refl, not}
 use Rattle.std.specs.HashMap.{spare}
 use Rattle.fol_model.specs.declared.places.SectionPos.{SectionPos}
 use Rattle.fol_regions.specs.Book.{Book, owner_of}

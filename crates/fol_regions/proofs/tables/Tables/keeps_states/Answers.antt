@@ -1,5 +1,4 @@
 use Rattle.fol_regions.proofs.ReleaseFacts.{state_lives}
-use Rattle.fol_regions.specs.Book.{state_of, is_live}
 use Rattle.fol_regions.proofs.tables.Tables.keeps_states.Goals as goal
 
 pub returns : goal.returns

@@ -1,12 +1,7 @@
-use Rattle.std.proofs.Common.{◌≡◌, ◌<◌, ◌≤◌, ◌+◌, ℕ, refl, sym, ◌∙◌, ap, arith, true, false, Bool, cond, length, List, inl, inr}
+use Rattle.std.proofs.Common.{arith, inl, inr}
 use Rattle.std.specs.HashMap.{spare}
 use Rattle.std.proofs.lemmas.Bool.{cases_Bool}
-use Rattle.fol_lists.specs.Numbered.{list_at, total, with_list}
-use Rattle.fol_model.specs.declared.places.SectionPos.{SectionPos}
-use Rattle.fol_regions.specs.Owners.{owner_in}
-use Rattle.fol_regions.specs.Rows.{is_among}
-use Rattle.fol_regions.specs.Slots.{slot_of}
-use Rattle.fol_regions.specs.Book.{Book, IsBook, owner_of, is_live}
+use Rattle.fol_regions.specs.Book.{Book, owner_of, is_live}
 use Rattle.fol_regions.proofs.BookFacts.{not_live, live_next}
 use Rattle.fol_regions.proofs.MakeSteps.{regions_few, made_book, made_is}
 use Rattle.fol_regions.proofs.Totals.{total_with}

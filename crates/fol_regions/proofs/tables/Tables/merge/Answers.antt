@@ -1,16 +1,15 @@
-use Rattle.std.proofs.Common.{◌≡◌, ◌<◌, ◌≤◌, ◌+◌, ℕ, refl, sym, ◌∙◌, ap, arith, true, false, Bool, not, cond, length, List, [], ◌&&◌}
-use Rattle.std.specs.Prelude.{◌≢◌, nat_eq}
+use Rattle.std.proofs.Common.{◌≡◌, ℕ, sym, ◌∙◌, ap, arith, false, Bool, not, cond, [], ◌&&◌}
+use Rattle.std.specs.Prelude.{nat_eq}
 use Rattle.std.specs.HashMap.{spare}
-use Rattle.std.proofs.lemmas.Bool.{cases_eq, eqb-true, eq-eqb, ne_eqb}
-use Rattle.fol_lists.specs.Numbered.{list_at, total, with_list}
+use Rattle.std.proofs.lemmas.Bool.{eqb-true}
+use Rattle.fol_lists.specs.Numbered.{list_at, with_list}
 use Rattle.fol_model.specs.declared.places.SectionPos.{SectionPos}
 use Rattle.fol_model.specs.declared.regions.State.{State}
 use Rattle.fol_model.specs.declared.regions.State.TheVariants.{Dead}
 use Rattle.fol_model.specs.GridState.{with_state}
 use Rattle.fol_regions.specs.Owners.{owner_in}
-use Rattle.fol_regions.specs.Rows.{IsRow, is_among, united}
-use Rattle.fol_regions.specs.Slots.{slot_of, slot_state}
-use Rattle.fol_regions.specs.Book.{Book, IsBook, Merges, owner_of, state_of, is_live, rows_of, waits_of, merged_waits}
+use Rattle.fol_regions.specs.Rows.{is_among, united}
+use Rattle.fol_regions.specs.Book.{Book, owner_of, state_of, rows_of, waits_of}
 use Rattle.fol_regions.proofs.BookFacts.{live_slot}
 use Rattle.fol_regions.proofs.Chosen.{row_chosen}
 use Rattle.fol_regions.proofs.SlotSteps.{slot_tells}

@@ -1,8 +1,7 @@
-use Rattle.std.proofs.Common.{◌≡◌, ℕ, refl, sym, ◌∙◌, ap, arith, []}
-use Rattle.std.specs.HashMap.{spare}
+use Rattle.std.proofs.Common.{refl, sym, ◌∙◌, ap, arith}
 use Rattle.std.proofs.lemmas.Bool.{le-ltb}
 use Rattle.fol_regions.specs.Owners.{owner_in}
-use Rattle.fol_regions.specs.Book.{Book, IsBook, owner_of, is_live}
+use Rattle.fol_regions.specs.Book.{owner_of, is_live}
 use Rattle.fol_regions.proofs.MakeSteps.{empty_book, nobody_owns}
 use Rattle.fol_regions.proofs.tables.Tables.new.Goals as goal
 

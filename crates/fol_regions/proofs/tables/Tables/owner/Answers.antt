@@ -1,5 +1,4 @@
 use Rattle.fol_regions.specs.Book.{owner_of}
-use Rattle.fol_regions.proofs.Chosen.{with_chosen, united_chosen}
 use Rattle.fol_regions.proofs.tables.Tables.owner.Goals as goal
 
 pub returns : goal.returns

@@ -1,14 +1,12 @@
-use Rattle.std.proofs.Common.{◌≡◌, ◌≤◌, ◌+◌, ℕ, refl, sym, ◌∙◌, ap, arith, true, false, not, length, List}
+use Rattle.std.proofs.Common.{◌∙◌, ap, arith, false, not}
 use Rattle.std.specs.Prelude.{nat_eq}
-use Rattle.std.specs.List.{list_any}
 use Rattle.std.specs.HashMap.{spare}
-use Rattle.fol_lists.specs.Numbered.{Numbered, list_at, total, with_list}
+use Rattle.fol_lists.specs.Numbered.{list_at, total, with_list}
 use Rattle.fol_regions.specs.Links.{without_id}
 use Rattle.fol_regions.specs.Slots.{slot_of}
-use Rattle.fol_regions.specs.Book.{Book, IsBook, SetsPair, ahead_of, behind_of, waits_of}
-use Rattle.fol_regions.proofs.BookFacts.{live_slot, live_next}
-use Rattle.fol_regions.proofs.Chosen.{chosen_below}
-use Rattle.fol_regions.proofs.PairSteps.{paired_book, paired_is, less_ahead, less_behind, with_few, without_fewer, behind_has}
+use Rattle.fol_regions.specs.Book.{Book, ahead_of, behind_of, waits_of}
+use Rattle.fol_regions.proofs.BookFacts.{live_slot}
+use Rattle.fol_regions.proofs.PairSteps.{paired_book, paired_is, less_ahead, less_behind, without_fewer, behind_has}
 use Rattle.fol_regions.proofs.LinkSteps.{filter_le}
 use Rattle.fol_regions.proofs.Totals.{total_with}
 use Rattle.fol_regions.proofs.tables.Tables.part.Goals as goal

@@ -1,9 +1,6 @@
-use Rattle.std.proofs.Common.{◌≡◌, ◌<◌, refl, sym, ◌∙◌, ap, arith, true, length}
+use Rattle.std.proofs.Common.{refl, arith}
 use Rattle.std.specs.HashMap.{spare}
-use Rattle.fol_model.specs.declared.places.SectionPos.{SectionPos}
-use Rattle.fol_regions.specs.Book.{Book, IsBook, owner_of, state_of, KeepsRoom}
-use Rattle.fol_regions.specs.Rows.{is_among}
-use Rattle.fol_regions.proofs.JoinSteps.{rooms_same}
+use Rattle.fol_regions.specs.Book.{Book, IsBook, owner_of}
 use Rattle.fol_regions.proofs.PartingSteps.{but_from, next_unused}
 use Rattle.fol_regions.proofs.PartedBooks.{slot_listed, gone_book, gone_dead, gone_pairs, gone_states}
 use Rattle.fol_regions.proofs.SplitSteps.{splitting_none, splitting_more, still_owned, part_fits, slots_for_part, split_book, split_is}

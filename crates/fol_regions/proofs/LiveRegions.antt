@@ -1,0 +1,134 @@
+-- The ids of the regions that have a slot, and that these are the regions that are not Dead.
+use Rattle.std.proofs.Common.{◌≡◌, ℕ, ◌+◌, ◌<◌, refl, sym, ◌∙◌, ap, arith, add-one, Bool, true, false, inl, inr, not, ◌||◌, List, [], ◌∷◌, ◌++◌, get_or}
+use Rattle.std.specs.Prelude.{◌≢◌, filter, nat_eq, nat_lt, pos, Some, None}
+use Rattle.std.specs.Cmp.{both_ways, nat_eq_equiv}
+use Rattle.std.specs.List.{IsDistinct, list_any}
+use Rattle.std.specs.List.Sorted.{IsPermutation, IsSorted, IsStrictlySortedBy}
+use Rattle.std.specs.Ordering.{nat_cmp}
+use Rattle.std.proofs.lemmas.Bool.{cases_Bool, true≢false, eqb-true, eq-eqb, lt-ltb, ltb-true}
+use Rattle.std.proofs.lemmas.List.Folds.{list_any-append}
+use Rattle.std.proofs.lemmas.List.Sorted.{IsNonDecreasingBy-from_sort, list_any-IsPermutation}
+use Rattle.std.proofs.lemmas.Map.Keys.{IsDistinct-IsPermutation, IsDistinct-push, IsStrictlyIncreasing-from_distinct, sorted_from_strictly_increasing}
+use Rattle.fol_model.specs.declared.places.SectionPos.{SectionPos}
+use Rattle.fol_model.specs.declared.regions.State.{State}
+use Rattle.fol_model.specs.declared.regions.State.TheVariants.{Transient, Ready, Ticking, Dead}
+use Rattle.fol_model.specs.Counting.{least, some_below}
+use Rattle.fol_model.specs.GridState.{is_dead}
+use Rattle.fol_model.specs.Rules.{Rules}
+use Rattle.fol_model.specs.Universe.{numbers_below}
+use Rattle.fol_laws.proofs.NumberOrder.{number_rows_are}
+use Rattle.fol_laws.proofs.NumbersBelow.{least-below, least-passes, some_below-gives, some_below-is}
+use Rattle.fol_sections.specs.Table as sections
+use Rattle.fol_regions.specs.declared.slots.Region.{Region}
+use Rattle.fol_regions.specs.Book.{Book, IsBook, is_live, owner_of, rows_of, state_of}
+use Rattle.fol_regions.specs.Released.{grid_of}
+use Rattle.fol_regions.specs.SlotKeys.{AreKeys}
+use Rattle.fol_regions.specs.Slots.{SlotTable, has_id, region_at, slot_of}
+use Rattle.fol_regions.proofs.Among.{among_at}
+use Rattle.fol_regions.proofs.Chosen.{filter_like}
+use Rattle.fol_regions.proofs.PartedBooks.{row_members}
+use Rattle.fol_regions.proofs.SlotSteps.{has-some, one_slot}
+use Rattle.fol_regions.proofs.TableSteps.{dead_if}
+
+-- each id in the first slots, once
+pub record AreIdsBelow (v : SlotTable) (n : ℕ) (ids : List ℕ) : Type 0 where
+  pub members : (id : ℕ) → list_any (nat_eq id) ids ≡ some_below (λ k. has_id id (region_at v k)) n
+  pub distinct : IsDistinct nat_eq ids
+
+nat_eq-swap : (a b : ℕ) → nat_eq a b ≡ nat_eq b a
+nat_eq-swap a b = both_ways (nat_eq a b) (nat_eq b a) (λ h. eq-eqb b a (sym (eqb-true a b h))) (λ h. eq-eqb a b (sym (eqb-true b a h)))
+
+or-swap : (a b : Bool) → (a || (b || false)) ≡ (b || a)
+or-swap true true = refl
+or-swap true false = refl
+or-swap false true = refl
+or-swap false false = refl
+
+module _ (v : SlotTable) where
+  pub ids_none : AreIdsBelow v 0 []
+  unfolding some_below IsDistinct
+  ids_none = record { members = λ id. refl; distinct = tt }
+
+  -- a slot of no region
+  pub ids_skip : (n : ℕ) (ids : List ℕ) → region_at v n ≡ None → AreIdsBelow v n ids → AreIdsBelow v (n + 1) ids
+  unfolding some_below
+  ids_skip n ids none h = record {
+    members = λ id. let e : has_id id (region_at v n) ≡ false = ap (has_id id) none in h.members id ∙ sym (rw (add-one, e) refl);
+    distinct = h.distinct;
+  }
+
+  -- some slot has the region exactly where the region's own slot is one
+  some_slot : (id : ℕ) → some_below (λ k. has_id id (region_at v k)) v.room ≡ nat_lt (slot_of v id) v.room
+  unfolding slot_of
+  some_slot id =
+      let p : ℕ → Bool = λ k. has_id id (region_at v k) in
+      both_ways (some_below p v.room) (nat_lt (least p v.room) v.room)
+      (λ h. let s = some_below-gives p v.room h in let l = least-below p v.room s.0 s.1 s.2 in let m = s.1 in lt-ltb (least p v.room) v.room (omega arith))
+      (λ h. let l = ltb-true (least p v.room) v.room h in some_below-is p v.room (least p v.room) l (least-passes p v.room l))
+
+  -- the ids of all slots, after a sort
+  module _ (n : ℕ) (whole : n ≡ v.room) (ids sorted : List ℕ) (h : AreIdsBelow v n ids) (moved : IsPermutation ids sorted) where
+    pub ids_rise : IsSorted nat_cmp sorted → IsStrictlySortedBy nat_cmp sorted
+    ids_rise up =
+        sorted_from_strictly_increasing sorted (IsStrictlyIncreasing-from_distinct sorted (IsNonDecreasingBy-from_sort (λ x. x) sorted up) (IsDistinct-IsPermutation nat_eq nat_eq-swap ids sorted moved h.distinct))
+
+    pub ids_of_all : (id : ℕ) → list_any (nat_eq id) sorted ≡ nat_lt (slot_of v id) v.room
+    ids_of_all id =
+        sym (list_any-IsPermutation (nat_eq id) ids sorted moved) ∙ h.members id ∙ ap (some_below (λ k. has_id id (region_at v k))) whole ∙ some_slot id
+
+  module _ (keys : List (ℕ × ℕ)) (fits : ℕ) (kept : AreKeys v.regions v.room keys fits) where
+    -- a slot with a region, whose id is in no slot before
+    fresh_id : (n : ℕ) (r : Region) → region_at v n ≡ Some r → some_below (λ k. has_id r.id (region_at v k)) n ≡ false
+    fresh_id n r here = elim (cases_Bool (some_below (λ k. has_id r.id (region_at v k)) n)) [
+      | inl e ↦
+          let s = some_below-gives (λ k. has_id r.id (region_at v k)) n e in
+          let x = has-some r.id (region_at v s.0) s.2 in
+          let same : s.0 ≡ n = one_slot v keys fits kept s.0 n x.0 r x.1 here x.2 in
+          let l = s.1 in
+          absurd (omega arith)
+      | inr e ↦ e
+    ]
+
+    pub ids_more : (n : ℕ) (ids : List ℕ) (r : Region) → region_at v n ≡ Some r → AreIdsBelow v n ids → AreIdsBelow v (n + 1) (ids ++ r.id ∷ [])
+    unfolding some_below
+    ids_more n ids r here h = record {
+      members = λ id.
+          let e : has_id id (region_at v n) ≡ nat_eq r.id id = ap (has_id id) here in
+          let rest = h.members id in
+          let swap = nat_eq-swap id r.id in
+          let both : (list_any (nat_eq id) ids || (nat_eq id r.id || false)) ≡ (nat_eq r.id id || some_below (λ k. has_id id (region_at v k)) n) =
+          rw (rest, swap) (or-swap (some_below (λ k. has_id id (region_at v k)) n) (nat_eq r.id id)) in
+          list_any-append (nat_eq id) ids (r.id ∷ []) ∙ both ∙ sym (rw (add-one, e) refl);
+      distinct = IsDistinct-push nat_eq_equiv ids r.id h.distinct (h.members r.id ∙ fresh_id n r here);
+    }
+
+-- ---- the regions of the tables
+pub live_rows : (b : Book) (ids : List ℕ) → IsBook b → IsStrictlySortedBy nat_cmp ids → ((id : ℕ) → list_any (nat_eq id) ids ≡ nat_lt (slot_of b.slots id) b.slots.room) → ids ≡ filter (is_live b) (numbers_below b.next)
+unfolding is_live
+live_rows b ids h rising members = (number_rows_are b.next (is_live b) ids rising members (λ k e. (h.given k e).1)).0
+
+not_dead : (x : State) → x ≢ Dead → is_dead x ≡ false
+not_dead Transient h = refl
+not_dead Ready h = refl
+not_dead Ticking h = refl
+not_dead Dead h = absurd (h refl)
+
+-- a region has a slot exactly where it is not Dead
+live_is : (s : sections.Table) (b : Book) → IsBook b → Rules (grid_of s b) → ((r : ℕ) → state_of b r ≢ Dead → is_live b r ≡ true) → (r : ℕ) → is_live b r ≡ not (is_dead (state_of b r))
+unfolding grid_of
+live_is s b h rules lives r = elim (cases_Bool (is_live b r)) [
+  | inl e ↦
+      let given = h.given r e in
+      let q : SectionPos = get_or (rows_of b r) 0 (record { x = pos 0; z = pos 0 }) in
+      let own : owner_of b q ≡ r = eqb-true _ _ (sym (row_members b r given.0 h q) ∙ among_at (rows_of b r) 0 (record { x = pos 0; z = pos 0 }) (h.some r e)) in
+      let some : 0 < owner_of b q = let p = given.0 in omega arith in
+      let alive : is_dead (state_of b r) ≡ false = not_dead (state_of b r) (λ dead. rules.owner_lives q some (ap (state_of b) own ∙ dead)) in
+      rw (e, alive) refl
+  | inr e ↦
+      let dead : state_of b r ≡ Dead = dead_if (state_of b r) (λ n. true≢false (sym (lives r n) ∙ e)) in
+      rw (e, dead) refl
+]
+
+pub live_regions : (s : sections.Table) (b : Book) (n : ℕ) → IsBook b → Rules (grid_of s b) → ((r : ℕ) → state_of b r ≢ Dead → is_live b r ≡ true)
+    → filter (is_live b) (numbers_below n) ≡ filter (λ r. not (is_dead (state_of b r))) (numbers_below n)
+live_regions s b n h rules lives = filter_like (is_live b) (λ r. not (is_dead (state_of b r))) (live_is s b h rules lives) (numbers_below n)

@@ -1,0 +1,5 @@
+use Rattle.fol_regions.proofs.LiveRegions.{AreIdsBelow}
+use Rattle.fol_regions.proofs.slots.Slots.ids.Given as goal
+
+abbrev pub invariant-loop-slot : goal.invariant-loop-slot
+invariant-loop-slot l = AreIdsBelow (record { regions = l.self-inside.regions.slots; room = l.self-inside.regions.capacity }) l.slot l.ids.items
