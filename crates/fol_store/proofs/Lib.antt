@@ -19,3 +19,8 @@ pub mod Filling
 pub mod Laying
 pub mod LayingThings
 pub mod Baring
+pub mod Timing
+pub mod Ordered
+pub mod Listing
+pub mod RowLists
+pub mod Returning

@@ -9,3 +9,5 @@ pub mod Moves
 pub mod Slots
 pub mod Steps
 pub mod Laid
+pub mod TaskRows
+pub mod Lists

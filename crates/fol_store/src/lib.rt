@@ -6,17 +6,22 @@
 //! moves nothing, and want of memory in the middle of a gathering does no harm.
 //!
 //! The crate promises that `accept` queues exactly the task, that `gather` makes a bag hold exactly what lies on its chunks and loses
-//! nothing elsewhere, and that `take` and `put` hand out and take back exactly that. Only `new`, `reserve` and `gather` take memory.
-//! It serves the core.
+//! nothing elsewhere, that `take` and `put` hand out and take back exactly that, and that `into_rows` lists all that the store holds. Only
+//! `new`, `reserve`, `gather` and `into_rows` take memory. It serves the core.
 #![tactic(auto)]
 
 mod places;
+mod rows;
 mod shift;
 mod slot;
 mod slots;
+mod sorting;
 mod spots;
 mod store;
 mod taken;
+#[cfg(test)]
+mod tests;
 
+pub use rows::Rows;
 pub use store::Store;
 pub use taken::Taken;

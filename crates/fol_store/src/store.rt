@@ -15,6 +15,7 @@ ghost use Rattle.fol_chunks.specs.Rows.{by_place, by_id};
 ghost use Rattle.fol_data.specs.Rests.{rests_of, IsInTime};
 ghost use Rattle.fol_store.specs.Bag.{no_bag, new_bag, disturbed, taken_out, put_back};
 ghost use Rattle.fol_store.specs.Gathered.{AreFree, OthersSpared, Touched};
+ghost use Rattle.fol_store.specs.TaskRows.{by_number, rows_of};
 
 mod draw;
 mod gather;
@@ -23,7 +24,7 @@ mod settle;
 
 use crate::places::Places;
 use crate::slot::Slot;
-use crate::{Taken, slots};
+use crate::{Rows, Taken, rows, slots, sorting};
 use fol_data::RegionData;
 use fol_model::{ChunkPos, Opening, Task};
 use fol_queues::Dated;
@@ -238,5 +239,33 @@ impl Store {
         ensures slots { self.new.slots ≡ self.old.slots }
     {
         slots::put_in(&mut self.bags, id as usize, chunks, body);
+    }
+
+    /// All blocks with a number above 0 by place, all standing entities by id, and all queued tasks by number, each with its rest. What
+    /// is out with a worker is not among them. Answers want of memory alone.
+    pub fn into_rows(self, alloc: Global) -> Result<Rows, AllocError>
+        ensures blocks { IfOk result (λ r. block_in r.blocks.items ≡ (flat_of self).blocks) }
+        ensures block_order { IfOk result (λ r. IsStrictlySortedBy by_place r.blocks.items) }
+        ensures none_empty { IfOk result (λ r. All (λ x. 0 < x.id) r.blocks.items) }
+        ensures entities { IfOk result (λ r. standing_in r.entities.items ≡ (flat_of self).standing) }
+        ensures entity_order { IfOk result (λ r. IsStrictlySortedBy by_id r.entities.items) }
+        ensures tasks { IfOk result (λ r. rows_of r.tasks.items ≡ jobs_of self) }
+        ensures task_order { IfOk result (λ r. IsStrictlySortedBy by_number r.tasks.items) }
+    {
+        let Store {
+            alloc: _,
+            arrivals,
+            spots,
+            bags,
+            places: _,
+        } = self;
+        let mut rows = match rows::list(alloc, arrivals, spots, bags) {
+            Ok(rows) => rows,
+            Err(_) => return Err(AllocError),
+        };
+        sorting::sort_blocks(&mut rows.blocks);
+        sorting::sort_entities(&mut rows.entities);
+        sorting::sort_tasks(&mut rows.tasks);
+        Ok(rows)
     }
 }

@@ -1,0 +1,123 @@
+//! What only a run can show.
+
+ghost use Rattle.std.specs.Prelude.{◌≡◌, true};
+ghost use Rattle.fol_store.specs.Stock.{bag_of};
+
+use crate::{Rows, Store};
+use fol_model::{Action, BlockAt, BlockPos, ChunkPos, Entity, Grid, Opening, Sequence, Task};
+use std::alloc::{AllocError, Global};
+use std::test::Fail;
+
+/// By place, in two chunks.
+const BLOCKS: [BlockAt; 2] = [
+    BlockAt {
+        at: BlockPos {
+            x: -16,
+            y: 64,
+            z: 5,
+        },
+        id: 7,
+    },
+    BlockAt {
+        at: BlockPos { x: 3, y: 64, z: 5 },
+        id: 9,
+    },
+];
+
+/// By id, in the same two chunks.
+const ENTITIES: [Entity; 2] = [
+    Entity {
+        id: 4,
+        at: BlockPos { x: 0, y: 70, z: 15 },
+        vx: 1,
+        vz: 0,
+    },
+    Entity {
+        id: 11,
+        at: BlockPos { x: -1, y: 70, z: 0 },
+        vx: 0,
+        vz: -2,
+    },
+];
+
+/// The chunks of the blocks and entities.
+const CHUNKS: [ChunkPos; 2] = [ChunkPos { x: -1, z: 0 }, ChunkPos { x: 0, z: 0 }];
+
+/// A world with these blocks and entities.
+fn opening(alloc: Global) -> Result<Opening, AllocError> {
+    let grid = Grid {
+        shift: 0,
+        create: 1,
+        merge: 1,
+        min: 2,
+        num: 1,
+        den: 6,
+    };
+    let blocks = Vec::from_slice(alloc, &BLOCKS)?;
+    let entities = Vec::from_slice(alloc, &ENTITIES)?;
+    Ok(Opening {
+        version: 1,
+        grid,
+        blocks: Sequence::of(blocks),
+        entities: Sequence::of(entities),
+    })
+}
+
+fn task(number: u64, chunk: ChunkPos) -> Task {
+    Task {
+        number,
+        chunk,
+        action: Action::Load(chunk),
+    }
+}
+
+/// The numbers and the rests of the tasks.
+fn rests(alloc: Global, rows: &Rows) -> Result<Vec<(u64, u32)>, AllocError> {
+    rows.tasks
+        .iter()
+        .map(|row| (row.task.number, row.rest))
+        .collect(alloc)
+}
+
+/// What was laid comes back in order, and a task that came with its rest.
+#[test]
+fn gives_the_opening_back(rt: HostRuntime) -> Result<(), Fail> {
+    let mut store = Store::new(rt.alloc(), &opening(rt.alloc())?)?;
+    store.reserve(1, 0)?;
+    store.accept(task(1, CHUNKS[0]), 1_000_000);
+    let rows = store.into_rows(rt.alloc())?;
+    assert_eq!(rt; rows.blocks.as_slice(), BLOCKS.as_slice());
+    assert_eq!(rt; rows.entities.as_slice(), ENTITIES.as_slice());
+    assert_eq!(rt;
+        rests(rt.alloc(), &rows)?.as_slice(),
+        [(1, 1_000_000)].as_slice()
+    );
+    Ok(())
+}
+
+/// Takes a bag out and puts it back; gives the region's counter.
+fn turn(store: &mut Store, id: u64) -> u64
+    requires here { (bag_of store.old id).here ≡ true }
+    requires whole { (bag_of store.old id).whole ≡ true }
+{
+    let taken = store.take(id);
+    let tick = taken.body.tick;
+    store.put(id, taken.chunks, taken.body);
+    tick
+}
+
+/// What went through a bag is all there, and its task keeps its rest.
+#[test]
+fn keeps_rests_through_a_bag(rt: HostRuntime) -> Result<(), Fail> {
+    let mut store = Store::new(rt.alloc(), &opening(rt.alloc())?)?;
+    store.reserve(1, 1)?;
+    store.open(1, 40, 2);
+    store.accept(task(2, CHUNKS[0]), 5);
+    store.gather(1, &CHUNKS)?;
+    assert_eq!(rt; turn(&mut store, 1), 40);
+    let rows = store.into_rows(rt.alloc())?;
+    assert_eq!(rt; rows.blocks.as_slice(), BLOCKS.as_slice());
+    assert_eq!(rt; rows.entities.as_slice(), ENTITIES.as_slice());
+    assert_eq!(rt; rests(rt.alloc(), &rows)?.as_slice(), [(2, 5)].as_slice());
+    Ok(())
+}
