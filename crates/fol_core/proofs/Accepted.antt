@@ -1,16 +1,16 @@
 -- One wish: what the tables and the contents stand for when it is accepted, or can't be.
-use Rattle.std.proofs.Common.{◌≡◌, ◌≢◌, ℕ, ◌+◌, ◌≤◌, ◌<◌, ◌^◌, refl, sym, ◌∙◌, ap, arith, Bool, true, false, not, ◌&&◌, inl, inr, List, length, vec_len, vec_capacity}
-use Rattle.std.specs.Prelude.{nat_eq, nat_le, Option, Some, None, IsNone, IsTrue}
+use Rattle.std.proofs.Common.{◌≡◌, ◌≢◌, ℕ, ◌+◌, ◌≤◌, refl, sym, ◌∙◌, ap, arith, true, false, not, inl, inr, length}
+use Rattle.std.specs.Prelude.{nat_eq, nat_le, Option, Some, None, IsNone}
 use Rattle.std.specs.Option.{is_some}
 use Rattle.std.proofs.Math.Path.{fun_ext}
-use Rattle.std.proofs.lemmas.Bool.{cases_Bool, eqb-true, leb-true, and_parts, true≢false}
+use Rattle.std.proofs.lemmas.Bool.{cases_Bool, eqb-true, leb-true, and_parts}
 use Rattle.fol_model.specs.declared.places.ChunkPos.{ChunkPos}
 use Rattle.fol_model.specs.declared.places.BlockPos.{BlockPos}
 use Rattle.fol_model.specs.declared.actions.Action.{Action}
 use Rattle.fol_model.specs.declared.actions.Action.TheVariants as action
 use Rattle.fol_model.specs.declared.tasks.Wish.{Wish}
 use Rattle.fol_model.specs.declared.grids.Grid.{Grid}
-use Rattle.fol_model.specs.Geometry.{chunk_of, is_chunk, section_of}
+use Rattle.fol_model.specs.Geometry.{chunk_of, section_of}
 use Rattle.fol_model.specs.Counters.{owed_after_add}
 use Rattle.fol_model.specs.GridState.{GridState, present_count}
 use Rattle.fol_model.specs.Add.{add, is_full, wanted}
@@ -21,7 +21,7 @@ use Rattle.fol_model.specs.Limits.{is_delay}
 use Rattle.fol_model.specs.declared.events.Accept.TheVariants as accept
 use Rattle.fol_model.specs.World.{World}
 use Rattle.fol_model.specs.End.{put_back, accepted}
-use Rattle.fol_laws.specs.Contents.{SameOn, seen}
+use Rattle.fol_laws.specs.Contents.{SameOn}
 use Rattle.fol_laws.proofs.SoundRuns.{Ending, accepted_ending}
 use Rattle.fol_laws.proofs.TickingKept.{Kept}
 use Rattle.fol_laws.proofs.WishLimits.{WishOk, comes_back}
@@ -31,8 +31,7 @@ use Rattle.fol_regions.specs.Changes.{add_change}
 use Rattle.fol_regions.specs.declared.answers.AddAnswer.{AddAnswer}
 use Rattle.fol_regions.specs.declared.answers.AddAnswer.TheVariants.{Full, Counted, Changed}
 use Rattle.fol_chunks.specs.Contents.{Contents, flat_of as contents_of, option_filter, outside, within}
-use Rattle.fol_store.specs.Bag.{Bag}
-use Rattle.fol_store.specs.Stock.{Stock, bag_of, flat_of, jobs_of, next_of}
+use Rattle.fol_store.specs.Stock.{bag_of, jobs_of, next_of}
 use Rattle.fol_core.specs.declared.tables.Tables.{Tables}
 use Rattle.fol_core.specs.Agenda.{Covers}
 use Rattle.fol_core.specs.Bags.{IsBagOf, StoredIn}
@@ -40,7 +39,7 @@ use Rattle.fol_core.specs.Follows.{Holds}
 use Rattle.fol_core.specs.Hands.{at_rest, in_hands}
 use Rattle.fol_core.specs.Posts.{CanQueue, LeavesRoom, Queues}
 use Rattle.fol_core.specs.Returned.{StandsNowhere, returned}
-use Rattle.fol_core.specs.Underway.{Ends, HasRoomFor, IsFree, Midway, Underway}
+use Rattle.fol_core.specs.Underway.{HasRoomFor, IsFree, Underway}
 use Rattle.fol_core.proofs.Accepting.{covers_disturbed, disturbed_bag, few_made, grid_stays, held_bags, held_next, new_next, next_grows, post_hands, post_jobs, post_kept}
 use Rattle.fol_core.proofs.Flats.{flat_ext}
 use Rattle.fol_core.proofs.ReleasedHands.{in_hands_there}

@@ -1,44 +1,39 @@
 -- Wishes that are accepted while their region still ticks.
-use Rattle.std.proofs.Common.{◌≡◌, ◌≢◌, ℕ, ◌+◌, ◌≤◌, ◌<◌, ◌^◌, refl, sym, ◌∙◌, ap, arith, Bool, true, false, not, ◌&&◌, inl, inr, List, [], ◌∷◌, ◌++◌, length, vec_len, vec_capacity}
-use Rattle.std.specs.Prelude.{nat_eq, nat_lt, Option, Some, None, IsTrue}
-use Rattle.std.specs.HashMap.{spare as room_in}
+use Rattle.std.proofs.Common.{◌≡◌, ℕ, ◌+◌, ◌≤◌, ◌<◌, ◌^◌, refl, sym, ◌∙◌, ap, arith, true, false, not, inl, inr, List, length}
+use Rattle.std.specs.Prelude.{nat_eq, nat_lt, Option, Some}
 use Rattle.std.proofs.Math.Path.{fun_ext}
-use Rattle.std.proofs.lemmas.Bool.{cases_Bool, cases_eq, eqb-true, eqb-false, ne_eqb, ltb-true, and_parts, true≢false}
+use Rattle.std.proofs.lemmas.Bool.{cases_Bool, eqb-true, ltb-true, and_parts, true≢false}
 use Rattle.fol_model.specs.declared.places.ChunkPos.{ChunkPos}
-use Rattle.fol_model.specs.declared.places.BlockPos.{BlockPos}
-use Rattle.fol_model.specs.declared.regions.State.TheVariants.{Ticking, Dead}
+use Rattle.fol_model.specs.declared.regions.State.TheVariants.{Ticking}
 use Rattle.fol_model.specs.declared.actions.Action.{Action}
 use Rattle.fol_model.specs.declared.events.Accept.TheVariants.{Posted}
 use Rattle.fol_model.specs.declared.events.Event.TheVariants.{Post}
-use Rattle.fol_model.specs.Geometry.{chunk_of, is_chunk, section_of}
-use Rattle.fol_model.specs.Counting.{count_below}
+use Rattle.fol_model.specs.Geometry.{is_chunk, section_of}
 use Rattle.fol_model.specs.Counters.{owed_after_add}
-use Rattle.fol_model.specs.GridState.{GridState, is_ready}
-use Rattle.fol_model.specs.Add.{add, is_full}
-use Rattle.fol_model.specs.ActionStep.{Flat, Recorded, Standing, at_id}
+use Rattle.fol_model.specs.GridState.{GridState}
+use Rattle.fol_model.specs.Add.{add}
+use Rattle.fol_model.specs.ActionStep.{Recorded, at_id}
 use Rattle.fol_model.specs.Job.{Job, is_on, queued}
 use Rattle.fol_model.specs.Holds.{posted}
 use Rattle.fol_model.specs.World.{World}
 use Rattle.fol_laws.proofs.AddKeeps.{add_keeps}
 use Rattle.fol_laws.proofs.AddSections.{grid_add}
-use Rattle.fol_laws.proofs.SoundRuns.{Ending}
 use Rattle.fol_laws.proofs.TickedBefore.{ticked_before}
 use Rattle.fol_laws.proofs.TickingKept.{Kept, kept_posted}
-use Rattle.fol_sections.specs.Places.{count_at}
 use Rattle.fol_regions.specs.Table.{grid_state}
-use Rattle.fol_regions.specs.Changes.{Changes, add_change}
-use Rattle.fol_chunks.specs.Contents.{Contents, is_recorded, outside}
+use Rattle.fol_regions.specs.Changes.{add_change}
+use Rattle.fol_chunks.specs.Contents.{Contents, is_recorded}
 use Rattle.fol_store.specs.Bag.{Bag, disturbed}
-use Rattle.fol_store.specs.Stock.{Stock, bag_of, flat_of, jobs_of, next_of}
+use Rattle.fol_store.specs.Stock.{bag_of, jobs_of, next_of}
 use Rattle.fol_core.specs.declared.tables.Tables.{Tables}
-use Rattle.fol_core.specs.Agenda.{Covers, owes}
-use Rattle.fol_core.specs.Bags.{IsBagOf, StoredIn, unsettled_at}
-use Rattle.fol_core.specs.Follows.{CanCover, CanFollow, CanHold, Holds, changed_bags, followed}
+use Rattle.fol_core.specs.Agenda.{Covers}
+use Rattle.fol_core.specs.Bags.{IsBagOf}
+use Rattle.fol_core.specs.Follows.{CanCover, CanFollow, CanHold, changed_bags, followed}
 use Rattle.fol_core.specs.Hands.{at_rest, in_hands, ticker, went}
-use Rattle.fol_core.specs.Underway.{Ends, HasRoomFor, Midway, Underway}
+use Rattle.fol_core.specs.Underway.{Underway}
 use Rattle.fol_core.proofs.Added.{AddedBags, added_bags, off_owed}
 use Rattle.fol_core.proofs.GridRuns.{grid_after}
-use Rattle.fol_core.proofs.HandSteps.{hands_same, rest_same, went_same}
+use Rattle.fol_core.proofs.HandSteps.{hands_same, rest_same}
 use Rattle.fol_core.proofs.Held.{count_most}
 use Rattle.fol_core.proofs.UnsettledBags.{have_bags, known_bag, unsettled_bag}
 

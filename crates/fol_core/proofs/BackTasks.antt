@@ -1,11 +1,8 @@
 -- The tasks that come back with a tick: those that were queued at the Begin.
-use Rattle.std.proofs.Common.{◌≡◌, ◌≢◌, ℕ, ◌+◌, ◌-◌, ◌≤◌, ◌<◌, refl, sym, ◌∙◌, ap, arith, Bool, true, false, not, ◌&&◌, ◌||◌, inl, inr, List, [], ◌∷◌, ◌++◌}
+use Rattle.std.proofs.Common.{◌≡◌, ℕ, ◌-◌, ◌≤◌, ◌<◌, refl, sym, ◌∙◌, ap, arith, Bool, true, false, not, ◌&&◌, ◌||◌, inl, inr, List, [], ◌∷◌, ◌++◌}
 use Rattle.std.specs.Prelude.{nat_eq, nat_lt, nat_le, if◌then◌else◌, Option, Some, None, IsTrue}
-use Rattle.std.specs.List.{AllByRecursion}
 use Rattle.std.specs.Option.{ForSome, is_none, option_map}
-use Rattle.std.proofs.Math.Path.{fun_ext}
-use Rattle.std.proofs.lemmas.Bool.{cases_Bool, eqb-true, eqb-false, ne_eqb, eq-eqb, and_parts, lt-ltb, ltb-true, true≢false}
-use Rattle.fol_model.specs.declared.places.BlockPos.{BlockPos}
+use Rattle.std.proofs.lemmas.Bool.{cases_Bool, eqb-true, and_parts, lt-ltb, true≢false}
 use Rattle.fol_model.specs.declared.places.ChunkPos.{ChunkPos}
 use Rattle.fol_model.specs.declared.regions.State.TheVariants.{Ready, Ticking}
 use Rattle.fol_model.specs.declared.openings.Opening.{Opening}
@@ -17,14 +14,14 @@ use Rattle.fol_model.specs.Geometry.{chunk_of, section_of}
 use Rattle.fol_model.specs.GridNumbers.{IsGrid}
 use Rattle.fol_model.specs.GridState.{GridState, is_loaded}
 use Rattle.fol_model.specs.Outputs.{is_chunk_of}
-use Rattle.fol_model.specs.ActionStep.{Flat, Recorded, Standing, at_id}
+use Rattle.fol_model.specs.ActionStep.{Flat, Recorded, Standing}
 use Rattle.fol_model.specs.Job.{Job}
-use Rattle.fol_model.specs.QueuedTask.{begun, counted_down}
-use Rattle.fol_model.specs.OpenTick.{NoEnd, is_begin, is_end}
-use Rattle.fol_model.specs.World.{World, start}
-use Rattle.fol_model.specs.End.{all_accepted, dropped, left, run_down, ticked}
+use Rattle.fol_model.specs.QueuedTask.{counted_down}
+use Rattle.fol_model.specs.OpenTick.{NoEnd}
+use Rattle.fol_model.specs.World.{World}
+use Rattle.fol_model.specs.End.{all_accepted, dropped, run_down, ticked}
 use Rattle.fol_model.specs.Run.{Allowed, RunFrom, after, after_all}
-use Rattle.fol_laws.proofs.FunctionsChanged.{at_here, at_other}
+use Rattle.fol_laws.proofs.FunctionsChanged.{at_other}
 use Rattle.fol_laws.proofs.RecordedMargins.{chunk_held}
 use Rattle.fol_laws.proofs.SoundState.{SoundWorld}
 use Rattle.fol_laws.proofs.TaskFates.{all_older}
@@ -33,10 +30,9 @@ use Rattle.fol_laws.proofs.WholeRuns.{Good, good_after}
 use Rattle.fol_end_laws.specs.KeptQueue.{is_queued_in, queued_in}
 use Rattle.fol_end_laws.proofs.KeptQueues.{kept_left, kept_still}
 use Rattle.fol_chunks.specs.Contents.{Apart, outside, within, option_filter}
-use Rattle.fol_queues.specs.declared.dated.Dated.{Dated}
 use Rattle.fol_queues.specs.Waiting.{Waiting, dated, job_of, jobs_of}
 use Rattle.fol_data.specs.Rests.{IsInTime}
-use Rattle.fol_core.specs.Hands.{at_rest, in_hands, owner_of, since_after, since_from, ticker, went}
+use Rattle.fol_core.specs.Hands.{at_rest, since_after, since_from, went}
 use Rattle.fol_model.specs.Rules.{Rules}
 use Rattle.fol_core.proofs.ReleasedHands.{ticker_of, went_here}
 

@@ -1,12 +1,11 @@
 -- Every block with a number is within the limits, after every run.
-use Rattle.std.proofs.Common.{◌≡◌, ℕ, ◌<◌, refl, sym, ◌∙◌, ap, arith, true, false, inl, inr, List, [], ◌∷◌, ◌&&◌}
-use Rattle.std.specs.Prelude.{nat_eq, nat_lt, nat_le, Option, Some, None}
+use Rattle.std.proofs.Common.{◌≡◌, ℕ, ◌<◌, refl, sym, ◌∙◌, ap, arith, true, inl, inr, List, [], ◌∷◌, ◌&&◌}
+use Rattle.std.specs.Prelude.{nat_eq, nat_le, Option, Some, None}
 use Rattle.std.specs.List.{AllByRecursion, list_all}
 use Rattle.std.proofs.lemmas.Bool.{cases_Bool, and_parts, and_from}
 use Rattle.fol_model.specs.declared.places.ChunkPos.{ChunkPos}
 use Rattle.fol_model.specs.declared.places.BlockPos.{BlockPos}
 use Rattle.fol_model.specs.declared.openings.BlockAt.{BlockAt}
-use Rattle.fol_model.specs.declared.openings.Opening.{Opening}
 use Rattle.fol_model.specs.declared.tasks.Ran.{Ran}
 use Rattle.fol_model.specs.declared.tasks.Task.{Task}
 use Rattle.fol_model.specs.declared.tasks.Wish.{Wish}
@@ -16,18 +15,17 @@ use Rattle.fol_model.specs.declared.events.Entry.{Entry}
 use Rattle.fol_model.specs.declared.events.Event.{Event}
 use Rattle.fol_model.specs.declared.events.Event.TheVariants.{Load, Unload, Post, PhaseOpen, Begin, End, PhaseClose, Finish, Stop}
 use Rattle.fol_model.specs.Geometry.{chunk_of, is_block, same_block}
-use Rattle.fol_model.specs.Deed.{Deed, Wrap, every}
-use Rattle.fol_model.specs.Nesting.{action_of}
+use Rattle.fol_model.specs.Deed.{every}
 use Rattle.fol_model.specs.Limits.{is_action, is_deed, is_wrap, is_plain}
 use Rattle.fol_model.specs.Add.{is_full}
 use Rattle.fol_model.specs.OpeningParts.{is_block_at}
 use Rattle.fol_model.specs.ActionStep.{Flat, Recorded, act, at_block, blocks_after, plain_of}
 use Rattle.fol_model.specs.FlatTick.{acted, flat_tick}
-use Rattle.fol_model.specs.World.{World, block_in, due, start}
+use Rattle.fol_model.specs.World.{World, block_in, due}
 use Rattle.fol_model.specs.Holds.{loaded, unloaded, posted}
 use Rattle.fol_model.specs.QueuedTask.{begun}
 use Rattle.fol_model.specs.End.{accepted, all_accepted, dropped, ended, put_back, released, run_down, ticked}
-use Rattle.fol_model.specs.Run.{Allowed, RunFrom, after, after_all}
+use Rattle.fol_model.specs.Run.{RunFrom, after, after_all}
 use Rattle.fol_laws.proofs.SamePlaces.{same_block-true}
 use Rattle.fol_laws.proofs.SoundState.{SoundWorld}
 use Rattle.fol_laws.proofs.SoundRuns.{after_keeps}

@@ -1,9 +1,9 @@
 -- Where no region ticks the store has all that the world has.
-use Rattle.std.proofs.Common.{◌≡◌, ◌≢◌, ℕ, ◌<◌, refl, sym, ◌∙◌, ap, arith, Bool, true, false, inl, inr, List, not, ◌&&◌}
-use Rattle.std.specs.Prelude.{nat_eq, nat_lt, map, filter, Option, Some, None}
+use Rattle.std.proofs.Common.{◌≡◌, ◌≢◌, ℕ, refl, sym, ◌∙◌, true, false, inl, inr, List, not}
+use Rattle.std.specs.Prelude.{nat_eq, map, filter, Option, Some, None}
 use Rattle.std.specs.List.{AllByRecursion, find, list_any}
 use Rattle.std.proofs.Math.Path.{fun_ext}
-use Rattle.std.proofs.lemmas.Bool.{cases_Bool, eq-eqb, eqb-false, true≢false}
+use Rattle.std.proofs.lemmas.Bool.{cases_Bool, eqb-false, true≢false}
 use Rattle.fol_model.specs.declared.places.ChunkPos.{ChunkPos}
 use Rattle.fol_model.specs.declared.regions.State.{State}
 use Rattle.fol_model.specs.declared.regions.State.TheVariants.{Transient, Ready, Ticking, Dead}
@@ -16,10 +16,9 @@ use Rattle.fol_model.specs.Outputs.{region_row, region_rows}
 use Rattle.fol_laws.proofs.AddTarget.{is_ticking-true}
 use Rattle.fol_laws.proofs.NumberOrder.{in_numbers}
 use Rattle.fol_laws.proofs.SoundState.{SoundWorld}
-use Rattle.fol_store.specs.Bag.{Bag}
 use Rattle.fol_store.specs.Stock.{Stock, flat_of, jobs_of, bag_of}
-use Rattle.fol_core.specs.Hands.{at_rest, in_hands, owner_of, rests, ticker, went}
-use Rattle.fol_core.specs.Bags.{IsBagOf, StoredIn}
+use Rattle.fol_core.specs.Hands.{at_rest, in_hands, owner_of, rests, went}
+use Rattle.fol_core.specs.Bags.{StoredIn}
 use Rattle.fol_core.specs.Closings.{HasRow, row_in, ticks_in}
 use Rattle.fol_core.proofs.Flats.{outside_none}
 use Rattle.fol_core.proofs.HandSteps.{ticker_off}

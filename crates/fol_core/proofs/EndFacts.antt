@@ -1,13 +1,10 @@
 -- A tick that was given out and is finished is that of its End.
-use Rattle.std.proofs.Common.{◌≡◌, ◌≢◌, ℕ, ◌+◌, ◌-◌, ◌≤◌, ◌<◌, refl, sym, ◌∙◌, ap, subst, arith, Bool, true, false, inl, inr, List, [], ◌∷◌, ◌++◌, length}
+use Rattle.std.proofs.Common.{◌≡◌, ℕ, ◌+◌, ◌≤◌, refl, sym, ◌∙◌, ap, true, false, inl, inr, List, ◌∷◌, ◌++◌}
 use Rattle.std.specs.Prelude.{nat_lt, if◌then◌else◌, filter, Option, Some, None}
 use Rattle.std.proofs.lemmas.Bool.{cases_Bool, cases_lt, lt-ltb, ltb-true, true≢false}
-use Rattle.fol_model.specs.declared.places.ChunkPos.{ChunkPos}
 use Rattle.fol_model.specs.declared.openings.Opening.{Opening}
-use Rattle.fol_model.specs.declared.tasks.Outcome.{Outcome}
 use Rattle.fol_model.specs.declared.tasks.Ran.{Ran}
 use Rattle.fol_model.specs.declared.tasks.Task.{Task}
-use Rattle.fol_model.specs.declared.tasks.Wish.{Wish}
 use Rattle.fol_model.specs.declared.events.Event.TheVariants.{Begin}
 use Rattle.fol_model.specs.declared.events.Entry.{Entry}
 use Rattle.fol_model.specs.GridNumbers.{IsGrid}
@@ -19,9 +16,8 @@ use Rattle.fol_model.specs.FlatTick.{FlatEnd, flat_tick}
 use Rattle.fol_model.specs.Job.{Job}
 use Rattle.fol_model.specs.Begin.{begin}
 use Rattle.fol_model.specs.QueuedTask.{begun, counted_down}
-use Rattle.fol_model.specs.OpenTick.{NoEnd}
 use Rattle.fol_model.specs.World.{World, due, start}
-use Rattle.fol_model.specs.End.{run_down, ticked}
+use Rattle.fol_model.specs.End.{run_down}
 use Rattle.fol_model.specs.Run.{Run, RunFrom, after_all, world}
 use Rattle.fol_laws.proofs.FunctionsChanged.{at_here}
 use Rattle.fol_laws.proofs.WholeRuns.{Good}
@@ -29,7 +25,6 @@ use Rattle.fol_end_laws.specs.KeptQueue.{queued_in}
 use Rattle.fol_chunks.specs.Contents.{flat_of, is_recorded, within}
 use Rattle.fol_queues.specs.Waiting.{jobs_of}
 use Rattle.fol_data.specs.declared.tick.Tick.{Tick}
-use Rattle.fol_core.specs.Meaning.{Meaning}
 use Rattle.fol_core.specs.Ticks.{IsOut}
 use Rattle.fol_core.specs.Ticks as ticks
 use Rattle.fol_core.specs.AtEnd.{AtEnd}

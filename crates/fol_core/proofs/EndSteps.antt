@@ -1,38 +1,33 @@
 -- The steps of an End: what each needs, and what the tables stand for after it.
-use Rattle.std.proofs.Common.{◌≡◌, ◌≢◌, ℕ, ◌+◌, ◌*◌, ◌-◌, ◌≤◌, ◌<◌, ◌^◌, refl, sym, ◌∙◌, ap, arith, Bool, true, false, not, inl, inr, List, [], ◌∷◌, ◌++◌, length, ◌||◌, vec_len, vec_capacity}
+use Rattle.std.proofs.Common.{◌≡◌, ℕ, ◌+◌, ◌≤◌, ◌<◌, ◌^◌, refl, sym, ◌∙◌, ap, arith, true, inl, inr, List, [], ◌∷◌, ◌++◌, length, ◌||◌, vec_len, vec_capacity}
 use Rattle.std.specs.Prelude.{nat_eq, nat_lt, if◌then◌else◌, filter, Option, Some, None, IsTrue}
 use Rattle.std.specs.List.{AllByRecursion}
 use Rattle.std.specs.Option.{ForSome, is_none, option_or}
 use Rattle.std.proofs.Math.Path.{fun_ext}
-use Rattle.std.proofs.lemmas.Bool.{cases_Bool, eqb-true, and_parts, ltb-true, true≢false}
+use Rattle.std.proofs.lemmas.Bool.{cases_Bool, eqb-true, and_parts, ltb-true}
 use Rattle.std.proofs.lemmas.List.{append-nil}
 use Rattle.fol_model.specs.declared.places.ChunkPos.{ChunkPos}
-use Rattle.fol_model.specs.declared.regions.State.{State}
 use Rattle.fol_model.specs.declared.regions.State.TheVariants.{Ticking}
 use Rattle.fol_model.specs.declared.openings.Opening.{Opening}
-use Rattle.fol_model.specs.declared.tasks.Ran.{Ran}
-use Rattle.fol_model.specs.declared.tasks.Task.{Task}
 use Rattle.fol_model.specs.declared.tasks.Wish.{Wish}
 use Rattle.fol_model.specs.declared.events.Accept.{Accept}
 use Rattle.fol_model.specs.declared.events.Entry.{Entry}
 use Rattle.fol_model.specs.declared.events.Event.TheVariants.{End}
 use Rattle.fol_model.specs.Geometry.{chunk_of}
-use Rattle.fol_model.specs.GridNumbers.{IsGrid}
 use Rattle.fol_model.specs.GridState.{GridState, is_ticking}
 use Rattle.fol_model.specs.Universe.{all_chunks}
 use Rattle.fol_model.specs.Counters.{owed_after_release, tick_after_release}
 use Rattle.fol_model.specs.Release.{release}
-use Rattle.fol_model.specs.ActionStep.{Flat, Recorded, Standing, at_id}
+use Rattle.fol_model.specs.ActionStep.{Flat, Recorded, Standing}
 use Rattle.fol_model.specs.Job.{Job}
 use Rattle.fol_model.specs.World.{World, due, start}
 use Rattle.fol_model.specs.End.{all_accepted, answers, dropped, ended, released, run_down, ticked}
-use Rattle.fol_model.specs.Run.{Run, RunFrom, world}
-use Rattle.fol_laws.specs.Tasks.{JobOk}
+use Rattle.fol_model.specs.Run.{RunFrom, world}
 use Rattle.fol_laws.proofs.FunctionsChanged.{at_here, at_other}
 use Rattle.fol_laws.proofs.NewCounters.{new_counters}
 use Rattle.fol_laws.proofs.NumberGrowth.{ids_grow, jobs_grow}
 use Rattle.fol_laws.proofs.CounterGrowth.{all_most}
-use Rattle.fol_laws.proofs.SoundRuns.{Ending, all_accepted_ending, run_down_ending, wishes_ok}
+use Rattle.fol_laws.proofs.SoundRuns.{Ending, run_down_ending, wishes_ok}
 use Rattle.fol_laws.proofs.TickingKept.{Kept, kept_all}
 use Rattle.fol_laws.proofs.UnseenEnds.{recorded_owner}
 use Rattle.fol_laws.proofs.WholeRuns.{Good}
@@ -48,19 +43,15 @@ use Rattle.fol_data.specs.declared.region_data.RegionData.{RegionData}
 use Rattle.fol_data.specs.Rests.{IsInTime, rests_of}
 use Rattle.fol_regions.specs.Table.{grid_state}
 use Rattle.fol_regions.specs.Changes.{release_change}
-use Rattle.fol_store.specs.Stock.{Stock, bag_of, flat_of, jobs_of, next_of}
+use Rattle.fol_store.specs.Stock.{bag_of, flat_of, jobs_of, next_of}
 use Rattle.fol_core.specs.declared.tables.Tables.{Tables}
-use Rattle.fol_core.specs.Agenda.{Covers, IsAgenda}
 use Rattle.fol_core.specs.Answers.{end_event}
 use Rattle.fol_core.specs.AtEnd.{AtEnd}
-use Rattle.fol_core.specs.Bags.{StoredIn}
-use Rattle.fol_core.specs.Hands.{at_rest, in_hands, owner_of, since}
-use Rattle.fol_core.specs.Meaning.{Meaning}
+use Rattle.fol_core.specs.Hands.{at_rest, in_hands, since}
 use Rattle.fol_core.specs.Released.{CanEnd, CanRelease, DropsHolds, EndsRegion, Loosens, heirs, parts_in, released_bags}
-use Rattle.fol_core.specs.Same.{SameThings}
-use Rattle.fol_core.specs.Stands.{AreTickets, Fits, IsCourse, Stands}
+use Rattle.fol_core.specs.Stands.{Fits, Stands}
 use Rattle.fol_core.specs.Ticks.{IsOut}
-use Rattle.fol_core.specs.Underway.{AreFit, Ends, HasRoomFor, IsFree, MayAcceptAll, Midway, Underway}
+use Rattle.fol_core.specs.Underway.{AreFit, Ends, HasRoomFor, MayAcceptAll, Midway, Underway}
 use Rattle.fol_core.proofs.BackTasks.{apart, end_queue, in_time, tasks_apart}
 use Rattle.fol_core.proofs.EndFacts.{at_end}
 use Rattle.fol_core.proofs.Flats.{flat_ext}

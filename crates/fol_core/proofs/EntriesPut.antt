@@ -1,5 +1,5 @@
 -- What a map has after entries were put into it.
-use Rattle.std.proofs.Common.{◌≡◌, ◌≢◌, ℕ, refl, sym, ◌∙◌, ap, Bool, true, false, cond, inl, inr, ◌⊎◌, List, [], ◌∷◌, ◌++◌, ◌+◌, ◌<◌, length, take, get_or}
+use Rattle.std.proofs.Common.{◌≡◌, ℕ, refl, sym, ◌∙◌, ap, Bool, true, inl, inr, ◌⊎◌, List, [], ◌∷◌, ◌++◌, ◌+◌, ◌<◌, length, take, get_or}
 use Rattle.std.specs.Prelude.{flat_map, map, Option, Some, None}
 use Rattle.std.specs.Option.{option_map}
 use Rattle.std.specs.List.{AllByRecursion, find, list_any}

@@ -1,26 +1,22 @@
 -- A tick that was given out and is finished, at its End: what it ran on, what it did, and what the End makes of it.
-use Rattle.std.proofs.Common.{◌≡◌, ◌≢◌, ℕ, ◌+◌, ◌-◌, ◌≤◌, ◌<◌, refl, sym, ◌∙◌, ap, arith, Bool, true, false, not, ◌&&◌, inl, inr, List, [], ◌∷◌, ◌++◌, length}
-use Rattle.std.specs.Prelude.{nat_eq, nat_lt, filter, Option, Some, None}
-use Rattle.std.specs.List.{AllByRecursion, list_any}
+use Rattle.std.proofs.Common.{◌≡◌, ℕ, ◌+◌, ◌-◌, ◌≤◌, refl, sym, ◌∙◌, ap, arith, Bool, true, false, not, ◌&&◌, inl, inr, List, [], ◌∷◌, ◌++◌}
+use Rattle.std.specs.Prelude.{nat_eq, filter, Option, Some, None}
 use Rattle.std.proofs.Math.Path.{fun_ext}
-use Rattle.std.proofs.lemmas.Bool.{cases_Bool, and_parts, eq-eqb, ltb-true, true≢false}
+use Rattle.std.proofs.lemmas.Bool.{cases_Bool, and_parts, eq-eqb, ltb-true}
 use Rattle.std.proofs.lemmas.List.{append-nil}
 use Rattle.std.proofs.lemmas.Map.Views.{any-filter_same}
 use Rattle.fol_model.specs.declared.places.ChunkPos.{ChunkPos}
-use Rattle.fol_model.specs.declared.regions.State.TheVariants.{Ready, Ticking}
+use Rattle.fol_model.specs.declared.regions.State.TheVariants.{Ticking}
 use Rattle.fol_model.specs.declared.openings.Opening.{Opening}
 use Rattle.fol_model.specs.declared.tasks.Outcome.{Outcome}
-use Rattle.fol_model.specs.declared.tasks.Ran.{Ran}
-use Rattle.fol_model.specs.declared.tasks.Task.{Task}
-use Rattle.fol_model.specs.declared.tasks.Wish.{Wish}
 use Rattle.fol_model.specs.declared.events.Event.TheVariants.{Begin}
 use Rattle.fol_model.specs.declared.events.Entry.{Entry}
 use Rattle.fol_model.specs.Geometry.{chunk_of, is_chunk, same_chunk, section_of}
 use Rattle.fol_model.specs.GridNumbers.{IsGrid}
-use Rattle.fol_model.specs.GridState.{GridState, is_loaded}
+use Rattle.fol_model.specs.GridState.{is_loaded}
 use Rattle.fol_model.specs.Universe.{all_chunks}
 use Rattle.fol_model.specs.Outputs.{is_chunk_of}
-use Rattle.fol_model.specs.ActionStep.{Flat, Recorded, Standing, at_id}
+use Rattle.fol_model.specs.ActionStep.{Flat, Recorded, Standing}
 use Rattle.fol_model.specs.FlatTick.{FlatEnd, flat_tick}
 use Rattle.fol_model.specs.QueuedTask.{begun}
 use Rattle.fol_model.specs.OpenTick.{NoEnd, is_begin}
@@ -40,7 +36,7 @@ use Rattle.fol_laws.proofs.OwnedRuns.{began_ticks, owned, total_most}
 use Rattle.fol_laws.proofs.WholeRuns.{Good, good_after, good_run}
 use Rattle.fol_laws.proofs.WishLimits.{due_ok}
 use Rattle.fol_end_laws.specs.FinishedTick.{IsEndIn}
-use Rattle.fol_end_laws.specs.KeptQueue.{SameQueue, queued_in}
+use Rattle.fol_end_laws.specs.KeptQueue.{SameQueue}
 use Rattle.fol_end_laws.proofs.FinishedTicks.{due_on_recorded, finished_ends}
 use Rattle.fol_end_laws.proofs.KeptQueues.{queue_kept}
 use Rattle.fol_chunks.specs.Contents.{is_recorded, option_filter, within}

@@ -1,5 +1,5 @@
 -- A history that is finished is outside any phase.
-use Rattle.std.proofs.Common.{◌≡◌, ◌≢◌, ℕ, refl, sym, ◌∙◌, Bool, true, false, inl, inr, List, [], ◌∷◌}
+use Rattle.std.proofs.Common.{◌≡◌, ℕ, refl, sym, ◌∙◌, true, false, inl, inr, List, [], ◌∷◌}
 use Rattle.std.specs.Prelude.{nat_eq, Option, Some, None}
 use Rattle.std.proofs.lemmas.Bool.{cases_Bool, true≢false}
 use Rattle.fol_model.specs.declared.places.BlockPos.{BlockPos}

@@ -52,3 +52,7 @@ pub mod KeyedRows
 pub mod RegionSizes
 pub mod CalmStore
 pub mod EntriesPut
+pub mod RowsInOrder
+pub mod OwnerRows
+pub mod EntityRows
+pub mod ClosingRows

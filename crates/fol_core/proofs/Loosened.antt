@@ -1,18 +1,17 @@
 -- The bag of a region whose chunks lose holds.
-use Rattle.std.proofs.Common.{◌≡◌, ◌≢◌, ℕ, ◌+◌, ◌-◌, ◌<◌, refl, sym, ◌∙◌, ap, arith, Bool, true, false, inl, inr}
+use Rattle.std.proofs.Common.{◌≡◌, ◌≢◌, ℕ, ◌-◌, refl, sym, ◌∙◌, ap, arith, true, false, inl, inr}
 use Rattle.std.specs.Prelude.{nat_eq, nat_lt}
 use Rattle.std.proofs.Math.Path.{fun_ext}
 use Rattle.std.proofs.lemmas.Bool.{cases_Bool, eqb-true, eqb-false, lt-ltb, true≢false}
 use Rattle.fol_model.specs.declared.places.ChunkPos.{ChunkPos}
 use Rattle.fol_model.specs.Geometry.{same_chunk}
 use Rattle.fol_model.specs.ActionStep.{at_id}
-use Rattle.fol_model.specs.GridState.{GridState, at_chunk, is_loaded}
+use Rattle.fol_model.specs.GridState.{GridState, is_loaded}
 use Rattle.fol_model.specs.Drop.{drop_hold}
 use Rattle.fol_laws.proofs.FunctionsChanged.{at_here}
 use Rattle.fol_laws.proofs.SamePlaces.{same_chunk-true}
 use Rattle.fol_regions.specs.Answers.{remove_answer}
-use Rattle.fol_sections.specs.declared.answers.Removed.{Removed}
-use Rattle.fol_sections.specs.declared.answers.Removed.TheVariants.{Gone, Lowered, NotLoaded}
+use Rattle.fol_sections.specs.declared.answers.Removed.TheVariants.{Gone}
 use Rattle.fol_store.specs.Bag.{Bag}
 use Rattle.fol_core.specs.Released.{Loosens}
 

@@ -1,6 +1,6 @@
 -- The bags of the parts of a region, one by one.
-use Rattle.std.proofs.Common.{◌≡◌, ℕ, refl, sym, ◌∙◌, ap, Bool, true, false, inl, inr, List, [], ◌∷◌}
-use Rattle.std.specs.Prelude.{◌≢◌, nat_eq}
+use Rattle.std.proofs.Common.{◌≡◌, ℕ, refl, sym, ◌∙◌, ap, true, false, inl, inr, List, [], ◌∷◌}
+use Rattle.std.specs.Prelude.{nat_eq}
 use Rattle.std.proofs.lemmas.Bool.{cases_Bool, eqb-true, eqb-false, or_parts, true≢false}
 use Rattle.fol_model.specs.ActionStep.{at_id}
 use Rattle.fol_laws.proofs.FunctionsChanged.{at_here, at_other}

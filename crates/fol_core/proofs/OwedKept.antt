@@ -1,11 +1,11 @@
 -- What a region owes stays while it ticks.
-use Rattle.std.proofs.Common.{◌≡◌, ◌≢◌, ℕ, ◌+◌, ◌-◌, ◌≤◌, ◌<◌, refl, sym, ◌∙◌, ap, arith, Bool, true, false, not, ◌&&◌, ◌||◌, inl, inr, List, [], ◌∷◌, ◌++◌}
+use Rattle.std.proofs.Common.{◌≡◌, ◌≢◌, ℕ, ◌-◌, refl, sym, ◌∙◌, ap, arith, true, false, not, ◌||◌, inl, inr, List, [], ◌∷◌, ◌++◌}
 use Rattle.std.specs.Prelude.{nat_eq, Option, Some, None}
 use Rattle.std.specs.List.{AllByRecursion}
-use Rattle.std.proofs.lemmas.Bool.{cases_Bool, eqb-true, eqb-false, ne_eqb, and_parts, true≢false}
+use Rattle.std.proofs.lemmas.Bool.{cases_Bool, eqb-false, ne_eqb, and_parts, true≢false}
 use Rattle.fol_model.specs.declared.places.BlockPos.{BlockPos}
 use Rattle.fol_model.specs.declared.places.ChunkPos.{ChunkPos}
-use Rattle.fol_model.specs.declared.regions.State.TheVariants.{Ready, Ticking, Dead}
+use Rattle.fol_model.specs.declared.regions.State.TheVariants.{Ready, Ticking}
 use Rattle.fol_model.specs.declared.openings.Opening.{Opening}
 use Rattle.fol_model.specs.declared.tasks.Ran.{Ran}
 use Rattle.fol_model.specs.declared.tasks.Wish.{Wish}
@@ -18,12 +18,12 @@ use Rattle.fol_model.specs.Geometry.{is_chunk}
 use Rattle.fol_model.specs.GridNumbers.{IsGrid}
 use Rattle.fol_model.specs.Counters.{owed_after_add, owed_after_release}
 use Rattle.fol_model.specs.GridState.{GridState, is_ticking}
-use Rattle.fol_model.specs.Add.{is_full, is_near, is_near_calm, target, wanted}
+use Rattle.fol_model.specs.Add.{is_full, is_near, target, wanted}
 use Rattle.fol_model.specs.Rules.{Rules}
-use Rattle.fol_model.specs.World.{World, start}
+use Rattle.fol_model.specs.World.{World}
 use Rattle.fol_model.specs.Holds.{loaded, unloaded, posted}
 use Rattle.fol_model.specs.QueuedTask.{begun}
-use Rattle.fol_model.specs.OpenTick.{NoEnd, is_begin, is_end}
+use Rattle.fol_model.specs.OpenTick.{NoEnd, is_end}
 use Rattle.fol_model.specs.ActionStep.{Recorded}
 use Rattle.fol_model.specs.End.{dropped, ticked, put_back, accepted, all_accepted, released, run_down, ended}
 use Rattle.fol_model.specs.Run.{Allowed, RunFrom, after, after_all}

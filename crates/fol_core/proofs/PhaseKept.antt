@@ -1,10 +1,10 @@
 -- The tables after a phase opens or closes.
-use Rattle.std.proofs.Common.{◌≡◌, ◌≢◌, ℕ, ◌+◌, ◌≤◌, ◌<◌, ◌^◌, refl, sym, ◌∙◌, ap, subst, arith, Bool, true, false, inl, inr, List, [], ◌∷◌, ◌++◌, ◌||◌, ◌&&◌, not, filter}
-use Rattle.std.specs.Prelude.{nat_eq, nat_lt, if◌then◌else◌, Option, Some, None}
+use Rattle.std.proofs.Common.{◌≡◌, ◌≢◌, ℕ, ◌+◌, ◌≤◌, ◌<◌, ◌^◌, refl, sym, ◌∙◌, ap, subst, arith, true, false, inl, inr, List, [], ◌∷◌, ◌++◌, ◌||◌, ◌&&◌, not}
+use Rattle.std.specs.Prelude.{nat_eq, nat_lt, if◌then◌else◌, Some, None}
 use Rattle.std.specs.Global.{Vec}
 use Rattle.std.specs.List.{AllByRecursion, find, list_any}
 use Rattle.std.proofs.Math.Path.{fun_ext}
-use Rattle.std.proofs.lemmas.Bool.{cases_Bool, and_parts, eq-eqb, eqb-true, lt-ltb, ltb-false, or_cases, or_left, or_parts, or_right, true≢false}
+use Rattle.std.proofs.lemmas.Bool.{cases_Bool, and_parts, eq-eqb, eqb-true, lt-ltb, ltb-false, or_left, or_parts, or_right, true≢false}
 use Rattle.std.proofs.lemmas.List.Folds.{list_any-append}
 use Rattle.fol_model.specs.declared.openings.Opening.{Opening}
 use Rattle.fol_model.specs.declared.events.Entry.{Entry}
@@ -15,9 +15,7 @@ use Rattle.fol_model.specs.Counting.{some_below, least}
 use Rattle.fol_model.specs.GridState.{GridState, is_dead, is_ready, is_ticking}
 use Rattle.fol_model.specs.ActionStep.{Recorded, at_id}
 use Rattle.fol_model.specs.Rules.{Rules}
-use Rattle.fol_model.specs.World.{World}
-use Rattle.fol_model.specs.Run.{Allowed, after, world}
-use Rattle.fol_laws.proofs.AddTarget.{is_ticking-true}
+use Rattle.fol_model.specs.Run.{world}
 use Rattle.fol_laws.proofs.Consequences.{none_waits}
 use Rattle.fol_laws.proofs.WholeRuns.{Good}
 use Rattle.fol_regions.specs.Table.{grid_state}
@@ -25,13 +23,13 @@ use Rattle.fol_store.specs.Bag.{Bag}
 use Rattle.fol_store.specs.Stock.{Stock, bag_of, next_of}
 use Rattle.fol_core.specs.declared.tables.Course.{Course}
 use Rattle.fol_core.specs.declared.tables.Tables.{Tables}
-use Rattle.fol_core.specs.Hands.{rests, since}
+use Rattle.fol_core.specs.Hands.{rests}
 use Rattle.fol_core.specs.Bags.{IsBagOf, owing_bags}
-use Rattle.fol_core.specs.Agenda.{HaveBags, IsAgenda, is_busy_in, owes}
+use Rattle.fol_core.specs.Agenda.{HaveBags, IsAgenda, is_busy_in}
 use Rattle.fol_core.specs.declared.answers.Close.TheVariants.{Closed, NotYet}
 use Rattle.fol_core.specs.Answers.{close_result, is_busy, is_owing}
 use Rattle.fol_core.specs.Same.{SameThings}
-use Rattle.fol_core.specs.Stands.{Stands, Fits}
+use Rattle.fol_core.specs.Stands.{Stands}
 use Rattle.fol_core.proofs.CalmRuns.{calm_run}
 use Rattle.fol_core.proofs.CalmStore.{dead_not, in_live, live_in}
 use Rattle.fol_core.proofs.KeyedRows.{none_passes, passing}

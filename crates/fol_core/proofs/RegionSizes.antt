@@ -1,13 +1,13 @@
 -- The row of a region: how many sections it has, and its state.
 use Rattle.std.proofs.Common.{◌≡◌, ℕ, ◌<◌, ◌≤◌, sym, ◌∙◌, ◌&&◌, ap, arith, List, length, filter, true}
-use Rattle.std.specs.Prelude.{nat_eq, nat_lt, if◌then◌else◌, Option, Some, None}
+use Rattle.std.specs.Prelude.{nat_eq, nat_lt, Option, Some}
 use Rattle.std.proofs.lemmas.Bool.{and_from, eqb-true, lt-ltb}
 use Rattle.std.proofs.lemmas.List.Sums.{length-filter}
 use Rattle.fol_laws.proofs.ListCounts.{count_by-mono}
 use Rattle.fol_model.specs.declared.places.SectionPos.{SectionPos}
 use Rattle.fol_model.specs.declared.regions.State.{State}
 use Rattle.fol_model.specs.declared.closings.RegionRow.{RegionRow}
-use Rattle.fol_model.specs.GridState.{GridState, is_present, present_count, size}
+use Rattle.fol_model.specs.GridState.{GridState, is_present, size}
 use Rattle.fol_model.specs.Rules.{Rules}
 use Rattle.fol_model.specs.Universe.{all_sections}
 use Rattle.fol_regions.specs.Answers.{state_answer}

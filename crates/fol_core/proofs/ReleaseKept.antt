@@ -1,15 +1,13 @@
 -- What a core stands for after a release.
-use Rattle.std.proofs.Common.{◌≡◌, ℕ, ◌+◌, ◌≤◌, ◌^◌, refl, sym, ◌∙◌, ap, subst, arith, true, false, List, [], ◌∷◌, ◌++◌, length}
+use Rattle.std.proofs.Common.{◌≡◌, ℕ, ◌+◌, ◌≤◌, ◌^◌, refl, sym, ◌∙◌, ap, arith, List, [], ◌∷◌, ◌++◌, length}
 use Rattle.fol_model.specs.declared.openings.Opening.{Opening}
-use Rattle.fol_model.specs.declared.events.Accept.{Accept}
 use Rattle.fol_model.specs.declared.events.Event.{Event}
 use Rattle.fol_model.specs.declared.events.Entry.{Entry}
 use Rattle.fol_model.specs.declared.tasks.Wish.{Wish}
 use Rattle.fol_model.specs.End.{accepted, answers, ended, run_down, ticked}
 use Rattle.fol_model.specs.World.{World}
-use Rattle.fol_model.specs.Run.{Allowed, after, world}
+use Rattle.fol_model.specs.Run.{Allowed, world}
 use Rattle.fol_laws.specs.Growth.{answers_in}
-use Rattle.fol_chunks.specs.Contents.{flat_of}
 use Rattle.fol_data.specs.declared.tick.Tick.{Tick}
 use Rattle.fol_core.specs.declared.tables.Course.{Course}
 use Rattle.fol_core.specs.declared.tables.Tables.{Tables}
@@ -17,7 +15,7 @@ use Rattle.fol_core.specs.Answers.{end_event}
 use Rattle.fol_core.specs.Hands.{since}
 use Rattle.fol_core.specs.Meaning.{Meaning}
 use Rattle.fol_core.specs.Stands.{Fits, Stands}
-use Rattle.fol_core.specs.Ticks.{HasRun, IsOut, IsTickOf, SameTick}
+use Rattle.fol_core.specs.Ticks.{IsOut, SameTick}
 use Rattle.fol_core.proofs.EndSteps as step
 use Rattle.fol_core.proofs.FinishedRuns.{not_finished}
 use Rattle.fol_core.proofs.Longer.{stands_more}

@@ -1,8 +1,7 @@
 -- The bags after a release.
-use Rattle.std.proofs.Common.{◌≡◌, ◌≢◌, ℕ, ◌+◌, ◌≤◌, ◌<◌, le_antisymm, refl, sym, ◌∙◌, ap, arith, Bool, true, false, inl, inr, List, [], ◌∷◌, ◌++◌, ◌||◌, ◌&&◌, not, filter}
+use Rattle.std.proofs.Common.{◌≡◌, ◌≢◌, ℕ, ◌+◌, ◌≤◌, ◌<◌, le_antisymm, refl, sym, ◌∙◌, ap, arith, true, false, inl, inr, List, [], ◌&&◌, not, filter}
 use Rattle.std.specs.Prelude.{nat_eq, nat_lt, nat_le, if◌then◌else◌, ◌↔◌}
-use Rattle.std.specs.List.{list_any}
-use Rattle.std.proofs.lemmas.Bool.{cases_Bool, cases_eq, eqb-true, eqb-false, eq-eqb, ne_eqb, leb-true, ltb-true, and_parts, and_from, and_right, or_cases, or_left, or_right, or_parts, true≢false, false_from_ne_true}
+use Rattle.std.proofs.lemmas.Bool.{cases_Bool, cases_eq, eqb-true, eq-eqb, ne_eqb, leb-true, ltb-true, and_parts, and_from, and_right, or_cases, or_left, or_right, true≢false, false_from_ne_true}
 use Rattle.std.proofs.lemmas.List.Kept.{IsStrictlySortedBy-filter}
 use Rattle.std.specs.Ordering.{nat_cmp}
 use Rattle.fol_model.specs.declared.places.ChunkPos.{ChunkPos}
@@ -28,9 +27,9 @@ use Rattle.fol_laws.proofs.NumberOrder.{in_numbers, numbers_sorted}
 use Rattle.fol_laws.proofs.ReleaseKeeps.{grid_release, holds_release}
 use Rattle.fol_laws.proofs.Tests.{same_answer}
 use Rattle.fol_regions.specs.Changes.{into, waiting_for, part_ids}
-use Rattle.fol_store.specs.Bag.{Bag, new_bag, no_bag, put_back}
+use Rattle.fol_store.specs.Bag.{Bag, no_bag, put_back}
 use Rattle.fol_core.specs.Hands.{rests}
-use Rattle.fol_core.specs.Bags.{CanJoin, IsBagOf, joined_bags, opened_bags}
+use Rattle.fol_core.specs.Bags.{CanJoin, IsBagOf, joined_bags}
 use Rattle.fol_core.specs.Released.{part_bag, parted}
 use Rattle.fol_core.proofs.AddBags.{filter_none, same_filter}
 use Rattle.fol_core.proofs.JoinedBags.{Apart, JoinedInto, among, can_join, in_filter, joined_into, sorted_apart}

@@ -1,22 +1,20 @@
 -- All that follows in the store and in the stack when a region is released.
-use Rattle.std.proofs.Common.{◌≡◌, ◌≢◌, ℕ, ◌+◌, ◌≤◌, ◌<◌, refl, sym, ◌∙◌, ap, arith, Bool, true, false, inl, inr, List, [], ◌∷◌, ◌++◌, length, ◌||◌, ◌&&◌, not}
-use Rattle.std.specs.Prelude.{nat_eq, nat_lt, nat_le, if◌then◌else◌}
-use Rattle.std.specs.List.{list_any}
-use Rattle.std.proofs.lemmas.Bool.{cases_Bool, cases_eq, eqb-true, eq-eqb, ne_eqb, and_parts, and_from, or_left, or_right, true≢false, false_from_ne_true}
+use Rattle.std.proofs.Common.{◌≡◌, ◌≢◌, ℕ, ◌+◌, ◌≤◌, refl, sym, ◌∙◌, ap, arith, true, false, inl, inr, List, [], ◌∷◌, ◌++◌, length}
+use Rattle.std.specs.Prelude.{nat_eq, nat_lt, nat_le}
+use Rattle.std.proofs.lemmas.Bool.{cases_Bool, cases_eq, eqb-true, eq-eqb, ne_eqb, and_parts, and_from, or_left, or_right, true≢false}
 use Rattle.std.proofs.lemmas.List.Folds.{list_any-append}
 use Rattle.fol_model.specs.declared.regions.State.{State}
-use Rattle.fol_model.specs.declared.regions.State.TheVariants.{Transient, Ready, Ticking, Dead}
+use Rattle.fol_model.specs.declared.regions.State.TheVariants.{Ticking, Dead}
 use Rattle.fol_model.specs.GridNumbers.{IsGrid}
 use Rattle.fol_model.specs.Counters.{owed_after_release, tick_after_release}
-use Rattle.fol_model.specs.GridState.{GridState, is_dead, is_ready, is_ticking}
+use Rattle.fol_model.specs.GridState.{GridState, is_dead, is_ready}
 use Rattle.fol_model.specs.Release.{release, must_wait, cleans, is_part_id, parts}
 use Rattle.fol_model.specs.ActionStep.{Recorded, at_id}
 use Rattle.fol_model.specs.Rules.{Rules}
-use Rattle.fol_regions.specs.Changes.{Changes, into, nothing, waiting_for, part_ids, release_change}
+use Rattle.fol_regions.specs.Changes.{Changes, into, waiting_for, part_ids, release_change}
 use Rattle.fol_store.specs.Bag.{Bag, put_back}
-use Rattle.fol_core.specs.Agenda.{Covers, HaveBags, owes}
+use Rattle.fol_core.specs.Agenda.{Covers, owes}
 use Rattle.fol_core.specs.Bags.{CanJoin, Follow, IsBagOf, joined_bags}
-use Rattle.fol_core.specs.Hands.{rests}
 use Rattle.fol_core.specs.Released.{heirs, parted, parts_in, rejoined, released_bags}
 use Rattle.fol_core.proofs.JoinedBags.{among}
 use Rattle.fol_core.proofs.PartIds.{parts_count, parts_few, parts_follow}

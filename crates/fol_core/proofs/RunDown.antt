@@ -1,9 +1,9 @@
 -- What the store and the stack are when the tasks of a tick are over and their holds are dropped.
-use Rattle.std.proofs.Common.{◌≡◌, ◌≢◌, ℕ, ◌+◌, ◌-◌, ◌<◌, refl, sym, ◌∙◌, ap, arith, Bool, true, false, not, ◌&&◌, inl, inr, List, [], ◌∷◌, ◌++◌}
+use Rattle.std.proofs.Common.{◌≡◌, ◌≢◌, ℕ, ◌+◌, ◌<◌, refl, sym, ◌∙◌, ap, arith, Bool, true, false, not, ◌&&◌, inl, inr, List, [], ◌∷◌}
 use Rattle.std.specs.Prelude.{nat_eq, nat_lt, filter, Option, Some, None}
 use Rattle.std.specs.List.{AllByRecursion}
 use Rattle.std.proofs.Math.Path.{fun_ext}
-use Rattle.std.proofs.lemmas.Bool.{cases_Bool, cases_eq, eqb-true, eqb-false, ne_eqb, true≢false}
+use Rattle.std.proofs.lemmas.Bool.{cases_Bool, cases_eq, eqb-true, ne_eqb, true≢false}
 use Rattle.std.proofs.lemmas.List.{append-nil}
 use Rattle.fol_model.specs.declared.places.ChunkPos.{ChunkPos}
 use Rattle.fol_model.specs.declared.regions.State.TheVariants.{Ticking}
@@ -11,16 +11,16 @@ use Rattle.fol_model.specs.declared.openings.Opening.{Opening}
 use Rattle.fol_model.specs.declared.tasks.Ran.{Ran}
 use Rattle.fol_model.specs.declared.tasks.Task.{Task}
 use Rattle.fol_model.specs.declared.events.Entry.{Entry}
-use Rattle.fol_model.specs.Geometry.{chunk_of, section_of, same_chunk}
+use Rattle.fol_model.specs.Geometry.{chunk_of, same_chunk}
 use Rattle.fol_model.specs.GridNumbers.{IsGrid}
-use Rattle.fol_model.specs.GridState.{GridState, at_chunk, is_loaded, is_ready}
+use Rattle.fol_model.specs.GridState.{GridState, is_loaded}
 use Rattle.fol_model.specs.Drop.{drop_hold}
 use Rattle.fol_model.specs.Universe.{all_chunks}
 use Rattle.fol_model.specs.Outputs.{is_chunk_of}
-use Rattle.fol_model.specs.ActionStep.{Flat, Recorded, Standing, at_id}
+use Rattle.fol_model.specs.ActionStep.{Flat, Recorded, Standing}
 use Rattle.fol_model.specs.Job.{Job}
-use Rattle.fol_model.specs.World.{World, start, due}
-use Rattle.fol_model.specs.End.{dropped, left, run_down, ticked}
+use Rattle.fol_model.specs.World.{World, due}
+use Rattle.fol_model.specs.End.{dropped, left, run_down}
 use Rattle.fol_model.specs.Run.{Run, world}
 use Rattle.fol_laws.specs.Contents.{SameOn, seen}
 use Rattle.fol_laws.proofs.FunctionsChanged.{at_here, at_other}
@@ -32,8 +32,8 @@ use Rattle.fol_end_laws.proofs.DropsInTurn.{drops_in_turn}
 use Rattle.fol_end_laws.proofs.FinishedTicks.{due_on_recorded, tasks_kept}
 use Rattle.fol_chunks.specs.Contents.{outside, option_filter}
 use Rattle.fol_store.specs.Bag.{Bag}
-use Rattle.fol_store.specs.Stock.{Stock, bag_of, flat_of, jobs_of, next_of}
-use Rattle.fol_core.specs.Agenda.{Covers, owes}
+use Rattle.fol_store.specs.Stock.{Stock, bag_of, next_of}
+use Rattle.fol_core.specs.Agenda.{Covers}
 use Rattle.fol_core.specs.Bags.{IsBagOf, StoredIn}
 use Rattle.fol_core.specs.Hands.{at_rest, in_hands, owner_of, ticker, went}
 use Rattle.fol_core.specs.Released.{Loosens}

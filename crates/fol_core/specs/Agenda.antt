@@ -1,5 +1,5 @@
 -- The stack of regions that may owe a tick.
-use Rattle.std.specs.Prelude.{ℕ, ◌≡◌, Bool, true, false, ◌&&◌, ◌||◌, nat_eq, nat_lt, List, [], ◌∷◌, ◌++◌}
+use Rattle.std.specs.Prelude.{ℕ, ◌≡◌, Bool, true, ◌&&◌, ◌||◌, nat_eq, nat_lt, List, [], ◌∷◌, ◌++◌}
 use Rattle.std.specs.List.{list_any}
 use Rattle.fol_model.specs.GridState.{GridState, is_ready, is_ticking}
 use Rattle.fol_store.specs.Bag.{Bag}

@@ -1,6 +1,7 @@
 -- What the rows of a closing are made of.
 use Rattle.std.specs.Prelude.{ℕ, ℤ, ◌≡◌, ◌<◌, true, Bool, nat_eq, List, [], ◌∷◌, ◌++◌, map, filter, flat_map, Option, Some, None}
 use Rattle.std.specs.List.{AllByRecursion, list_any}
+use Rattle.std.specs.List.Sorted.{IsStrictlySortedBy}
 use Rattle.std.specs.Map.{update_all}
 use Rattle.std.specs.BTreeMap.{BTreeMap, get}
 use Rattle.std.specs.Ordering.{int_cmp, ordering_then, eq_by_cmp}
@@ -11,6 +12,7 @@ use Rattle.fol_model.specs.declared.entities.Place.{Place}
 use Rattle.fol_model.specs.declared.entities.Place.TheVariants.{At, Transit}
 use Rattle.fol_model.specs.declared.actions.Action.{Action}
 use Rattle.fol_model.specs.declared.actions.Action.TheVariants as action
+use Rattle.fol_model.specs.declared.openings.BlockAt.{BlockAt}
 use Rattle.fol_model.specs.declared.closings.RegionRow.{RegionRow}
 use Rattle.fol_model.specs.declared.closings.OwnerRow.{OwnerRow}
 use Rattle.fol_model.specs.declared.closings.TaskRow.{TaskRow}
@@ -18,7 +20,11 @@ use Rattle.fol_model.specs.declared.closings.EntityRow.{EntityRow}
 use Rattle.fol_model.specs.Universe.{all_sections, numbers_below}
 use Rattle.fol_model.specs.GridState.{GridState, is_present, is_ticking, size}
 use Rattle.fol_model.specs.Outputs.{chunk_count}
+use Rattle.fol_model.specs.World.{block_in, standing_in}
+use Rattle.fol_chunks.specs.Rows.{by_id, by_place}
 use Rattle.fol_store.specs.Bag.{Bag}
+use Rattle.fol_store.specs.Stock.{Stock, flat_of, jobs_of}
+use Rattle.fol_store.specs.TaskRows.{by_number, rows_of}
 
 -- the entries were put into the map in turn
 abbrev pub PutsAll : {K X : Type 0} → (K → K → Ordering) → BTreeMap K X → BTreeMap K X → List (K × X) → Type 0
@@ -87,3 +93,19 @@ pub record ArePlaces (f : ℕ → Option Place) (entities : List Entity) (tasks 
   pub right : AllByRecursion (IsPlace f) (map standing_entry entities ++ flat_map arrival_entries tasks)
   pub all : (id : ℕ) (p : Place) → f id ≡ Some p → list_any (λ e. nat_eq e.0 id) (map standing_entry entities ++ flat_map arrival_entries tasks) ≡ true
   pub few : (id : ℕ) (p : Place) → f id ≡ Some p → id < 1000000001
+
+-- the blocks, entities and tasks of a store as lists in order
+pub record AreRows (k : Stock) (blocks : List BlockAt) (entities : List Entity) (tasks : List TaskRow) : Type 0 where
+  pub blocks_are : block_in blocks ≡ (flat_of k).blocks
+  pub block_order : IsStrictlySortedBy by_place blocks
+  pub none_empty : AllByRecursion (λ x. 0 < x.id) blocks
+  pub entities_are : standing_in entities ≡ (flat_of k).standing
+  pub entity_order : IsStrictlySortedBy by_id entities
+  pub tasks_are : rows_of tasks ≡ jobs_of k
+  pub task_order : IsStrictlySortedBy by_number tasks
+
+-- the blocks and tasks of a store as lists in order, with the places of the entities that stand or that a task brings
+pub record AreThings (k : Stock) (blocks : List BlockAt) (places : List EntityRow) (tasks : List TaskRow) : Type 0 where
+  pub entities : List Entity
+  pub rows : AreRows k blocks entities tasks
+  pub placed : (f : ℕ → Option Place) → ArePlaces f entities tasks → places ≡ places_in f

@@ -5,7 +5,7 @@ use Rattle.fol_model.specs.declared.actions.Action.{Action}
 use Rattle.fol_model.specs.ActionStep.{at_id}
 use Rattle.fol_model.specs.Job.{queued}
 use Rattle.fol_store.specs.Bag.{disturbed}
-use Rattle.fol_store.specs.Stock.{Stock, bag_of, flat_of, jobs_of, next_of}
+use Rattle.fol_store.specs.Stock.{bag_of, flat_of, jobs_of, next_of}
 use Rattle.fol_core.specs.declared.tables.Tables.{Tables}
 
 -- the next task can be queued

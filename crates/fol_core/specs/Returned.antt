@@ -1,5 +1,5 @@
 -- An entity that was sent and comes back.
-use Rattle.std.specs.Prelude.{ℕ, ◌≡◌, Option, Some, None, IsNone}
+use Rattle.std.specs.Prelude.{◌≡◌, Option, Some, IsNone}
 use Rattle.fol_model.specs.declared.places.BlockPos.{BlockPos}
 use Rattle.fol_model.specs.declared.entities.Entity.{Entity}
 use Rattle.fol_model.specs.declared.actions.Action.{Action}

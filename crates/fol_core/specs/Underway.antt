@@ -1,5 +1,5 @@
 -- The middle of an End: the tasks that ran are over, some of the wishes are accepted, and the region ticks still.
-use Rattle.std.specs.Prelude.{ℕ, ◌≡◌, ◌+◌, ◌≤◌, ◌<◌, ◌^◌, true, None, List, ◌∷◌, ◌++◌, length, vec_len, vec_capacity}
+use Rattle.std.specs.Prelude.{ℕ, ◌≡◌, ◌+◌, ◌≤◌, ◌^◌, true, None, List, ◌∷◌, ◌++◌, length, vec_len, vec_capacity}
 use Rattle.std.specs.HashMap.{spare as room_in}
 use Rattle.fol_model.specs.declared.places.ChunkPos.{ChunkPos}
 use Rattle.fol_model.specs.declared.entities.Entity.{Entity}

@@ -23,10 +23,12 @@ ghost use Rattle.fol_core.specs.Same.{SameThings};
 use crate::BeginAnswer;
 use crate::agenda::{owes, tidy};
 use crate::machine::{Core, Room, record};
-use crate::tables::Tables;
+use crate::tables::{Tables, grow_history};
 use fol_data::{RegionData, Tick};
 use fol_model::{ChunkPos, Event, Sequence, State, Task, TickLog};
-use fol_store::Taken;
+use fol_regions::Regions;
+use fol_store::{Store, Taken};
+use std::alloc::{AllocError, Global};
 
 /// What a Begin takes out of the store: the recorded chunks, the due tasks and the rest.
 #[derive(Drop)]
@@ -37,6 +39,20 @@ struct Begun {
 }
 
 impl Core {
+    /// Takes the memory for a Begin of this region. It then has it until the next call that changes the core. After want of memory
+    /// nothing has changed.
+    pub fn reserve(&mut self, alloc: Global, id: u64) -> Result<(), AllocError>
+        requires given { IsGiven (world_of self.old) id }
+        ensures ready { OnOk result (self.new.room ≡ id) }
+        ensures same { Stays self.old self.new }
+    {
+        self.room = None;
+        grow_history(&mut self.history, &self.tables.course)?;
+        let due = due_list(alloc, &self.tables.regions, &mut self.tables.store, id)?;
+        self.room = Some(Room { id, due });
+        Ok(())
+    }
+
     /// Begins the tick of a region that was reserved for. Over exactly where Finish or Stop stands in the history; else NotReady
     /// exactly where its state is not Ready; else NotOwing exactly where it owes no tick. Only Got is recorded. Takes no memory.
     pub fn begin(&mut self, by: u32, worker: u32, id: u64) -> BeginAnswer
@@ -75,6 +91,50 @@ impl Core {
             moved: false,
         })
     }
+}
+
+/// An empty list with room for the tasks that are due in the next tick of a region, where it owes one. Its bag is whole then.
+fn due_list(
+    alloc: Global,
+    regions: &Regions,
+    store: &mut Store,
+    id: u64,
+) -> Result<Vec<Task>, AllocError>
+    requires given { IsGivenIn (grid_state regions.now) id }
+    requires bags { HaveBags (grid_state regions.now) (bag_of store.old) }
+    requires at_home { owes_tick (grid_state regions.now) (bag_of store.old) id ≡ true → (bag_of store.old id).taken ≡ false }
+    requires free { owes_tick (grid_state regions.now) (bag_of store.old) id ≡ true → AreFree (bag_of store.old) (filter (is_chunk_of (grid_state regions.now) id) all_chunks) }
+    ensures bags { (r : ℕ) → Gathered (grid_state regions.now) r (bag_of store.old r) (bag_of store.new r) }
+    ensures things { SameThings store.old store.new }
+    ensures next { next_of store.new ≡ next_of store.old }
+    ensures room { IfOk result (λ due. DueRoom due store.new (owes_tick (grid_state regions.now) (bag_of store.old) id) id) }
+{
+    if !owes(regions, store, id) {
+        return Ok(Vec::new(alloc));
+    }
+    settle(alloc, regions, store, id)?;
+    let mut due = Vec::new(alloc);
+    due.reserve(store.count_due(id) as usize)?;
+    Ok(due)
+}
+
+/// Makes the bag of a region whole for the region's loaded chunks.
+fn settle(alloc: Global, regions: &Regions, store: &mut Store, id: u64) -> Result<(), AllocError>
+    requires given { IsGivenIn (grid_state regions.now) id }
+    requires here { (bag_of store.old id).here ≡ true }
+    requires at_home { (bag_of store.old id).taken ≡ false }
+    requires free { AreFree (bag_of store.old) (filter (is_chunk_of (grid_state regions.now) id) all_chunks) }
+    ensures bags { (r : ℕ) → Gathered (grid_state regions.now) r (bag_of store.old r) (bag_of store.new r) }
+    ensures whole { OnOk result ((bag_of store.new id).whole ≡ true) }
+    ensures things { SameThings store.old store.new }
+    ensures next { next_of store.new ≡ next_of store.old }
+{
+    if store.is_whole(id) {
+        return Ok(());
+    }
+    let mut chunks = Vec::with_capacity(alloc, regions.chunk_count(id) as usize)?;
+    regions.list_chunks(id, &mut chunks);
+    store.gather(id, &chunks)
 }
 
 /// The memory for the due tasks that was taken.

@@ -52,6 +52,21 @@ pub(crate) struct Tables {
     pub(crate) course: Course,
 }
 
+/// Takes the memory for an entry and for a Stop after it.
+pub(crate) fn grow_history(history: &mut Vec<Entry>, course: &Course) -> Result<(), AllocError>
+    ensures entries { history.new.items ≡ history.old.items }
+    ensures len { vec_len history.new ≡ vec_len history.old }
+    ensures capacity { vec_capacity history.old ≤ vec_capacity history.new }
+    ensures room { OnOk result (vec_len history.new + 2 ≤ vec_capacity history.new) }
+    ensures size { OnOk result (course.now.size < 2 ^ 50) }
+{
+    history.reserve(2)?;
+    if course.size >= MOST {
+        return Err(AllocError);
+    }
+    Ok(())
+}
+
 /// Takes the memory for an entry with one hold more, for so many tasks, and for a Stop after it.
 pub(crate) fn grow(
     tables: &mut Tables,
@@ -64,10 +79,7 @@ pub(crate) fn grow(
     ensures capacity { vec_capacity history.old ≤ vec_capacity history.new }
     ensures ok { OnOk result (HasGrown tables.new history.new tasks) }
 {
-    history.reserve(2)?;
-    if tables.course.size >= MOST {
-        return Err(AllocError);
-    }
+    grow_history(history, &tables.course)?;
     tables.regions.reserve(1)?;
     tables.store.reserve(tasks, 1)?;
     tables.tickets.reserve(1)?;

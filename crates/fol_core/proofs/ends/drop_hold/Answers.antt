@@ -1,7 +1,5 @@
 use Rattle.std.proofs.Common.{◌≡◌, sym, ◌∙◌}
 use Rattle.fol_regions.specs.Table.{grid_state}
-use Rattle.fol_regions.specs.Answers.{remove_answer}
-use Rattle.fol_sections.specs.declared.answers.Removed.{Removed}
 use Rattle.fol_sections.specs.declared.answers.Removed.TheVariants.{Gone, Lowered, NotLoaded}
 use Rattle.fol_store.specs.Stock.{bag_of}
 use Rattle.fol_core.proofs.Loosened.{loosens_still}

@@ -1,4 +1,4 @@
-use Rattle.std.proofs.Common.{◌≡◌, ℕ, ◌+◌, ◌≤◌, ◌^◌, refl, sym, ◌∙◌, ap, arith, List, length, vec_len, vec_capacity}
+use Rattle.std.proofs.Common.{◌∙◌, ap, arith}
 use Rattle.fol_core.proofs.EndSteps as step
 use Rattle.fol_core.proofs.ends.end_tick.Goals as goal
 

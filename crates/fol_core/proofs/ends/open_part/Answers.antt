@@ -1,4 +1,4 @@
-use Rattle.std.proofs.Common.{◌≡◌, ℕ, sym, ◌∙◌, ap, false}
+use Rattle.std.proofs.Common.{◌∙◌, ap, false}
 use Rattle.fol_model.specs.ActionStep.{at_id}
 use Rattle.fol_laws.proofs.FunctionsChanged.{at_here}
 use Rattle.fol_store.specs.Bag.{Bag, new_bag}

@@ -6,20 +6,20 @@ pub returns-clause-same : goal.returns-clause-same
 unfolding number_at
 returns-clause-same c = record {
   grid = refl;
-  regions = c.reserve-2.ensures.state;
-  store = record { flat = c.reserve-3.ensures.contents; jobs = c.reserve-3.ensures.tasks; bags = c.reserve-3.ensures.bags; next = c.reserve-3.ensures.next };
-  tickets = λ a b. c.reserve-4.ensures.entries.2 (a, b);
-  agenda = c.reserve-5.ensures.items;
+  regions = c.reserve.ensures.state;
+  store = record { flat = c.reserve-2.ensures.contents; jobs = c.reserve-2.ensures.tasks; bags = c.reserve-2.ensures.bags; next = c.reserve-2.ensures.next };
+  tickets = λ a b. c.reserve-3.ensures.entries.2 (a, b);
+  agenda = c.reserve-4.ensures.items;
   course = refl;
 }
 
-pub returns-in_err-reserve-5-clause-same : goal.returns-in_err-reserve-5-clause-same
+pub returns-in_err-reserve-4-clause-same : goal.returns-in_err-reserve-4-clause-same
 unfolding number_at
-returns-in_err-reserve-5-clause-same c = record {
+returns-in_err-reserve-4-clause-same c = record {
   grid = refl;
-  regions = c.reserve-2.ensures.state;
-  store = record { flat = c.reserve-3.ensures.contents; jobs = c.reserve-3.ensures.tasks; bags = c.reserve-3.ensures.bags; next = c.reserve-3.ensures.next };
-  tickets = λ a b. c.reserve-4.ensures.entries.2 (a, b);
-  agenda = c.reserve-5.ensures.items;
+  regions = c.reserve.ensures.state;
+  store = record { flat = c.reserve-2.ensures.contents; jobs = c.reserve-2.ensures.tasks; bags = c.reserve-2.ensures.bags; next = c.reserve-2.ensures.next };
+  tickets = λ a b. c.reserve-3.ensures.entries.2 (a, b);
+  agenda = c.reserve-4.ensures.items;
   course = refl;
 }

@@ -1,7 +1,5 @@
-use Rattle.std.proofs.Common.{◌≡◌, ◌+◌, ◌++◌, ℕ, refl, sym, ◌∙◌, ap, arith, length}
-use Rattle.fol_model.specs.World.{World}
-use Rattle.fol_model.specs.End.{accepted, all_accepted, answers}
-use Rattle.fol_core.specs.Underway.{AreFit, Underway}
+use Rattle.std.proofs.Common.{◌+◌, sym, ◌∙◌, arith, length}
+use Rattle.fol_model.specs.End.{accepted}
 use Rattle.fol_core.proofs.WishLists.{all_answered, all_done, answers_grow, first_may, first_underway, none_left, rest_fits, rest_may, rest_underway}
 use Rattle.fol_core.proofs.wishes.accept_all.Goals as goal
 

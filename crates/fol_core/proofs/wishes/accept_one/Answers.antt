@@ -1,4 +1,4 @@
-use Rattle.std.proofs.Common.{◌≡◌, ◌≢◌, ◌⊎◌, ℕ, refl, sym, ◌∙◌, ap, inl, inr}
+use Rattle.std.proofs.Common.{◌≡◌, ◌≢◌, ◌⊎◌, ℕ, sym, ◌∙◌, ap, inl, inr}
 use Rattle.fol_regions.specs.declared.answers.AddAnswer.{AddAnswer}
 use Rattle.fol_regions.specs.declared.answers.AddAnswer.TheVariants.{Full, Counted, Changed}
 use Rattle.fol_model.specs.declared.events.Accept.TheVariants as accept

@@ -1,4 +1,4 @@
-use Rattle.std.proofs.Common.{◌≡◌, ℕ, ◌+◌, ap, sym, refl, ◌∙◌, arith}
+use Rattle.std.proofs.Common.{◌≡◌, ℕ, ◌+◌, sym, refl}
 use Rattle.fol_core.specs.declared.tables.Course.{Course}
 use Rattle.fol_core.proofs.ReleaseKept.{out_same, release_kept}
 use Rattle.fol_core.proofs.Rooms.{room_left, same_room}

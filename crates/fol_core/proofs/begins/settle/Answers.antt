@@ -1,0 +1,16 @@
+use Rattle.std.proofs.Common.{◌≡◌, ◌∙◌, filter}
+use Rattle.fol_model.specs.Universe.{all_chunks}
+use Rattle.fol_model.specs.Outputs.{is_chunk_of}
+use Rattle.fol_regions.specs.Table.{grid_state}
+use Rattle.fol_core.proofs.ChunkLists.{kept_sorted, kept_within}
+use Rattle.fol_core.proofs.begins.settle.Goals as goal
+
+pub gather-requires-clause-order : goal.gather-requires-clause-order
+gather-requires-clause-order c =
+    let e : c.deref.result.now ≡ filter (is_chunk_of (grid_state c.args.regions.now) c.args.id) all_chunks = c.deref.ensures.value ∙ c.list_chunks.ensures.chunks in
+    rw e (kept_sorted (is_chunk_of (grid_state c.args.regions.now) c.args.id))
+
+pub gather-requires-clause-places : goal.gather-requires-clause-places
+gather-requires-clause-places c =
+    let e : c.deref.result.now ≡ filter (is_chunk_of (grid_state c.args.regions.now) c.args.id) all_chunks = c.deref.ensures.value ∙ c.list_chunks.ensures.chunks in
+    rw e (kept_within (is_chunk_of (grid_state c.args.regions.now) c.args.id))

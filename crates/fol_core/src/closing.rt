@@ -1,0 +1,325 @@
+//! The rows of the world after a history.
+
+ghost use Rattle.std.specs.Prelude.{ℕ, ◌≡◌, ◌<◌, [], ◌∷◌, not, false, map, flat_map, filter, find, All, IfOk, OnOk, IfErr, Option};
+ghost use Rattle.std.specs.BTreeMap.{IsOrdered};
+ghost use Rattle.std.specs.Ordering.{nat_cmp};
+ghost use Rattle.fol_model.specs.declared.entities.Place.{Place};
+ghost use Rattle.fol_model.specs.Counting.{some_below};
+ghost use Rattle.fol_model.specs.GridState.{is_dead};
+ghost use Rattle.fol_model.specs.Universe.{numbers_below};
+ghost use Rattle.fol_model.specs.Outputs.{Outputs};
+ghost use Rattle.fol_regions.specs.Table.{grid_state};
+ghost use Rattle.fol_store.specs.Stock.{bag_of};
+ghost use Rattle.fol_core.specs.Meaning.{world_of};
+ghost use Rattle.fol_core.specs.Answers.{Faults, is_ticking_in};
+ghost use Rattle.fol_core.specs.Stands.{Stands};
+ghost use Rattle.fol_core.specs.Closings.{ArePlaces, AreThings, HasRow, PutsAll, arrival_entries, owner_entries, owner_entry, owner_row, owners_in, place_cmp, place_row, places_in, row_in, standing_entry, ticks_in};
+
+use crate::CloseFault;
+use crate::machine::Core;
+use crate::tables::Tables;
+use fol_model::{
+    Action, BlockAt, Closing, Entity, EntityRow, Entry, Opening, OwnerRow, Place, RegionRow,
+    SectionPos, Sequence, State, TaskRow,
+};
+use fol_regions::Regions;
+use fol_store::{Rows, Store};
+use std::alloc::{AllocError, Global};
+use std::collections::BTreeMap;
+
+/// The region of a section by its `z` and `x`.
+type Owners = BTreeMap<(i32, i32), u64>;
+
+/// The place of an entity by its id.
+type Places = BTreeMap<u32, Place>;
+
+/// The rows of the grid.
+#[derive(Drop)]
+struct GridRows {
+    regions: Vec<RegionRow>,
+    owners: Vec<OwnerRow>,
+}
+
+/// The rows of what lies on it.
+#[derive(Drop)]
+struct ThingRows {
+    blocks: Vec<BlockAt>,
+    entities: Vec<EntityRow>,
+    tasks: Vec<TaskRow>,
+}
+
+impl Core {
+    /// The rows of the world after the history, with the opening and the history. Ticking exactly where a region ticks, with the
+    /// lowest such one. All is dropped after a fault.
+    pub fn closing(self, alloc: Global) -> Result<Closing, CloseFault>
+        ensures rows { IfOk result (λ c. Outputs self.opening self.history c) }
+        ensures rests { OnOk result (some_below (is_ticking_in (world_of self)) (world_of self).grid.next ≡ false) }
+        ensures fault { IfErr result (Faults (world_of self)) }
+    {
+        let Core {
+            opening,
+            history,
+            tables,
+            room: _,
+            alloc: _,
+        } = self;
+        let live = match tables.regions.live(alloc) {
+            Ok(live) => live,
+            Err(_) => return Err(CloseFault::NoMemory),
+        };
+        if let Some(id) = first_ticking(&tables.regions, live.as_slice()) {
+            return Err(CloseFault::Ticking(id));
+        }
+        match closing_of(alloc, opening, history, tables, live.as_slice()) {
+            Ok(closing) => Ok(closing),
+            Err(_) => Err(CloseFault::NoMemory),
+        }
+    }
+}
+
+/// The closing of a world in which no region ticks, from the regions that are not Dead.
+fn closing_of(
+    alloc: Global,
+    opening: Opening,
+    history: Vec<Entry>,
+    tables: Tables,
+    live: &[u64],
+) -> Result<Closing, AllocError>
+    requires stands { Stands opening history.items tables }
+    requires live { live.now ≡ filter (λ r. not (is_dead ((grid_state tables.regions).state r))) (numbers_below (grid_state tables.regions).next) }
+    requires calm { find (ticks_in (grid_state tables.regions)) live.now ≡ Option.None }
+    ensures { IfOk result (λ c. Outputs opening history.items c) }
+{
+    let grid = grid_rows(alloc, &tables.regions, &tables.store, live)?;
+    let things = thing_rows(alloc, store_of(tables))?;
+    Ok(put_together(opening, history, grid, things))
+}
+
+/// The rows of the regions and of their sections.
+fn grid_rows(
+    alloc: Global,
+    regions: &Regions,
+    store: &Store,
+    live: &[u64],
+) -> Result<GridRows, AllocError>
+    requires have { All (HasRow (grid_state regions.now) (bag_of store.now)) live.now }
+    requires live { live.now ≡ filter (λ r. not (is_dead ((grid_state regions.now).state r))) (numbers_below (grid_state regions.now).next) }
+    ensures regions { IfOk result (λ rows. rows.regions.items ≡ map (row_in (grid_state regions.now) (bag_of store.now)) live.now) }
+    ensures owners { IfOk result (λ rows. rows.owners.items ≡ owners_in (grid_state regions.now)) }
+{
+    let region_list = region_rows(alloc, regions, store, live)?;
+    let owner_list = owner_rows(alloc, regions, live)?;
+    Ok(GridRows {
+        regions: region_list,
+        owners: owner_list,
+    })
+}
+
+/// The store of the tables.
+fn store_of(tables: Tables) -> Store
+    ensures { result ≡ tables.store }
+{
+    let Tables {
+        grid: _,
+        regions: _,
+        store,
+        tickets: _,
+        agenda: _,
+        course: _,
+    } = tables;
+    store
+}
+
+/// The rows of what lies in a store.
+fn thing_rows(alloc: Global, store: Store) -> Result<ThingRows, AllocError>
+    ensures { IfOk result (λ rows. AreThings store rows.blocks.items rows.entities.items rows.tasks.items) }
+{
+    let rows = store.into_rows(alloc)?;
+    let Rows {
+        blocks,
+        entities,
+        tasks,
+    } = rows;
+    let entity_list = entity_rows(alloc, entities.as_slice(), tasks.as_slice())?;
+    Ok(ThingRows {
+        blocks,
+        entities: entity_list,
+        tasks,
+    })
+}
+
+/// The closing of these rows.
+fn put_together(opening: Opening, history: Vec<Entry>, grid: GridRows, things: ThingRows) -> Closing
+    ensures opening { result.opening ≡ opening }
+    ensures history { result.history ≡ history.items }
+    ensures regions { result.regions ≡ grid.regions.items }
+    ensures owners { result.owners ≡ grid.owners.items }
+    ensures tasks { result.tasks ≡ things.tasks.items }
+    ensures entities { result.entities ≡ things.entities.items }
+    ensures blocks { result.blocks ≡ things.blocks.items }
+{
+    Closing {
+        opening,
+        history: Sequence::of(history),
+        regions: Sequence::of(grid.regions),
+        owners: Sequence::of(grid.owners),
+        tasks: Sequence::of(things.tasks),
+        entities: Sequence::of(things.entities),
+        blocks: Sequence::of(things.blocks),
+    }
+}
+
+/// The first Ticking region of a list.
+fn first_ticking(regions: &Regions, live: &[u64]) -> Option<u64>
+    ensures { result ≡ find (ticks_in (grid_state regions.now)) live.now }
+{
+    live.iter().copied().find(|id| ticks(regions, *id))
+}
+
+/// Whether a region ticks.
+fn ticks(regions: &Regions, id: u64) -> bool
+    ensures { result ≡ ticks_in (grid_state regions.now) id }
+{
+    regions.keeps_rules();
+    match regions.state(id) {
+        Some(State::Ticking) => true,
+        _ => false,
+    }
+}
+
+/// The rows of these regions.
+fn region_rows(
+    alloc: Global,
+    regions: &Regions,
+    store: &Store,
+    live: &[u64],
+) -> Result<Vec<RegionRow>, AllocError>
+    requires have { All (HasRow (grid_state regions.now) (bag_of store.now)) live.now }
+    ensures { IfOk result (λ v. v.items ≡ map (row_in (grid_state regions.now) (bag_of store.now)) live.now) }
+{
+    let mut rows = Vec::new(alloc);
+    for id in live {
+        rows.push(region_row(regions, store, *id))?;
+    }
+    Ok(rows)
+}
+
+/// The row of a region.
+fn region_row(regions: &Regions, store: &Store, id: u64) -> RegionRow
+    requires has { HasRow (grid_state regions.now) (bag_of store.now) id }
+    ensures { result ≡ row_in (grid_state regions.now) (bag_of store.now) id }
+{
+    regions.keeps_rules();
+    RegionRow {
+        id,
+        state: regions.state(id).unwrap(),
+        tick: store.tick(id),
+        owed: store.owed(id),
+        sections: regions.sections(id).len() as u32,
+        chunks: regions.chunk_count(id) as u32,
+    }
+}
+
+/// The sections of these regions, by (z, x), with their regions.
+fn owner_rows(alloc: Global, regions: &Regions, live: &[u64]) -> Result<Vec<OwnerRow>, AllocError>
+    requires live { live.now ≡ filter (λ r. not (is_dead ((grid_state regions.now).state r))) (numbers_below (grid_state regions.now).next) }
+    ensures { IfOk result (λ v. v.items ≡ owners_in (grid_state regions.now)) }
+{
+    regions.keeps_rules();
+    let mut owners = BTreeMap::new(alloc);
+    put_owners(&mut owners, regions, live)?;
+    list_owners(alloc, &owners)
+}
+
+/// Puts the sections of these regions into a map.
+fn put_owners(owners: &mut Owners, regions: &Regions, live: &[u64]) -> Result<(), AllocError>
+    requires given { All (λ id. (0 < id) × (id < (grid_state regions.now).next)) live.now }
+    ensures { OnOk result (PutsAll place_cmp owners.old owners.new (flat_map (owner_entries (grid_state regions.now)) live.now)) }
+{
+    for id in live {
+        put_sections(owners, regions.sections(*id), *id)?;
+    }
+    Ok(())
+}
+
+/// Puts sections of one region into a map.
+fn put_sections(owners: &mut Owners, sections: &[SectionPos], id: u64) -> Result<(), AllocError>
+    ensures { OnOk result (PutsAll place_cmp owners.old owners.new (map (owner_entry id) sections.now)) }
+{
+    for s in sections {
+        put_section(owners, *s, id)?;
+    }
+    Ok(())
+}
+
+/// Puts a section into a map.
+fn put_section(owners: &mut Owners, s: SectionPos, id: u64) -> Result<(), AllocError>
+    ensures { OnOk result (PutsAll place_cmp owners.old owners.new (owner_entry id s ∷ [])) }
+{
+    owners.insert((s.z, s.x), id)?;
+    Ok(())
+}
+
+/// The rows of a map of owners.
+fn list_owners(alloc: Global, owners: &Owners) -> Result<Vec<OwnerRow>, AllocError>
+    ensures rows { IfOk result (λ v. v.items ≡ map owner_row owners.now.entries) }
+    ensures ordered { IsOrdered place_cmp owners.now }
+{
+    owners
+        .iter()
+        .map(|((z, x), id)| OwnerRow {
+            at: SectionPos { x: *x, z: *z },
+            region: *id,
+        })
+        .collect(alloc)
+}
+
+/// The rows of entities that stand or that a task brings, by id.
+fn entity_rows(
+    alloc: Global,
+    entities: &[Entity],
+    tasks: &[TaskRow],
+) -> Result<Vec<EntityRow>, AllocError>
+    ensures { IfOk result (λ v. (f : ℕ → Option Place) → ArePlaces f entities.now tasks.now → v.items ≡ places_in f) }
+{
+    let mut places = BTreeMap::new(alloc);
+    put_standing(&mut places, entities)?;
+    put_arrivals(&mut places, tasks)?;
+    list_places(alloc, &places)
+}
+
+/// Puts where these entities stand into a map.
+fn put_standing(places: &mut Places, entities: &[Entity]) -> Result<(), AllocError>
+    ensures { OnOk result (PutsAll nat_cmp places.old places.new (map standing_entry entities.now)) }
+{
+    for e in entities {
+        places.insert(e.id, Place::At(e.at))?;
+    }
+    Ok(())
+}
+
+/// Puts the entities that these tasks bring into a map.
+fn put_arrivals(places: &mut Places, tasks: &[TaskRow]) -> Result<(), AllocError>
+    ensures { OnOk result (PutsAll nat_cmp places.old places.new (flat_map arrival_entries tasks.now)) }
+{
+    for row in tasks {
+        if let Action::Arrive(e) = &row.task.action {
+            places.insert(e.id, Place::Transit(row.task.number))?;
+        }
+    }
+    Ok(())
+}
+
+/// The rows of a map of places.
+fn list_places(alloc: Global, places: &Places) -> Result<Vec<EntityRow>, AllocError>
+    ensures rows { IfOk result (λ v. v.items ≡ map place_row places.now.entries) }
+    ensures ordered { IsOrdered nat_cmp places.now }
+{
+    places
+        .iter()
+        .map(|(id, place)| EntityRow {
+            id: *id,
+            place: *place,
+        })
+        .collect(alloc)
+}
