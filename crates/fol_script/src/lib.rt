@@ -3,7 +3,7 @@
 //! A text is cut into lines, and each line that is not skipped into words. `fol_model` says which lines are bad and why, and
 //! which bytes are the text of an opening or of a script. `read_world` and `read_script` give the value exactly where the text
 //! is that of one, and else the first bad line with its first cause; any bytes are read, in one pass. `print_world` and
-//! `print_script` give the one text without skipped lines that reads back as the value.
+//! `print_script` give the one text without skipped lines that reads back as the value. `read_number` reads one word, as the command line has it.
 //!
 //! From the bottom up: `lines` cuts, `numbers` reads numbers of any length, `forms` says what stands behind a word, `cells`
 //! and `judge` read a line by itself; `script_lines` and `world_lines` see it among the lines before it; `scripts` and `worlds`
@@ -33,6 +33,7 @@ mod world_printer;
 mod worlds;
 
 pub use errors::ReadError;
+pub use numbers::read_number;
 pub use script_printer::print_script;
 pub use scripts::read_script;
 pub use world_printer::print_world;

@@ -1,8 +1,5 @@
-pub mod Turning
-pub mod Phases
-pub mod Growth
-pub mod CoreCalls
-pub mod TickCalls
-pub mod ScriptRuns
+pub mod MoreWorkers
+pub mod GoodTexts
+pub mod MadeTexts
 pub mod Outcomes
 pub mod RunEndings

@@ -1,11 +1,21 @@
--- Which words are a command.
-use Rattle.std.specs.Prelude.{ℕ, Bool, false, not, ◌&&◌, ◌==◌, List, [], ◌∷◌, Option, Some, None, codes, if◌then◌else◌}
+-- Which words are a command, and what it asks for.
+use Rattle.std.specs.Prelude.{ℕ, pos, Bool, true, false, not, ◌&&◌, ◌==◌, List, [], ◌∷◌, Option, Some, None, codes, if◌then◌else◌}
 use Rattle.std.specs.Str.{bytes_eq}
+use Rattle.fol_model.specs.declared.words.Reading.{Reading}
+use Rattle.fol_model.specs.declared.words.Reading.TheVariants.{Is}
+use Rattle.fol_model.specs.TextNumbers.{reading}
+use Rattle.fol_top.specs.declared.form.Form.{Form}
+use Rattle.fol_top.specs.declared.form.Form.TheVariants.{Text, Json}
 
--- the names of the two files that a command reads
+-- the names of the two files that `run` reads
 pub record FileNames : Type 0 where
   pub world : List ℕ
   pub script : List ℕ
+
+-- a run of two files, to be written in this form, or a run of the made texts of so many clusters
+pub data Request : Type 0 where
+  run : FileNames → Form → Request
+  make : ℕ → Request
 
 -- not empty, and the first byte is not `-`
 abbrev pub is_name : List ℕ → Bool
@@ -16,7 +26,28 @@ is_name (b ∷ bs) = not (b == 45)
 abbrev pub is_run : List ℕ → List ℕ → List ℕ → List ℕ → Bool
 is_run command world script workers = (bytes_eq command (codes "run") && bytes_eq workers (codes "1")) && (is_name world && is_name script)
 
--- the names in `run WORLD SCRIPT 1`; None where the words are no command
-abbrev pub names_in : List (List ℕ) → Option FileNames
-names_in (command ∷ world ∷ script ∷ workers ∷ []) = if is_run command world script workers then Some (record { world = world; script = script }) else None
-names_in _ = None
+-- what `make` asks for with a word that reads so
+abbrev pub make_of : Reading → Option Request
+make_of (Is (pos n)) = Some (make n)
+make_of _ = None
+
+-- whether files are to be read
+abbrev pub asks_for_files : Option Request → Bool
+asks_for_files (Some (run names form)) = true
+asks_for_files _ = false
+
+-- the form that the words behind `run WORLD SCRIPT 1` ask for
+abbrev pub form_in : List (List ℕ) → Option Form
+form_in [] = Some Text
+form_in (form ∷ []) = if bytes_eq form (codes "json") then Some Json else None
+form_in _ = None
+
+abbrev pub run_of : FileNames → Option Form → Option Request
+run_of names None = None
+run_of names (Some form) = Some (run names form)
+
+-- what `run WORLD SCRIPT 1`, `run WORLD SCRIPT 1 json` or `make N` asks for, with N from 1 to 500; None where the words are no command
+abbrev pub request_in : List (List ℕ) → Option Request
+request_in (command ∷ number ∷ []) = if bytes_eq command (codes "make") then make_of (reading (pos 1) (pos 500) number) else None
+request_in (command ∷ world ∷ script ∷ workers ∷ more) = if is_run command world script workers then run_of (record { world = world; script = script }) (form_in more) else None
+request_in _ = None

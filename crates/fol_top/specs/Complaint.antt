@@ -38,8 +38,7 @@ text_of s =
     else (if nat_eq s.code 6 then codes "fol: write fault\n"
     else (if nat_eq s.code 7 then codes "fol: no memory\n"
     else (if nat_eq s.code 8 then codes "fol: too long\n"
-    else (if nat_eq s.code 9 then codes "fol: unbuilt\n"
-    else [])))))))
+    else []))))))
 
 -- a sink was given the text in one put: it received it, or a prefix of it where its count of faults rose
 abbrev pub Puts : Option (List ℕ) → Option (List ℕ) → ℕ → ℕ → List ℕ → Type 0

@@ -3,7 +3,7 @@ use Rattle.std.specs.Prelude.{ℕ, None, Some}
 use Rattle.fol_model.specs.declared.causes.Cause.{Cause}
 use Rattle.fol_top.specs.declared.ending.Status.{Status}
 use Rattle.fol_top.specs.declared.ending.Ending.{Ending}
-use Rattle.fol_top.specs.declared.ending.Ending.TheVariants.{Written, Words, World, Script, ReadFault, WriteFault, NoMemory, TooLong, Unbuilt}
+use Rattle.fol_top.specs.declared.ending.Ending.TheVariants.{Written, Words, World, Script, ReadFault, WriteFault, NoMemory, TooLong}
 
 abbrev pub plain : ℕ → Status
 plain code = record { code = code; line = 0; cause = None }
@@ -20,4 +20,3 @@ status_of ReadFault = plain 5
 status_of WriteFault = plain 6
 status_of NoMemory = plain 7
 status_of TooLong = plain 8
-status_of Unbuilt = plain 9

@@ -1,6 +1,6 @@
 pub mod Command
+pub mod Asked
 pub mod Inputs
-pub mod Today
 pub mod Report
 pub mod Ending
 pub mod Reading
@@ -9,6 +9,3 @@ pub mod Writing
 pub mod Complaint
 pub mod Outcome
 pub mod Came
-pub mod Turns
-pub mod Calm
-pub mod Progress

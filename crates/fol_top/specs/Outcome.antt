@@ -1,14 +1,17 @@
 -- What a status says of a run.
-use Rattle.std.specs.Prelude.{ℕ, ◌≡◌, ◌≢◌, ◌≤◌, ◌↔◌, ◌⊎◌, List, Option, Some, None, length}
+use Rattle.std.specs.Prelude.{ℕ, false, ◌≡◌, ◌≢◌, ◌≤◌, ◌<◌, ◌↔◌, ◌⊎◌, List, Option, Some, None, length}
+use Rattle.fol_model.specs.declared.causes.Cause.{Cause}
 use Rattle.fol_model.specs.declared.openings.Opening.{Opening}
 use Rattle.fol_model.specs.declared.scripts.Command.{Command}
-use Rattle.fol_model.specs.Texts.{IsWorldText, IsScriptText}
+use Rattle.fol_model.specs.declared.words.TextKind.TheVariants as kinds
+use Rattle.fol_model.specs.TextCauses.{first_bad}
+use Rattle.fol_model.specs.Texts.{IsWorldText, IsScriptText, script_kind}
 use Rattle.fol_io.specs.Counts.{Rose}
-use Rattle.fol_top.specs.Command.{FileNames, names_in}
+use Rattle.fol_top.specs.Command.{FileNames, asks_for_files, make, request_in, run}
 use Rattle.fol_top.specs.Inputs.{Faulted, Faults, Held, Overlong, size_limit}
-use Rattle.fol_top.specs.Report.{BadScript, BadWorld, Unrunnable, Written, WrittenInPart}
-use Rattle.fol_top.specs.Today.{Runnable}
+use Rattle.fol_top.specs.Report.{BadScript, BadWorld, Written, WrittenInPart}
 use Rattle.fol_top.specs.declared.ending.Status.{Status}
+use Rattle.fol_top.specs.declared.form.Form.{Form}
 
 -- what a run was given and left: its words, what the shelf holds, and of shelf and output the counts and bytes before and after
 pub record Course : Type 0 where
@@ -23,31 +26,67 @@ pub record Course : Type 0 where
   pub write_faults : ℕ
   pub write_faults_later : ℕ
 
--- the words are a command, both files are known, short enough, and texts that can be run, and no device that they need met a fault
-pub record RunsWell (v : Course) : Type 0 where
+-- the shelf gave no byte and met no fault
+pub record Untouched (v : Course) : Type 0 where
+  pub taken : v.taken_later ≡ v.taken
+  pub faults : (name : List ℕ) → v.faults_later name ≡ v.faults name
+
+-- the words are a `run`, and the shelf tells that it holds these bytes under its two names, within the limit
+pub record Told (v : Course) (world script : List ℕ) : Type 0 where
   pub names : FileNames
-  pub command : names_in v.words ≡ Some names
+  pub form : Form
+  pub command : request_in v.words ≡ Some (run names form)
+  pub world_held : v.held names.world ≡ Some world
+  pub world_within : length world ≤ size_limit
+  pub script_held : v.held names.script ≡ Some script
+  pub script_within : length script ≤ size_limit
+
+-- the shelf tells bytes that are more than the limit
+abbrev pub IsLong : Option (List ℕ) → Type 0
+IsLong held = (bytes : List ℕ) × (held ≡ Some bytes) × (size_limit < length bytes)
+
+-- the words are a `run`, and the shelf tells that one of its two files is longer than the limit
+pub record TellsLong (v : Course) : Type 0 where
+  pub names : FileNames
+  pub form : Form
+  pub command : request_in v.words ≡ Some (run names form)
+  pub long : IsLong (v.held names.world) ⊎ IsLong (v.held names.script)
+
+-- the words are a `run`, both files are told, short enough, and texts, and no device met a fault
+pub record RunsWell (v : Course) : Type 0 where
   pub world_bytes : List ℕ
-  pub world_held : v.held names.world ≡ Some world_bytes
-  pub world_within : length world_bytes ≤ size_limit
   pub script_bytes : List ℕ
-  pub script_held : v.held names.script ≡ Some script_bytes
-  pub script_within : length script_bytes ≤ size_limit
+  pub told : Told v world_bytes script_bytes
   pub opening : Opening
   pub world_text : IsWorldText world_bytes opening
   pub script : List Command
   pub script_text : IsScriptText opening.version script_bytes script
-  pub runnable : Runnable opening script
-  pub reads_world : ¬ Rose (v.faults names.world) (v.faults_later names.world)
-  pub reads_script : ¬ Rose (v.faults names.script) (v.faults_later names.script)
+  pub reads_world : ¬ Rose (v.faults told.names.world) (v.faults_later told.names.world)
+  pub reads_script : ¬ Rose (v.faults told.names.script) (v.faults_later told.names.script)
   pub writes : ¬ Rose v.write_faults v.write_faults_later
 
+-- the words are a `make`, and the output met no fault
+pub record MakesWell (v : Course) : Type 0 where
+  pub clusters : ℕ
+  pub command : request_in v.words ≡ Some (make clusters)
+  pub writes : ¬ Rose v.write_faults v.write_faults_later
+
+-- a fault of the shelf or want of memory came before
+abbrev pub Yields : Status → Type 0
+Yields s = (s.code ≡ 5) ⊎ (s.code ≡ 7)
+
+-- the status tells this line and this cause with this code
+pub record Tells (s : Status) (code line : ℕ) (why : Cause) : Type 0 where
+  pub code_is : s.code ≡ code
+  pub line_is : s.line ≡ line
+  pub cause_is : s.cause ≡ Some why
+
 pub record Outcome (v : Course) (s : Status) : Type 0 where
-  pub known : (s.code ≤ 9) × (s.code ≢ 1)
-  -- 0: the whole output was written, the report of one legal history of what the two files spell
+  pub known : (s.code ≤ 8) × (s.code ≢ 1)
+  -- 0: the whole output was written: of `run` the report, or its JSON form, of one legal history of what the two files spell, and of `make` the summary of one of the made texts
   pub ok : s.code ≡ 0 → Written v.words v.held v.received v.received_later
   -- 2: exactly where the words are no command
-  pub no_command : (s.code ≡ 2) ↔ (names_in v.words ≡ None)
+  pub no_command : (s.code ≡ 2) ↔ (request_in v.words ≡ None)
   -- 3 and 4: this is the first bad line of the world, or of the script of a world that has none
   pub bad_world : s.code ≡ 3 → BadWorld v.words v.held s.line s.cause
   pub bad_script : s.code ≡ 4 → BadScript v.words v.held s.line s.cause
@@ -57,11 +96,17 @@ pub record Outcome (v : Course) (s : Status) : Type 0 where
   pub write_fault : s.code ≡ 6 → WrittenInPart v.words v.held v.received v.received_later × Rose v.write_faults v.write_faults_later
   -- 8: one of the two files has more bytes than the limit
   pub too_long : s.code ≡ 8 → Overlong v.words v.held v.taken v.taken_later
-  -- 9: both files are texts, and the core of today can't run them
-  pub unbuilt : s.code ≡ 9 → Unrunnable v.words v.held
+  -- a bad line that the shelf tells is told, and a file that is too long
+  pub tells_world : (world script : List ℕ) (line : ℕ) (why : Cause) → Told v world script → first_bad kinds.World world ≡ Some (line, why) → Tells s 3 line why ⊎ Yields s
+  pub tells_script : (world script : List ℕ) (o : Opening) (line : ℕ) (why : Cause) → Told v world script → IsWorldText world o
+      → first_bad (script_kind o.version) script ≡ Some (line, why) → Tells s 4 line why ⊎ Yields s
+  pub tells_long : TellsLong v → (s.code ≡ 8) ⊎ Yields s
+  -- only a `run` reads from the shelf
+  pub untouched : asks_for_files (request_in v.words) ≡ false → Untouched v
   -- at every code but 0 and 6 the sink received nothing
   pub nothing : s.code ≢ 0 → s.code ≢ 6 → v.received_later ≡ v.received
   -- a line and a cause come with 3 and 4 alone
   pub no_line : s.code ≢ 3 → s.code ≢ 4 → (s.line ≡ 0) × (s.cause ≡ None)
-  -- where all is well there is a report, or no memory
-  pub complete : RunsWell v → (s.code ≡ 0) ⊎ (s.code ≡ 7)
+  -- where all is well there is an output, or no memory
+  pub runs : RunsWell v → (s.code ≡ 0) ⊎ (s.code ≡ 7)
+  pub makes : MakesWell v → (s.code ≡ 0) ⊎ (s.code ≡ 7)

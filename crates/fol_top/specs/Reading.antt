@@ -4,7 +4,7 @@ use Rattle.fol_io.specs.Counts.{Rose}
 use Rattle.fol_io.specs.Shelf.{IsTooLong}
 use Rattle.fol_top.specs.Inputs.{Faults, Held, size_limit}
 use Rattle.fol_top.specs.declared.ending.Ending.{Ending}
-use Rattle.fol_top.specs.declared.ending.Ending.TheVariants.{Written, Words, World, Script, ReadFault, WriteFault, NoMemory, TooLong, Unbuilt}
+use Rattle.fol_top.specs.declared.ending.Ending.TheVariants.{Written, Words, World, Script, ReadFault, WriteFault, NoMemory, TooLong}
 
 -- of one file: what its shelf holds, its count of faults before and after, and the count of bytes taken before and after
 abbrev pub ReadEnds : Option (List ℕ) → ℕ → ℕ → ℕ → ℕ → Ending → Type 0
@@ -16,7 +16,6 @@ ReadEnds held faults faults_later taken taken_later Words = ⊥
 ReadEnds held faults faults_later taken taken_later (World line cause) = ⊥
 ReadEnds held faults faults_later taken taken_later (Script line cause) = ⊥
 ReadEnds held faults faults_later taken taken_later WriteFault = ⊥
-ReadEnds held faults faults_later taken taken_later Unbuilt = ⊥
 
 -- of the two files of these names
 abbrev pub ReadsEnd : Held → Faults → Faults → ℕ → ℕ → List ℕ → List ℕ → Ending → Type 0
@@ -28,4 +27,3 @@ ReadsEnd held faults faults_later taken taken_later world script Words = ⊥
 ReadsEnd held faults faults_later taken taken_later world script (World line cause) = ⊥
 ReadsEnd held faults faults_later taken taken_later world script (Script line cause) = ⊥
 ReadsEnd held faults faults_later taken taken_later world script WriteFault = ⊥
-ReadsEnd held faults faults_later taken taken_later world script Unbuilt = ⊥

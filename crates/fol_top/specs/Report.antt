@@ -1,5 +1,5 @@
--- What is written: the report of a legal history.
-use Rattle.std.specs.Prelude.{ℕ, ◌≡◌, List, ◌++◌, Option, Some}
+-- What is written: the report, the JSON text or the summary of a legal history.
+use Rattle.std.specs.Prelude.{ℕ, ◌≡◌, ◌⊎◌, List, ◌++◌, Option, Some}
 use Rattle.fol_model.specs.declared.openings.Opening.{Opening}
 use Rattle.fol_model.specs.declared.scripts.Command.{Command}
 use Rattle.fol_model.specs.declared.events.Entry.{Entry}
@@ -11,20 +11,31 @@ use Rattle.fol_model.specs.Texts.{IsWorldText, IsScriptText, script_kind}
 use Rattle.fol_model.specs.Legal.{Legal}
 use Rattle.fol_model.specs.Outputs.{Outputs}
 use Rattle.fol_model.specs.Report.{report_text}
+use Rattle.fol_model.specs.JsonReport.{json_text}
+use Rattle.fol_model.specs.Summary.{summary_text}
 use Rattle.fol_model.specs.Rules.{Rules}
 use Rattle.fol_model.specs.Run.{world}
+use Rattle.fol_gen.specs.MadeTexts as made
 use Rattle.fol_io.specs.Sink.{Received, ReceivedPrefix}
+use Rattle.fol_top.specs.Command.{make, request_in}
 use Rattle.fol_top.specs.Inputs.{Held, Inputs}
-use Rattle.fol_top.specs.Today.{Runnable}
+use Rattle.fol_top.specs.declared.form.Form.{Form}
+use Rattle.fol_top.specs.declared.form.Form.TheVariants.{Text, Json, Summary}
 
--- the bytes are the report of one legal history of the opening and the script, with one worker; at each of its points the region rules hold
-pub record IsReport (o : Opening) (script : List Command) (bytes : List ℕ) : Type 0 where
+-- the closing in this form
+abbrev pub text_in : Form → Closing → List ℕ
+text_in Text c = report_text c
+text_in Json c = json_text c
+text_in (Summary clusters) c = summary_text clusters c
+
+-- the bytes are, in this form, the output of one legal history of the opening and the script, with so many workers; at each of its points the region rules hold
+pub record IsReport (form : Form) (o : Opening) (script : List Command) (workers : ℕ) (bytes : List ℕ) : Type 0 where
   pub history : List Entry
   pub closing : Closing
-  pub legal : Legal o script 1 history
+  pub legal : Legal o script workers history
   pub rules : (es rest : List Entry) → history ≡ es ++ rest → Rules (world o es).grid
   pub outputs : Outputs o history closing
-  pub text : bytes ≡ report_text closing
+  pub text : bytes ≡ text_in form closing
 
 -- the two files are the texts of this opening and this script
 pub record Spelled (words : List (List ℕ)) (held : Held) (o : Opening) (script : List Command) : Type 0 where
@@ -34,12 +45,30 @@ pub record Spelled (words : List (List ℕ)) (held : Held) (o : Opening) (script
   pub world_text : IsWorldText world_bytes o
   pub script_text : IsScriptText o.version script_bytes script
 
--- the output of a run of the two files that the words name
-pub record IsOutput (words : List (List ℕ)) (held : Held) (bytes : List ℕ) : Type 0 where
+-- the output of `run`: of the two files that the words name, in the form that they ask for, with one worker
+pub record IsRunOutput (words : List (List ℕ)) (held : Held) (bytes : List ℕ) : Type 0 where
   pub opening : Opening
   pub script : List Command
   pub spelled : Spelled words held opening script
-  pub report : IsReport opening script bytes
+  pub report : IsReport spelled.inputs.form opening script 1 bytes
+
+-- a summary of the made texts of so many clusters, with four workers
+pub record IsSummary (clusters : ℕ) (bytes : List ℕ) : Type 0 where
+  pub opening : Opening
+  pub script : List Command
+  pub world_text : IsWorldText made.world_text opening
+  pub script_text : IsScriptText 1 (made.script_text clusters) script
+  pub report : IsReport (Summary clusters) opening script 4 bytes
+
+-- the output of `make`: such a summary, for the number that the words give
+pub record IsMakeOutput (words : List (List ℕ)) (bytes : List ℕ) : Type 0 where
+  pub clusters : ℕ
+  pub command : request_in words ≡ Some (make clusters)
+  pub summary : IsSummary clusters bytes
+
+-- the output that the words ask for
+abbrev pub IsOutput : List (List ℕ) → Held → List ℕ → Type 0
+IsOutput words held bytes = IsRunOutput words held bytes ⊎ IsMakeOutput words bytes
 
 -- a sink received such an output, whole
 pub record Written (words : List (List ℕ)) (held : Held) (before now : Option (List ℕ)) : Type 0 where
@@ -72,10 +101,3 @@ pub record BadScript (words : List (List ℕ)) (held : Held) (line : ℕ) (cause
   pub why : Cause
   pub told : cause ≡ Some why
   pub first : first_bad (script_kind opening.version) script_bytes ≡ Some (line, why)
-
--- both files are texts, and the core of today can't run them
-pub record Unrunnable (words : List (List ℕ)) (held : Held) : Type 0 where
-  pub opening : Opening
-  pub script : List Command
-  pub spelled : Spelled words held opening script
-  pub unbuilt : ¬ Runnable opening script

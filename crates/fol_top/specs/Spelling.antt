@@ -1,19 +1,16 @@
 -- How the reading of the two texts can end a run.
 use Rattle.std.specs.Prelude.{ℕ, ◌≡◌, List, Some}
 use Rattle.fol_model.specs.declared.openings.Opening.{Opening}
-use Rattle.fol_model.specs.declared.scripts.Command.{Command}
 use Rattle.fol_model.specs.declared.words.TextKind.TheVariants as kinds
 use Rattle.fol_model.specs.TextCauses.{first_bad}
-use Rattle.fol_model.specs.Texts.{IsScriptText, IsWorldText, script_kind}
-use Rattle.fol_top.specs.Today.{Runnable}
+use Rattle.fol_model.specs.Texts.{IsWorldText, script_kind}
 use Rattle.fol_top.specs.declared.ending.Ending.{Ending}
-use Rattle.fol_top.specs.declared.ending.Ending.TheVariants.{Written, Words, World, Script, ReadFault, WriteFault, NoMemory, TooLong, Unbuilt}
+use Rattle.fol_top.specs.declared.ending.Ending.TheVariants.{Written, Words, World, Script, ReadFault, WriteFault, NoMemory, TooLong}
 
--- of the bytes of a world and of a script: the first bad line, of the script only where the world is that of an opening, or both are texts that can't be run
+-- of the bytes of a world and of a script: the first bad line, of the script only where the world is that of an opening
 abbrev pub TextsEnd : List ℕ → List ℕ → Ending → Type 0
 TextsEnd world script (World line cause) = first_bad kinds.World world ≡ Some (line, cause)
 TextsEnd world script (Script line cause) = (o : Opening) × IsWorldText world o × (first_bad (script_kind o.version) script ≡ Some (line, cause))
-TextsEnd world script Unbuilt = (o : Opening) × ((cs : List Command) × IsWorldText world o × IsScriptText o.version script cs × ¬ Runnable o cs)
 TextsEnd world script NoMemory = Unit {0}
 TextsEnd world script Written = ⊥
 TextsEnd world script Words = ⊥

@@ -1,29 +1,60 @@
 //! The words of the command line.
 
-ghost use Rattle.std.specs.Prelude.{◌≡◌, map, Some, None, MatchOption};
-ghost use Rattle.fol_top.specs.Command.{is_name, names_in};
+ghost use Rattle.std.specs.Prelude.{◌≡◌, pos, map, Some, None, IfSome, MatchOption};
+ghost use Rattle.fol_model.specs.TextNumbers.{reading};
+ghost use Rattle.fol_top.specs.Asked.{IsWithin, asked};
+ghost use Rattle.fol_top.specs.Command.{form_in, is_name, is_run, make_of, request_in};
 
-/// The names of the two files that a command reads.
+use crate::form::Form;
+use fol_model::Reading;
+use fol_script::read_number;
+
+/// The names of the two files that `run` reads.
 #[derive(Clone, Copy)]
 pub(crate) struct Names<'a> {
     pub(crate) world: &'a str,
     pub(crate) script: &'a str,
 }
 
-/// The names in `run WORLD SCRIPT 1`; `None` exactly where the words are no command.
-pub(crate) fn names_in<'a>(words: &[&'a str]) -> Option<Names<'a>>
-    ensures { MatchOption result (names_in (map (λ w. w.now) words.now) ≡ None) (λ n. names_in (map (λ w. w.now) words.now) ≡ Some (record { world = n.world.now; script = n.script.now })) }
+/// What a command asks for.
+#[derive(Clone, Copy)]
+pub(crate) enum Request<'a> {
+    /// A run of two files, to be written in this form.
+    Run { names: Names<'a>, form: Form },
+    /// A run of the made texts of so many clusters, from 1 to 500.
+    Make(u32),
+}
+
+/// What `run WORLD SCRIPT 1`, `run WORLD SCRIPT 1 json` or `make N` asks for; `None` exactly where the words are no command.
+pub(crate) fn request_in<'a>(words: &[&'a str]) -> Option<Request<'a>>
+    ensures request { MatchOption result (request_in (map (λ w. w.now) words.now) ≡ None) (λ r. request_in (map (λ w. w.now) words.now) ≡ Some (asked r)) }
+    ensures within { IfSome result IsWithin }
 {
     match words {
-        [command, world, script, workers] => {
-            if *command == "run" && *workers == "1" && is_name(world) && is_name(script) {
-                Some(Names { world, script })
+        [command, number] => {
+            if *command == "make" {
+                make_of(number)
             } else {
                 None
             }
         }
+        [command, world, script, workers, more @ ..] => {
+            if !is_run(command, world, script, workers) {
+                return None;
+            }
+            let form = form_in(more)?;
+            let names = Names { world, script };
+            Some(Request::Run { names, form })
+        }
         _ => None,
     }
+}
+
+/// Whether the words are `run WORLD SCRIPT 1`.
+fn is_run(command: &str, world: &str, script: &str, workers: &str) -> bool
+    ensures { result ≡ is_run command.now world.now script.now workers.now }
+{
+    command == "run" && workers == "1" && is_name(world) && is_name(script)
 }
 
 /// Whether the word can name a file: it is not empty, and does not begin with `-`.
@@ -33,5 +64,27 @@ fn is_name(word: &str) -> bool
     match word.as_bytes() {
         [] => false,
         [first, ..] => *first != b'-',
+    }
+}
+
+/// The form that the words behind `run WORLD SCRIPT 1` ask for; `None` where they ask for none.
+fn form_in(more: &[&str]) -> Option<Form>
+    ensures { result ≡ form_in (map (λ w. w.now) more.now) }
+{
+    match more {
+        [] => Some(Form::Text),
+        [form] if *form == "json" => Some(Form::Json),
+        _ => None,
+    }
+}
+
+/// What `make` asks for with this word; `None` where the word is no number from 1 to 500.
+fn make_of<'a>(number: &str) -> Option<Request<'a>>
+    ensures request { MatchOption result (make_of (reading (pos 1) (pos 500) number.now) ≡ None) (λ r. make_of (reading (pos 1) (pos 500) number.now) ≡ Some (asked r)) }
+    ensures within { IfSome result IsWithin }
+{
+    match read_number(number.as_bytes(), 1, 500) {
+        Reading::Is(clusters) => Some(Request::Make(clusters as u32)),
+        _ => None,
     }
 }

@@ -31,7 +31,6 @@ pub(crate) fn complain<E: Sink>(alloc: Global, ending: Ending, err: &mut E) -> E
         Ending::WriteFault => put_text(ending, "fol: write fault\n", err),
         Ending::NoMemory => put_text(ending, "fol: no memory\n", err),
         Ending::TooLong => put_text(ending, "fol: too long\n", err),
-        Ending::Unbuilt => put_text(ending, "fol: unbuilt\n", err),
     }
 }
 

@@ -35,8 +35,6 @@ pub(crate) enum Ending {
     NoMemory,
     /// A file is too long.
     TooLong,
-    /// Both texts are valid, and the core of today can't run them.
-    Unbuilt,
 }
 
 impl Ending {
@@ -53,7 +51,6 @@ impl Ending {
             Ending::WriteFault => plain(6),
             Ending::NoMemory => plain(7),
             Ending::TooLong => plain(8),
-            Ending::Unbuilt => plain(9),
         }
     }
 }

@@ -1,28 +1,35 @@
 //! The program as one call.
 
-ghost use Rattle.std.specs.Prelude.{map};
+ghost use Rattle.std.specs.Prelude.{◌≡◌, ◌≤◌, ℕ, List, Some, false, map};
 ghost use Rattle.fol_model.specs.GridNumbers.{IsGrid};
-ghost use Rattle.fol_model.specs.IsScript.{IsScript};
-ghost use Rattle.fol_top.specs.Came.{Came, RunEnds};
+ghost use Rattle.fol_top.specs.Came.{Came};
+ghost use Rattle.fol_top.specs.Command.{asks_for_files, request_in, run};
 ghost use Rattle.fol_top.specs.Complaint.{Complains};
-ghost use Rattle.fol_top.specs.Outcome.{Outcome};
-ghost use Rattle.fol_top.specs.Today.{Runnable};
+ghost use Rattle.fol_top.specs.Outcome.{Outcome, Untouched};
+ghost use Rattle.fol_top.specs.Report.{IsReport, IsSummary};
+ghost use Rattle.fol_top.specs.Writing.{OutputEnds};
 
-use crate::command::names_in;
+use crate::command::{Names, Request, request_in};
 use crate::complaint::complain;
 use crate::ending::{Ending, Status};
+use crate::form::Form;
 use crate::inputs::read_files;
-use crate::output::write_report;
-use crate::script::run_script;
+use crate::made::make_texts;
+use crate::output::write_output;
 use crate::texts::{Texts, read_texts};
 use fol_io::{Gate, Shelf, Sink};
+use fol_solo::run_script;
 use std::alloc::Global;
 use std::sync::Wait;
 
-/// Runs the program: `run WORLD SCRIPT 1` reads both files from the shelf, runs the script, and writes the report to `out`.
+/// Runs the program. `words` is the command line without the program's own name, and these are the commands:
 ///
-/// `words` is the command line without the program's own name. The status tells how it ended, by these codes. The first of them that
-/// comes up on the way decides: words, world read, script read, world text, script text, run, write.
+/// - `run WORLD SCRIPT 1` reads both files from the shelf, runs the script on the world, and writes the report to `out`.
+/// - `run WORLD SCRIPT 1 json` writes the report as JSON.
+/// - `make N`, with N from 1 to 500, runs the made texts of N clusters and writes the summary. It reads nothing from the shelf.
+///
+/// The status tells how it ended, by these codes. The first of them that comes up on the way decides: words, world read, script read,
+/// world text, script text, run, write.
 ///
 /// - 0: the whole output was written.
 /// - 2: the words are no command.
@@ -30,8 +37,6 @@ use std::sync::Wait;
 /// - 5 and 6: the shelf, or `out`, met a fault and counted it.
 /// - 7: memory was not found.
 /// - 8: a file has more than 16,777,216 bytes.
-/// - 9: both texts are valid, but today's core runs only a world without blocks and entities whose grid never cleans, and only the
-///   commands `load`, `run` and `end`, with one `load` at most.
 ///
 /// Nothing goes to `out` but at codes 0 and 6. At every code but 0 one line goes to `err`; a fault of `err` changes nothing. The gate is
 /// passed once in each tick.
@@ -60,12 +65,28 @@ fn work<R: Wait, F: Shelf, K: Sink, G: Gate + Sync>(
     out: &mut K,
     gate: &G,
 ) -> Ending
-    ensures { Came (record { words = map (λ w. w.now) words.now; held = F.held shelf.old; faults = F.faults shelf.old; faults_later = F.faults shelf.new; taken = F.taken shelf.old; taken_later = F.taken shelf.new; received = K.received out.old; received_later = K.received out.new; write_faults = K.faults out.old; write_faults_later = K.faults out.new }) result }
+    ensures came { Came (record { words = map (λ w. w.now) words.now; held = F.held shelf.old; faults = F.faults shelf.old; faults_later = F.faults shelf.new; taken = F.taken shelf.old; taken_later = F.taken shelf.new; received = K.received out.old; received_later = K.received out.new; write_faults = K.faults out.old; write_faults_later = K.faults out.new }) result }
+    ensures untouched { asks_for_files (request_in (map (λ w. w.now) words.now)) ≡ false → Untouched (record { words = map (λ w. w.now) words.now; held = F.held shelf.old; faults = F.faults shelf.old; faults_later = F.faults shelf.new; taken = F.taken shelf.old; taken_later = F.taken shelf.new; received = K.received out.old; received_later = K.received out.new; write_faults = K.faults out.old; write_faults_later = K.faults out.new }) }
 {
-    let names = match names_in(words) {
-        Some(names) => names,
-        None => return Ending::Words,
-    };
+    match request_in(words) {
+        None => Ending::Words,
+        Some(Request::Run { names, form }) => run_files(rt, alloc, names, form, shelf, out, gate),
+        Some(Request::Make(clusters)) => run_made(rt, alloc, clusters, out, gate),
+    }
+}
+
+/// Runs the script of one file on the world of another, and writes the report in this form.
+fn run_files<R: Wait, F: Shelf, K: Sink, G: Gate + Sync>(
+    rt: &R,
+    alloc: Global,
+    names: Names<'_>,
+    form: Form,
+    shelf: &mut F,
+    out: &mut K,
+    gate: &G,
+) -> Ending
+    ensures { (words : List (List ℕ)) → request_in words ≡ Some (run (record { world = names.entry.world.now; script = names.entry.script.now }) form) → Came (record { words = words; held = F.held shelf.old; faults = F.faults shelf.old; faults_later = F.faults shelf.new; taken = F.taken shelf.old; taken_later = F.taken shelf.new; received = K.received out.old; received_later = K.received out.new; write_faults = K.faults out.old; write_faults_later = K.faults out.new }) result }
+{
     let files = match read_files(alloc, names.world, names.script, shelf) {
         Ok(files) => files,
         Err(ending) => return ending,
@@ -74,25 +95,42 @@ fn work<R: Wait, F: Shelf, K: Sink, G: Gate + Sync>(
         Ok(texts) => texts,
         Err(ending) => return ending,
     };
-    run_texts(rt, alloc, texts, out, gate)
+    run_texts(rt, alloc, texts, form, out, gate)
 }
 
-/// Runs a script on a world, and writes the report.
+/// Runs the made texts of so many clusters, and writes the summary.
+fn run_made<R: Wait, K: Sink, G: Gate + Sync>(
+    rt: &R,
+    alloc: Global,
+    clusters: u32,
+    out: &mut K,
+    gate: &G,
+) -> Ending
+    requires some { 1 ≤ clusters }
+    requires few { clusters ≤ 500 }
+    ensures { OutputEnds (IsSummary clusters) (K.received out.old) (K.received out.new) (K.faults out.old) (K.faults out.new) result }
+{
+    match make_texts(alloc, clusters) {
+        Ok(texts) => run_texts(rt, alloc, texts, Form::Summary(clusters), out, gate),
+        Err(_) => Ending::NoMemory,
+    }
+}
+
+/// Runs a script on a world, and writes the closing in this form.
 fn run_texts<R: Wait, K: Sink, G: Gate + Sync>(
     rt: &R,
     alloc: Global,
     texts: Texts,
+    form: Form,
     out: &mut K,
     gate: &G,
 ) -> Ending
-    requires grid { IsGrid texts.opening.grid }
-    requires script { IsScript texts.script }
-    requires runnable { Runnable texts.opening texts.script }
-    ensures { RunEnds texts.opening texts.script (K.received out.old) (K.received out.new) (K.faults out.old) (K.faults out.new) result }
+    requires { IsGrid texts.opening.grid }
+    ensures { OutputEnds (IsReport form texts.opening texts.script 1) (K.received out.old) (K.received out.new) (K.faults out.old) (K.faults out.new) result }
 {
     let Texts { opening, script } = texts;
-    match run_script(rt, alloc, opening, &script, gate) {
-        Ok(closing) => write_report(alloc, &closing, out),
+    match run_script(rt, alloc, opening, script, gate) {
+        Ok(closing) => write_output(alloc, &closing, form, out),
         Err(_) => Ending::NoMemory,
     }
 }

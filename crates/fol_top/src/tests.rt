@@ -17,6 +17,12 @@ const ONE_REGION_REPORT: &str =
 const EMPTY_REPORT: &str =
     "report 1\nevents 1\nfinish\nregions 0\nowners 0\ntasks 0\nentities 0\nblocks 0\nend\n";
 
+const EMPTY_JSON: &str =
+    "{\"blocks\":[],\"entities\":[],\"events\":[\"finish\"],\"owners\":[],\"regions\":[],\"report\":1,\"tasks\":[]}\n";
+
+const SUMMARY_OF_ONE: &str =
+    "made 1\nloads 3\nposts 4\nticks 8\nran 4\nregions 2\nsections 18\nblocks 4\nsum 10\nend\n";
+
 /// What a run came to.
 #[derive(Drop)]
 struct Came {
@@ -105,11 +111,32 @@ fn a_phase_of_two_ticks_is_reported(rt: HostRuntime) -> Result<(), Fail> {
 }
 
 #[test]
+fn a_report_is_written_as_json(rt: HostRuntime) -> Result<(), Fail> {
+    let words = ["run", "w", "s", "1", "json"];
+    let texts = (WORLD.as_bytes(), "".as_bytes());
+    let came = run_words(&rt, rt.alloc(), &words, texts, (&[], &[]))?;
+    assert!(rt; is_plain(&came, 0, b""));
+    assert_eq!(rt; came.out.bytes(), EMPTY_JSON.as_bytes());
+    Ok(())
+}
+
+#[test]
+fn a_made_session_is_summed_up_without_the_shelf(rt: HostRuntime) -> Result<(), Fail> {
+    let texts = (WORLD.as_bytes(), ONE_REGION.as_bytes());
+    let came = run_words(&rt, rt.alloc(), &["make", "1"], texts, (&[1, 2], &[]))?;
+    assert!(rt; is_plain(&came, 0, b""));
+    assert_eq!(rt; came.out.bytes(), SUMMARY_OF_ONE.as_bytes());
+    Ok(())
+}
+
+#[test]
 fn devices_that_fail_are_told(rt: HostRuntime) -> Result<(), Fail> {
     let words = ["run", "w", "s", "1"];
     let texts = (WORLD.as_bytes(), ONE_REGION.as_bytes());
     let unread = run_words(&rt, rt.alloc(), &words, texts, (&[1], &[]))?;
     assert!(rt; is_plain(&unread, 5, b"fol: read fault\n"));
+    let half_read = run_words(&rt, rt.alloc(), &words, texts, (&[2], &[]))?;
+    assert!(rt; is_plain(&half_read, 5, b"fol: read fault\n"));
     let unwritten = run_words(&rt, rt.alloc(), &words, texts, (&[], &[1]))?;
     assert!(rt; is_plain(&unwritten, 6, b"fol: write fault\n"));
     let not_held = run_words(&rt, rt.alloc(), &["run", "w", "x", "1"], texts, (&[], &[]))?;
@@ -118,9 +145,39 @@ fn devices_that_fail_are_told(rt: HostRuntime) -> Result<(), Fail> {
 }
 
 #[test]
+fn a_second_piece_that_finds_no_room_leaves_the_first(rt: HostRuntime) -> Result<(), Fail> {
+    let came = run_texts(&rt, rt.alloc(), WORLD, "load 0 0\nrun 100\nend\n")?;
+    assert_eq!(rt; came.status.code, 6);
+    assert_eq!(rt; came.err.bytes(), b"fol: write fault\n".as_slice());
+    assert_eq!(rt; came.out.bytes().len(), 4096);
+    let begin = b"report 1\nevents 204\nload 0 0 0 counted\n".as_slice();
+    assert!(rt; came.out.bytes().starts_with(begin));
+    Ok(())
+}
+
+#[test]
+fn a_fault_in_telling_changes_no_status(rt: HostRuntime) -> Result<(), Fail> {
+    let alloc = rt.alloc();
+    let mut shelf = MemShelf::of(Vec::new(alloc), Vec::new(alloc));
+    let mut out = sink_of(alloc, &[])?;
+    let mut err = sink_of(alloc, &[1])?;
+    let status = run(
+        &rt,
+        alloc,
+        &["walk"],
+        &mut shelf,
+        &mut out,
+        &mut err,
+        &QuietGate,
+    );
+    assert!(rt; status.code == 2 && err.bytes().is_empty());
+    Ok(())
+}
+
+#[test]
 fn words_that_are_no_command_read_nothing(rt: HostRuntime) -> Result<(), Fail> {
     let texts = (WORLD.as_bytes(), ONE_REGION.as_bytes());
-    let rows: [&[&str]; 9] = [
+    let rows: [&[&str]; 17] = [
         &[],
         &["run", "w", "s", "0"],
         &["run", "w", "s", "65"],
@@ -130,6 +187,14 @@ fn words_that_are_no_command_read_nothing(rt: HostRuntime) -> Result<(), Fail> {
         &["run", "w", "", "1"],
         &["run", "-w", "s", "1"],
         &["walk", "w", "s", "1"],
+        &["run", "w", "s", "1", "xml"],
+        &["run", "w", "s", "1", "json", "x"],
+        &["make"],
+        &["make", "0"],
+        &["make", "01"],
+        &["make", "501"],
+        &["make", "-1"],
+        &["make", "1", "1"],
     ];
     for words in rows {
         let came = run_words(&rt, rt.alloc(), words, texts, (&[1, 2], &[]))?;
@@ -160,12 +225,5 @@ fn a_file_over_the_limit_is_too_long(rt: HostRuntime) -> Result<(), Fail> {
     let texts = (WORLD.as_bytes(), long.as_slice());
     let came = run_words(&rt, rt.alloc(), &["run", "w", "s", "1"], texts, (&[], &[]))?;
     assert!(rt; is_plain(&came, 8, b"fol: too long\n"));
-    Ok(())
-}
-
-#[test]
-fn two_loads_wait_for_a_later_core(rt: HostRuntime) -> Result<(), Fail> {
-    let came = run_texts(&rt, rt.alloc(), WORLD, "load 0 0\nload 4 0\n")?;
-    assert!(rt; is_plain(&came, 9, b"fol: unbuilt\n"));
     Ok(())
 }

@@ -18,4 +18,4 @@ returns-clause-outcome g c =
       write_faults = g.K.Sink.faults c.args.out.now;
       write_faults_later = g.K.Sink.faults c.work-ending.new.out;
     } in
-    rw c.status.ensures (outcome_of v c.complain.result (told_came v c.work-ending.result c.complain.result c.work-ending.ensures c.complain.ensures.told))
+    rw c.status.ensures (outcome_of v c.complain.result (told_came v c.work-ending.result c.complain.result c.work-ending.ensures.came c.complain.ensures.told) c.work-ending.ensures.untouched)

@@ -1,7 +1,12 @@
-use Rattle.fol_top.proofs.RunEndings.{run_ends}
+use Rattle.std.proofs.Common.{◌≡◌, List, ℕ}
+use Rattle.fol_top.specs.Report.{IsReport, text_in}
+use Rattle.fol_top.proofs.RunEndings.{ends_more, is_report}
 use Rattle.fol_top.proofs.program.run_texts.Goals as goal
 
 pub returns-in-Ok : goal.returns-in-Ok
-returns-in-Ok g c = run_ends c.args.texts.opening c.args.texts.script (g.K.Sink.received c.args.out.now) (g.K.Sink.received c.write_report.new.out)
-    (g.K.Sink.faults c.args.out.now) (g.K.Sink.faults c.write_report.new.out) c.in-Ok.closing c.write_report.result
-    c.requires.grid c.in-Ok.ensures.legal c.in-Ok.ensures.outputs c.write_report.ensures
+returns-in-Ok g c =
+    let closing = c.in-Ok.closing in
+    ends_more (λ (bytes : List ℕ). bytes ≡ text_in c.args.form closing) (IsReport c.args.form c.args.texts.opening c.args.texts.script 1)
+    (is_report c.args.form c.args.texts.opening c.args.texts.script closing c.requires c.in-Ok.ensures.legal c.in-Ok.ensures.outputs)
+    (g.K.Sink.received c.args.out.now) (g.K.Sink.received c.write_output.new.out) (g.K.Sink.faults c.args.out.now) (g.K.Sink.faults c.write_output.new.out)
+    c.write_output.result c.write_output.ensures

@@ -1,61 +1,30 @@
-use Rattle.std.proofs.Common.{List, ℕ, map, Bor, refl}
-use Rattle.fol_top.specs.Inputs.{Inputs}
+use Rattle.std.proofs.Common.{◌≡◌, List, ℕ, map, Bor, sym, ap, ◌∙◌, true, false}
+use Rattle.fol_top.specs.Command.{asks_for_files, request_in}
 use Rattle.fol_top.specs.Outcome.{Course}
-use Rattle.fol_top.specs.Report.{Spelled}
-use Rattle.fol_top.proofs.RunEndings.{run_came, texts_came}
+use Rattle.fol_top.proofs.RunEndings.{make_came}
 use Rattle.fol_top.proofs.program.work.Goals as goal
 
-pub returns-in-Err-read_texts : goal.returns-in-Err-read_texts
-returns-in-Err-read_texts g c =
-    let v : Course = record {
-      words = map (λ (w : Bor (List ℕ)). w.now) c.args.words.now;
-      held = g.F.Shelf.held c.args.shelf.now;
-      faults = g.F.Shelf.faults c.args.shelf.now;
-      faults_later = g.F.Shelf.faults c.read_files.new.shelf;
-      taken = g.F.Shelf.taken c.args.shelf.now;
-      taken_later = g.F.Shelf.taken c.read_files.new.shelf;
-      received = g.K.Sink.received c.args.out.now;
-      received_later = g.K.Sink.received c.args.out.now;
-      write_faults = g.K.Sink.faults c.args.out.now;
-      write_faults_later = g.K.Sink.faults c.args.out.now;
-    } in
-    let inputs : Inputs v.words v.held c.in-Ok.files.world c.in-Ok.files.script = record {
-      names = record { world = c.in-Some.names.world.now; script = c.in-Some.names.script.now };
-      command = c.in-Some.ensures;
-      world_held = c.in-Ok.ensures.world_held;
-      world_within = c.in-Ok.ensures.world_within;
-      script_held = c.in-Ok.ensures.script_held;
-      script_within = c.in-Ok.ensures.script_within;
-    } in
-    texts_came v c.in-Ok.files.world c.in-Ok.files.script inputs c.in-Err-read_texts.ending refl c.in-Err-read_texts.ensures.ends
+pub returns-in-Some-Run-clause-came : goal.returns-in-Some-Run-clause-came
+returns-in-Some-Run-clause-came g c = c.run_files.ensures (map (λ (w : Bor (List ℕ)). w.now) c.args.words.now) (rw c.in-Some-Run.field-0-is at c.in-Some-Run.ensures.request)
 
-pub returns : goal.returns
-returns g c =
+pub returns-in-Some-Make-clause-came : goal.returns-in-Some-Make-clause-came
+returns-in-Some-Make-clause-came g c =
     let v : Course = record {
       words = map (λ (w : Bor (List ℕ)). w.now) c.args.words.now;
       held = g.F.Shelf.held c.args.shelf.now;
       faults = g.F.Shelf.faults c.args.shelf.now;
-      faults_later = g.F.Shelf.faults c.read_files.new.shelf;
+      faults_later = g.F.Shelf.faults c.args.shelf.now;
       taken = g.F.Shelf.taken c.args.shelf.now;
-      taken_later = g.F.Shelf.taken c.read_files.new.shelf;
+      taken_later = g.F.Shelf.taken c.args.shelf.now;
       received = g.K.Sink.received c.args.out.now;
-      received_later = g.K.Sink.received c.run_texts.new.out;
+      received_later = g.K.Sink.received c.run_made.new.out;
       write_faults = g.K.Sink.faults c.args.out.now;
-      write_faults_later = g.K.Sink.faults c.run_texts.new.out;
+      write_faults_later = g.K.Sink.faults c.run_made.new.out;
     } in
-    let texts = c.in-Ok-read_texts.texts in
-    let spelled : Spelled v.words v.held texts.opening texts.script = record {
-      world_bytes = c.in-Ok.files.world;
-      script_bytes = c.in-Ok.files.script;
-      inputs = record {
-        names = record { world = c.in-Some.names.world.now; script = c.in-Some.names.script.now };
-        command = c.in-Some.ensures;
-        world_held = c.in-Ok.ensures.world_held;
-        world_within = c.in-Ok.ensures.world_within;
-        script_held = c.in-Ok.ensures.script_held;
-        script_within = c.in-Ok.ensures.script_within;
-      };
-      world_text = c.in-Ok-read_texts.ensures.world;
-      script_text = c.in-Ok-read_texts.ensures.script;
-    } in
-    run_came v texts.opening texts.script c.run_texts.result spelled c.run_texts.ensures
+    make_came v c.in-Some-Make.clusters (rw c.in-Some-Make.field-0-is at c.in-Some-Make.ensures.request) c.run_made.result c.run_made.ensures
+
+pub returns-in-Some-Run-clause-untouched : goal.returns-in-Some-Run-clause-untouched
+returns-in-Some-Run-clause-untouched g c none =
+    let files : asks_for_files (request_in (map (λ (w : Bor (List ℕ)). w.now) c.args.words.now)) ≡ true = ap asks_for_files (rw c.in-Some-Run.field-0-is at c.in-Some-Run.ensures.request) in
+    let never : true ≡ false = sym files ∙ none in
+    absurd (cc)

@@ -1,0 +1,18 @@
+-- histories that go on
+pub mod Turning
+pub mod Phases
+pub mod Growth
+-- commands
+pub mod LineActions
+pub mod CoreCalls
+-- ticks
+pub mod ServedCalls
+pub mod ToldAgain
+pub mod TickTurns
+pub mod FreshArrivals
+pub mod BegunTicks
+pub mod FinishedTicks
+pub mod TickRuns
+pub mod TickCalls
+-- scripts
+pub mod ScriptRuns

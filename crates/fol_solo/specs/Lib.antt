@@ -1,0 +1,5 @@
+pub mod Turns
+pub mod Calm
+pub mod Progress
+pub mod HostEntries
+pub mod Begun
