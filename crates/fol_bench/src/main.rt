@@ -6,6 +6,7 @@
 
 mod lock;
 mod rate;
+mod regions;
 mod report;
 mod script;
 
@@ -29,6 +30,7 @@ fn run_named<R: Threads + Wait + Sync + Clock + Print>(
 ) -> io::Result<()> {
     match word {
         "lock" => lock::run(rt, alloc),
+        "regions" => regions::run(rt, alloc),
         "report" => report::run(rt, alloc),
         "script" => script::run(rt, alloc),
         _ => println!(rt; "no workload is named {word}"),
