@@ -2,19 +2,24 @@
 # Refuses each allocation of a run in turn, one number a run, and says what came of it. Each run must end with 7 and nothing on standard
 # output, or, where the refused request was not needed, with 0 and the whole output.
 #
-#     bench/refuse_memory.sh [WORLD SCRIPT [WORKERS [FIRST [LAST]]]]      a small library that the program is started with refuses
-#     RUNNER=try bench/refuse_memory.sh WORLD SCRIPT WORKERS FIRST LAST  the toolchain's own runner refuses; it compiles anew for each
-#                                                                        number, and does not say how many there are
+#     bench/refuse_memory.sh [WORD ..]      a small library that the program is started with refuses
+#     FIRST=1 LAST=50 bench/refuse_memory.sh make 3      these numbers alone
+#     RUNNER=try LAST=50 bench/refuse_memory.sh WORD ..  the toolchain's own runner refuses; it compiles anew for each number, and does
+#                                                        not say how many there are
 #
-# Without words it takes examples/first and one worker. Status 0 means that each run was right.
+# The words are the program's own; without words it takes examples/first and one worker. Status 0 means that each run was right.
 set -euo pipefail
 here=$(cd "$(dirname "${BASH_SOURCE[0]}")" && pwd)
 root=$(dirname "$here")
-world=$(readlink -f "${1:-$root/examples/first/world.txt}")
-script=$(readlink -f "${2:-$root/examples/first/script.txt}")
-workers=${3:-1}
-first=${4:-1}
-last=${5:-1000000}
+words=("$@")
+[ "$#" -gt 0 ] || words=(run "$root/examples/first/world.txt" "$root/examples/first/script.txt" 1)
+data=()
+if [ "${words[0]}" = run ]; then
+    # The toolchain's runner copies the two files to where the program runs.
+    data=(--data "world.txt=$(readlink -f "${words[1]}")" --data "script.txt=$(readlink -f "${words[2]}")")
+fi
+first=${FIRST:-1}
+last=${LAST:-1000000}
 runner=${RUNNER:-library}
 work=$(mktemp -d)
 trap 'rm -rf "$work"' EXIT
@@ -84,11 +89,13 @@ C
 run_with() {
     status=0
     if [ "$runner" = try ]; then
-        (cd "$root/crates/fol_main" && rt try $([ "$1" = 0 ] || echo --fail-alloc "$1") --data world.txt="$world" --data script.txt="$script" \
-            -- run world.txt script.txt "$workers") >"$work/out" 2>"$work/err" || status=$?
+        local named=("${words[@]}")
+        [ "${words[0]}" != run ] || named=(run world.txt script.txt "${words[@]:3}")
+        (cd "$root/crates/fol_main" && rt try $([ "$1" = 0 ] || echo --fail-alloc "$1") "${data[@]}" -- "${named[@]}") \
+            >"$work/out" 2>"$work/err" || status=$?
     else
         REFUSE=$1 REFUSE_COUNT="$work/count" LD_PRELOAD="$work/refuse.so" \
-            "$root/crates/fol_main/out/fol_main" run "$world" "$script" "$workers" >"$work/out" 2>"$work/err" || status=$?
+            "$root/crates/fol_main/out/fol_main" "${words[@]}" >"$work/out" 2>"$work/err" || status=$?
     fi
 }
 
