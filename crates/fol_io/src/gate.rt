@@ -1,6 +1,6 @@
 //! A place that each tick passes.
 
-/// Is called once between the begin and the release of each tick, outside the lock.
+/// Is called once between the begin and the release of each tick.
 ///
 /// It says nothing of content, and nothing that a run promises depends on it: a test holds ticks at a gate
 /// of its own, to see several of them at one moment.

@@ -9,7 +9,7 @@
 //! a worker and of the keeper meet, the claimed body is the one last offered there. Only `Slots::new` takes memory,
 //! and no call waits.
 //!
-//! The crate serves the shared world, in which a slot is a place for a region and a body is the region's tick.
+//! A slot can be a place for a region, and a body the tick of that region.
 #![tactic(auto)]
 
 mod answer;

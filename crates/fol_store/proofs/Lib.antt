@@ -3,7 +3,6 @@ pub mod Columns
 pub mod Totals
 pub mod Resound
 pub mod ThingSteps
-pub mod SlotSteps
 pub mod BagSteps
 pub mod Accepting
 pub mod Taking

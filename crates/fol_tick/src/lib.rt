@@ -4,7 +4,7 @@
 //! log become those of the flat tick of the model, with the outcomes of loads and unloads by the host's answers, and that the host
 //! answered just the calls that the due tasks ask for, in order, each once. The call takes all memory that it needs itself before
 //! the first task. After want of memory another call goes on where the first stopped; `laws` says that any list of calls comes to the
-//! same tick. It serves the workers of a core, and the checker of reports.
+//! same tick. It serves whoever runs the ticks of a core.
 #![tactic(auto)]
 
 mod host;
