@@ -6,6 +6,7 @@ use Rattle.std.specs.List.Sorted.{IsStrictlySortedBy}
 use Rattle.std.specs.Ordering.{nat_cmp, ordering_reverse}
 use Rattle.std.specs.declared.cmp.Ordering.{Ordering}
 use Rattle.std.specs.declared.cmp.Ordering.TheVariants.{Less}
+use Rattle.std.proofs.Math.Bool.{and-false, or-false, or-true}
 use Rattle.std.proofs.Math.Path.{fun_ext}
 use Rattle.std.proofs.lemmas.Bool.{cases_Bool, cases_eq, true≢false, eq-eqb, eqb-true, ne_eqb, or_cases, or_left, or_right, or_parts, and_parts, ltb-true, ltb-false}
 use Rattle.std.proofs.lemmas.List.Folds.{list_any_more}
@@ -21,14 +22,6 @@ use Rattle.fol_regions.specs.Book.{Book, Merges, SetsPair, owner_of, state_of, w
 use Rattle.fol_regions.specs.Changes.{Changes, into}
 use Rattle.std.proofs.lemmas.List.{map-append}
 use Rattle.fol_regions.proofs.HandSteps.{keeps_room-trans}
-
-and_false : (x : Bool) → (x && false) ≡ false
-and_false true = refl
-and_false false = refl
-
-or_false : (x : Bool) → (x || false) ≡ x
-or_false true = refl
-or_false false = refl
 
 -- one id more
 pub id_more : (ids : List ℕ) (i d q : ℕ) → i < length ids → is_id (take (i + 1) ids) q ≡ (is_id (take i ids) q || nat_eq q (get_or ids i d))
@@ -111,17 +104,17 @@ module _ (old : Book) (t : ℕ) (awaited : (u v : ℕ) → waits_of old u v ≡ 
 
   none_any : (v : ℕ) → is_ticking (state_of old v) ≡ false → (ids : List ℕ) → list_any (λ u. drawn u && waits_of old u v) ids ≡ false
   none_any v c [] = refl
-  none_any v c (x ∷ ids) = let e = calm_alone x v c in rw e (ap (λ b. b || list_any (λ u. drawn u && waits_of old u v) ids) (and_false (drawn x)) ∙ none_any v c ids)
+  none_any v c (x ∷ ids) = let e = calm_alone x v c in rw e (ap (λ b. b || list_any (λ u. drawn u && waits_of old u v) ids) (and-false (drawn x)) ∙ none_any v c ids)
 
   target_not : drawn t ≡ false
-  target_not = let e : nat_eq t t ≡ true = eq-eqb t t refl in rw e (and_false (not (is_ticking (state_of old t))))
+  target_not = let e : nat_eq t t ≡ true = eq-eqb t t refl in rw e (and-false (not (is_ticking (state_of old t))))
 
   pub gathers_none : (ids : List ℕ) → ids ≡ [] → Gathers old old t drawn ids
   gathers_none ids e = rw e (record {
     owner = refl;
     state = refl;
     waits = fun_ext (λ a. fun_ext (λ b. elim (cases_eq a t) [
-      | inl f ↦ let p : nat_eq a t ≡ true = eq-eqb a t f in rw p (ap (λ j. waits_of old j b) f ∙ sym (or_false (waits_of old t b)))
+      | inl f ↦ let p : nat_eq a t ≡ true = eq-eqb a t f in rw p (ap (λ j. waits_of old j b) f ∙ sym (or-false (waits_of old t b)))
       | inr f ↦ let p : nat_eq a t ≡ false = ne_eqb a t f in rw p refl
     ]));
     live = refl;
@@ -143,7 +136,7 @@ module _ (old : Book) (t : ℕ) (awaited : (u v : ℕ) → waits_of old u v ≡ 
     live_mid = ap (λ (f : ℕ → Bool). f u) g.live ∙ ap (λ b. not (b && drawn u) && is_live old u) fresh
 
     pub live_target : is_live mid t ≡ is_live old t
-    live_target = ap (λ (f : ℕ → Bool). f t) g.live ∙ ap (λ b. not b && is_live old t) (ap (λ b. is_id xs t && b) target_not ∙ and_false (is_id xs t))
+    live_target = ap (λ (f : ℕ → Bool). f t) g.live ∙ ap (λ b. not b && is_live old t) (ap (λ b. is_id xs t && b) target_not ∙ and-false (is_id xs t))
 
     waits_t : (b : ℕ) → waits_of mid t b ≡ (waits_of old t b || list_any (λ v. drawn v && waits_of old v b) xs)
     waits_t b = let p : nat_eq t t ≡ true = eq-eqb t t refl in ap (λ (f : ℕ → ℕ → Bool). f t b) g.waits ∙ rw p refl
@@ -154,7 +147,7 @@ module _ (old : Book) (t : ℕ) (awaited : (u v : ℕ) → waits_of old u v ≡ 
     calm_mid : (v : ℕ) → is_ticking (state_of old v) ≡ false → (r : ℕ) → waits_of mid r v ≡ false
     calm_mid v c r = elim (cases_eq r t) [
       | inl e ↦ ap (λ j. waits_of mid j v) e ∙ waits_t v ∙ (λ i. calm_alone t v c i || none_any v c xs i)
-      | inr n ↦ waits_else r v n ∙ ap (λ b. not (is_id xs r && drawn r) && b) (calm_alone r v c) ∙ and_false (not (is_id xs r && drawn r))
+      | inr n ↦ waits_else r v n ∙ ap (λ b. not (is_id xs r && drawn r) && b) (calm_alone r v c) ∙ and-false (not (is_id xs r && drawn r))
     ]
 
     pub awake_mid : waits_of mid t t ≡ false
@@ -173,12 +166,12 @@ module _ (old : Book) (t : ℕ) (awaited : (u v : ℕ) → waits_of old u v ≡ 
       where
         hit : (r : ℕ) → (is_id ys r && drawn r) ≡ (is_id xs r && drawn r)
         hit r = ap (λ b. b && drawn r) (more (nat_eq r)) ∙ elim (cases_eq r u) [
-          | inl e ↦ let f : drawn r ≡ false = ap drawn e ∙ stays in rw f (and_false (is_id xs r || nat_eq r u) ∙ sym (and_false (is_id xs r)))
-          | inr n ↦ let f : nat_eq r u ≡ false = ne_eqb r u n in rw f (ap (λ b. b && drawn r) (or_false (is_id xs r)))
+          | inl e ↦ let f : drawn r ≡ false = ap drawn e ∙ stays in rw f (and-false (is_id xs r || nat_eq r u) ∙ sym (and-false (is_id xs r)))
+          | inr n ↦ let f : nat_eq r u ≡ false = ne_eqb r u n in rw f (ap (λ b. b && drawn r) (or-false (is_id xs r)))
         ]
 
         any : (b : ℕ) → list_any (λ v. drawn v && waits_of old v b) xs ≡ list_any (λ v. drawn v && waits_of old v b) ys
-        any b = sym (more (λ v. drawn v && waits_of old v b) ∙ ap (λ y. list_any (λ v. drawn v && waits_of old v b) xs || (y && waits_of old u b)) stays ∙ or_false (list_any (λ v. drawn v && waits_of old v b) xs))
+        any b = sym (more (λ v. drawn v && waits_of old v b) ∙ ap (λ y. list_any (λ v. drawn v && waits_of old v b) xs || (y && waits_of old u b)) stays ∙ or-false (list_any (λ v. drawn v && waits_of old v b) xs))
 
     -- ---- it does
     module _ (goes : drawn u ≡ true) where
@@ -216,7 +209,7 @@ module _ (old : Book) (t : ℕ) (awaited : (u v : ℕ) → waits_of old u v ≡ 
           hit : (r : ℕ) → (is_id ys r && drawn r) ≡ ((is_id xs r && drawn r) || nat_eq r u)
           hit r = ap (λ b. b && drawn r) (more (nat_eq r)) ∙ elim (cases_eq r u) [
             | inl e ↦ let f : drawn r ≡ true = ap drawn e ∙ goes in let h : nat_eq r u ≡ true = eq-eqb r u e in rw (f, h) (both (is_id xs r))
-            | inr n ↦ let f : nat_eq r u ≡ false = ne_eqb r u n in rw f (ap (λ b. b && drawn r) (or_false (is_id xs r)) ∙ sym (or_false (is_id xs r && drawn r)))
+            | inr n ↦ let f : nat_eq r u ≡ false = ne_eqb r u n in rw f (ap (λ b. b && drawn r) (or-false (is_id xs r)) ∙ sym (or-false (is_id xs r && drawn r)))
           ]
             where
               both : (b : Bool) → ((b || true) && true) ≡ ((b && true) || true)
@@ -261,23 +254,6 @@ module _ (old : Book) (t : ℕ) (awaited : (u v : ℕ) → waits_of old u v ≡ 
               assoc false b c = refl
 
 -- ---- pairs with those that tick
-pub waits_none : (old : Book) (t : ℕ) (ids : List ℕ) → ids ≡ [] → Waits old old t ids
-waits_none old t ids e = rw e (record {
-  owner = refl;
-  state = refl;
-  waits = fun_ext (λ a. fun_ext (λ b. elim (cases_eq a t) [
-    | inl f ↦ let p : nat_eq a t ≡ true = eq-eqb a t f in rw p (ap (λ j. waits_of old j b) f ∙ sym (or_false (waits_of old t b)))
-    | inr f ↦ let p : nat_eq a t ≡ false = ne_eqb a t f in rw p refl
-  ]));
-  live = refl;
-  next = refl;
-  free = refl;
-  ahead = omega arith;
-  behind = omega arith;
-  ahead_room = refl;
-  behind_room = refl;
-})
-
 module _ (old mid : Book) (t : ℕ) (xs ys : List ℕ) (u : ℕ) (w : Waits old mid t xs) (more : (q : ℕ) → is_id ys q ≡ (is_id xs q || nat_eq q u)) (longer : length ys ≡ length xs + 1) where
   pub waits_left : is_ticking (state_of old u) ≡ false → Waits old mid t ys
   waits_left stays = record {
@@ -295,8 +271,8 @@ module _ (old mid : Book) (t : ℕ) (xs ys : List ℕ) (u : ℕ) (w : Waits old 
     where
       hit : (b : ℕ) → (is_id ys b && is_ticking (state_of old b)) ≡ (is_id xs b && is_ticking (state_of old b))
       hit b = ap (λ y. y && is_ticking (state_of old b)) (more b) ∙ elim (cases_eq b u) [
-        | inl e ↦ let f : is_ticking (state_of old b) ≡ false = ap (λ j. is_ticking (state_of old j)) e ∙ stays in rw f (and_false (is_id xs b || nat_eq b u) ∙ sym (and_false (is_id xs b)))
-        | inr n ↦ let f : nat_eq b u ≡ false = ne_eqb b u n in rw f (ap (λ y. y && is_ticking (state_of old b)) (or_false (is_id xs b)))
+        | inl e ↦ let f : is_ticking (state_of old b) ≡ false = ap (λ j. is_ticking (state_of old j)) e ∙ stays in rw f (and-false (is_id xs b || nat_eq b u) ∙ sym (and-false (is_id xs b)))
+        | inr n ↦ let f : nat_eq b u ≡ false = ne_eqb b u n in rw f (ap (λ y. y && is_ticking (state_of old b)) (or-false (is_id xs b)))
       ]
 
   pub waits_taken : is_ticking (state_of old u) ≡ true → (new : Book) → SetsPair mid new t u true → new.free ≡ mid.free → (total new.ahead ≤ total mid.ahead + 1) × (new.ahead.room ≡ mid.ahead.room) → (total new.behind ≤ total mid.behind + 1) × (new.behind.room ≡ mid.behind.room) → Waits old new t ys
@@ -306,10 +282,10 @@ module _ (old mid : Book) (t : ℕ) (xs ys : List ℕ) (u : ℕ) (w : Waits old 
     waits = p.waits ∙ fun_ext (λ a. fun_ext (λ b. ap (λ (f : ℕ → ℕ → Bool). cond (nat_eq t a && nat_eq u b) true (f a b)) w.waits ∙ elim (cases_eq a t) [
       | inl e ↦ let k : nat_eq a t ≡ true = eq-eqb a t e in let m : nat_eq t a ≡ true = eq-eqb t a (sym e) in rw (k, m) (elim (cases_eq u b) [
         | inl f ↦ let x : nat_eq u b ≡ true = eq-eqb u b f in
-            let h : (is_id ys b && is_ticking (state_of old b)) ≡ true = ap (λ y. y && is_ticking (state_of old b)) (more b ∙ ap (λ y. is_id xs b || y) (eq-eqb b u (sym f)) ∙ or_true (is_id xs b)) ∙ ap (λ j. is_ticking (state_of old j)) (sym f) ∙ ticks in
-            rw (x, h) (sym (or_true (waits_of old t b)))
+            let h : (is_id ys b && is_ticking (state_of old b)) ≡ true = ap (λ y. y && is_ticking (state_of old b)) (more b ∙ ap (λ y. is_id xs b || y) (eq-eqb b u (sym f)) ∙ or-true (is_id xs b)) ∙ ap (λ j. is_ticking (state_of old j)) (sym f) ∙ ticks in
+            rw (x, h) (sym (or-true (waits_of old t b)))
         | inr n ↦ let x : nat_eq u b ≡ false = ne_eqb u b n in
-            let h : is_id ys b ≡ is_id xs b = more b ∙ ap (λ y. is_id xs b || y) (ne_eqb b u (λ e. n (sym e))) ∙ or_false (is_id xs b) in
+            let h : is_id ys b ≡ is_id xs b = more b ∙ ap (λ y. is_id xs b || y) (ne_eqb b u (λ e. n (sym e))) ∙ or-false (is_id xs b) in
             rw (x, h) refl
       ])
       | inr n ↦ let k : nat_eq a t ≡ false = ne_eqb a t n in let m : nat_eq t a ≡ false = ne_eqb t a (λ e. n (sym e)) in rw (k, m) refl
@@ -322,10 +298,6 @@ module _ (old mid : Book) (t : ℕ) (xs ys : List ℕ) (u : ℕ) (w : Waits old 
     ahead_room = ahead.1 ∙ w.ahead_room;
     behind_room = behind.1 ∙ w.behind_room;
   }
-    where
-      or_true : (x : Bool) → (x || true) ≡ true
-      or_true true = refl
-      or_true false = refl
 
 -- whether so many sections of a region are better than the best so far
 abbrev pub better_than : ℕ → ℕ → ℕ → ℕ → Bool

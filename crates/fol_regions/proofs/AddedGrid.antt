@@ -2,8 +2,9 @@
 use Rattle.std.proofs.Common.{◌≡◌, ℕ, ◌+◌, ◌≤◌, ◌<◌, refl, sym, ◌∙◌, ap, arith, Bool, true, false, cond, not, ◌&&◌, ◌||◌, List, [], ◌∷◌, length, inl, inr}
 use Rattle.std.specs.Prelude.{◌≢◌, filter, nat_eq, nat_lt, nat_le, nat_abs}
 use Rattle.std.specs.List.{list_any}
+use Rattle.std.proofs.Math.Bool.{and-false}
 use Rattle.std.proofs.Math.Path.{fun_ext}
-use Rattle.std.proofs.lemmas.Bool.{cases_Bool, cases_eq, true≢false, eq-eqb, eqb-true, ne_eqb, or_cases, or_left, or_right, and_parts, and_from, leb-true, lt-ltb, ltb-false}
+use Rattle.std.proofs.lemmas.Bool.{cases_Bool, cases_eq, true≢false, eq-eqb, eqb-true, ne_eqb, and_parts, and_from, leb-true, lt-ltb, ltb-false}
 use Rattle.std.proofs.lemmas.List.Sums.{length-filter}
 use Rattle.fol_model.specs.declared.places.ChunkPos.{ChunkPos}
 use Rattle.fol_model.specs.declared.places.SectionPos.{SectionPos}
@@ -32,36 +33,14 @@ use Rattle.fol_regions.specs.Near.{is_close}
 use Rattle.fol_regions.specs.Rows.{is_among}
 use Rattle.fol_regions.proofs.BookFacts.{owner_live}
 use Rattle.fol_regions.proofs.Chosen.{chosen, chosen_below, chosen_numbers, filter_like, filter_twice, none_kept}
-
-gives_any : (p : ℕ → Bool) (xs : List ℕ) → list_any p xs ≡ true → (u : ℕ) × ((is_id xs u ≡ true) × (p u ≡ true))
-gives_any p [] h = absurd (true≢false (sym h))
-gives_any p (x ∷ xs) h = elim (or_cases (p x) (list_any p xs) h) [
-  | inl e ↦ (x, (or_left (nat_eq x x) (is_id xs x) (eq-eqb x x refl), e))
-  | inr e ↦ let y = gives_any p xs e in (y.0, (or_right (nat_eq y.0 x) (is_id xs y.0) y.1.0, y.1.1))
-]
-
-takes_any : (p : ℕ → Bool) (u : ℕ) (xs : List ℕ) → is_id xs u ≡ true → p u ≡ true → list_any p xs ≡ true
-takes_any p u [] h k = absurd (true≢false (sym h))
-takes_any p u (x ∷ xs) h k = elim (or_cases (nat_eq u x) (is_id xs u) h) [
-  | inl e ↦ or_left (p x) (list_any p xs) (ap p (sym (eqb-true u x e)) ∙ k)
-  | inr e ↦ or_right (p x) (list_any p xs) (takes_any p u xs e k)
-]
+use Rattle.fol_regions.proofs.GrowSteps.{gives_any, takes_any}
+use Rattle.fol_regions.proofs.JoinSteps.{same_swap}
 
 or_swap : (x y : Bool) → (x || y) ≡ (y || x)
 or_swap true true = refl
 or_swap true false = refl
 or_swap false true = refl
 or_swap false false = refl
-
-and_false : (x : Bool) → (x && false) ≡ false
-and_false true = refl
-and_false false = refl
-
-same_swap : (a b : ℕ) → nat_eq a b ≡ nat_eq b a
-same_swap a b = elim (cases_eq a b) [
-  | inl e ↦ eq-eqb a b e ∙ sym (eq-eqb b a (sym e))
-  | inr n ↦ ne_eqb a b n ∙ sym (ne_eqb b a (λ e. n (sym e)))
-]
 
 -- the list has an element
 has_some : (xs : List ℕ) (k : ℕ) → is_id xs k ≡ true → nat_eq (length xs) 0 ≡ false
@@ -181,7 +160,7 @@ module _ (grid : Grid) (b : Book) (is : IsBook b) (rules : Rules (bare grid b)) 
       tick_same : (k : ℕ) → (is_id near k && is_ticking (state_of mid k)) ≡ is_near_ticking (bare grid b) c k
       tick_same k = elim (cases_Bool (is_ticking (state_of b k))) [
         | inl e ↦ let o = g.others k e in
-            let calm : is_calm b near k ≡ false = ap (λ x. is_id near k && not x) e ∙ and_false (is_id near k) in
+            let calm : is_calm b near k ≡ false = ap (λ x. is_id near k && not x) e ∙ and-false (is_id near k) in
             let same : state_of mid k ≡ state_of b k = g.state k o.0 ∙ ap (λ x. cond x Dead (state_of b k)) calm in
             (λ i. near_is k i && is_ticking (same i))
         | inr e ↦ elim (cases_Bool (is_id near k)) [
@@ -190,7 +169,7 @@ module _ (grid : Grid) (b : Book) (is : IsBook b) (rules : Rules (bare grid b)) 
                 | inl x ↦ ap (λ j. is_ticking (state_of mid j)) x ∙ g.still
                 | inr x ↦ ap is_ticking (g.state k x ∙ ap (λ y. cond y Dead (state_of b k)) (ap (λ y. is_id near k && not y) e ∙ ap (λ y. y && true) f))
               ] in
-              ap (λ y. is_id near k && y) no ∙ and_false (is_id near k) ∙ sym (ap (λ y. is_near (bare grid b) c k && y) e ∙ and_false (is_near (bare grid b) c k))
+              ap (λ y. is_id near k && y) no ∙ and-false (is_id near k) ∙ sym (ap (λ y. is_near (bare grid b) c k && y) e ∙ and-false (is_near (bare grid b) c k))
           | inr f ↦ ap (λ y. y && is_ticking (state_of mid k)) f ∙ sym (ap (λ y. y && is_ticking (state_of b k)) (sym (near_is k) ∙ f))
         ]
       ]

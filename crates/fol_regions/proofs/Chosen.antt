@@ -6,6 +6,7 @@ use Rattle.std.specs.List.Sorted.{IsStrictlySortedBy}
 use Rattle.std.specs.Ordering.{nat_cmp}
 use Rattle.std.specs.Cmp.{nat_cmp_is}
 use Rattle.std.specs.declared.cmp.Ordering.TheVariants.{Less}
+use Rattle.std.proofs.Math.Bool.{or-false}
 use Rattle.std.proofs.Math.Path.{fun_ext}
 use Rattle.std.proofs.lemmas.Bool.{cases_Bool, cases_eq, and_parts, or_cases, true≢false, eq-eqb, eqb-true, ne_eqb, lt-ltb, ltb-true, le-ltb, ltb-false}
 use Rattle.std.proofs.lemmas.List.Folds.{list_any-append}
@@ -123,10 +124,6 @@ chosen_below p n below k = chosen_numbers p n k ∙ elim (cases_Bool (p k)) [
 ]
 
 module _ (p : ℕ → Bool) (n id : ℕ) (l : id < n) (below : (k : ℕ) → p k ≡ true → k < n) where
-  right : (b : Bool) → (b || false) ≡ b
-  right true = refl
-  right false = refl
-
   above : (k : ℕ) → (k ≡ id → ⊥) → nat_lt k id ≡ false → nat_lt id k ≡ true
   above k e f = elim (cases_eq k id) [
     | inl x ↦ absurd (e x)
@@ -137,7 +134,7 @@ module _ (p : ℕ → Bool) (n id : ℕ) (l : id < n) (below : (k : ℕ) → p k
   decide k = elim (cases_eq k id) [
     | inl e ↦ let a : nat_eq k id ≡ true = eq-eqb k id e in let b : nat_eq id k ≡ true = eq-eqb id k (sym e) in let f : nat_lt k id ≡ false = le-ltb k id (omega arith) in rw (f, a, b) refl
     | inr e ↦ let a : nat_eq k id ≡ false = ne_eqb k id e in let b : nat_eq id k ≡ false = ne_eqb id k (λ x. e (sym x)) in elim (cases_Bool (nat_lt k id)) [
-      | inl f ↦ let g : nat_lt id k ≡ false = le-ltb id k (omega (arith, ltb-true k id f)) in rw (f, g, a, b) (right (p k))
+      | inl f ↦ let g : nat_lt id k ≡ false = le-ltb id k (omega (arith, ltb-true k id f)) in rw (f, g, a, b) (or-false (p k))
       | inr f ↦ let g : nat_lt id k ≡ true = above k e f in rw (f, g, a, b) refl
     ]
   ]

@@ -10,11 +10,11 @@ use Rattle.fol_model.specs.declared.places.SectionPos.{SectionPos}
 use Rattle.fol_model.specs.Geometry.{is_section}
 use Rattle.fol_model.specs.Universe.{all_sections, count_sections}
 use Rattle.fol_regions.specs.Owners.{owner_in}
-use Rattle.fol_regions.specs.Rows.{IsRow, is_among, united}
+use Rattle.fol_regions.specs.Rows.{is_among, united}
 use Rattle.fol_regions.specs.Slots.{slot_of}
 use Rattle.fol_regions.specs.Book.{Book, IsBook, Gives, owner_of, state_of, is_live, rows_of, ahead_of, behind_of, waits_of}
 use Rattle.fol_regions.proofs.BookFacts.{put_at, put_other, put_unused, live_slot}
-use Rattle.fol_regions.proofs.Chosen.{filter_like, count_either, row_chosen, united_chosen}
+use Rattle.fol_regions.proofs.Chosen.{filter_like, count_either, united_chosen}
 use Rattle.fol_regions.proofs.OwnSteps.{own_other, own_here, own_length, own_count, own_limits}
 use Rattle.fol_regions.proofs.Totals.{total_with}
 
@@ -29,12 +29,6 @@ module _ (b : Book) (is : IsBook b) (t : ℕ) (live : is_live b t ≡ true) (xs 
 
   limit : (s : SectionPos) → nat_eq (owner_of b s) t ≡ true → is_section s ≡ true
   limit s h = is.limits s (omega (arith, pos, eqb-true (owner_of b s) t h))
-
-  pub row_here : IsRow (rows_of b t)
-  row_here = let e = is.rows t pos in rw e (row_chosen (λ s. nat_eq (owner_of b s) t))
-
-  pub row_given : IsRow xs
-  row_given = rw row (row_chosen (is_among xs))
 
   owners : (s : SectionPos) → owner_of given s ≡ cond (is_among xs s) t (owner_of b s)
   unfolding owner_of

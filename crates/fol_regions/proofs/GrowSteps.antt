@@ -2,6 +2,7 @@
 use Rattle.std.proofs.Common.{◌≡◌, ℕ, ◌+◌, ◌≤◌, ◌<◌, refl, sym, ◌∙◌, ap, arith, Bool, true, false, cond, not, ◌&&◌, ◌||◌, List, [], ◌∷◌, length, inl, inr}
 use Rattle.std.specs.Prelude.{◌≢◌, nat_eq}
 use Rattle.std.specs.List.{list_any}
+use Rattle.std.proofs.Math.Bool.{and-false, or-false}
 use Rattle.std.proofs.Math.Path.{fun_ext}
 use Rattle.std.proofs.lemmas.Bool.{cases_Bool, cases_eq, true≢false, eq-eqb, eqb-true, ne_eqb, or_cases, or_left, or_right, and_parts, and_from}
 use Rattle.fol_lists.specs.Numbered.{total}
@@ -15,9 +16,20 @@ use Rattle.fol_regions.specs.Book.{Book, IsBook, Gives, Makes, owner_of, state_o
 use Rattle.fol_regions.specs.Rows.{is_among}
 use Rattle.fol_regions.proofs.BookFacts.{live_next, waiter_lives}
 
-and_false : (x : Bool) → (x && false) ≡ false
-and_false true = refl
-and_false false = refl
+-- a list with an id that passes a test
+pub gives_any : (p : ℕ → Bool) (xs : List ℕ) → list_any p xs ≡ true → (u : ℕ) × ((is_id xs u ≡ true) × (p u ≡ true))
+gives_any p [] h = absurd (true≢false (sym h))
+gives_any p (x ∷ xs) h = elim (or_cases (p x) (list_any p xs) h) [
+  | inl e ↦ (x, (or_left (nat_eq x x) (is_id xs x) (eq-eqb x x refl), e))
+  | inr e ↦ let y = gives_any p xs e in (y.0, (or_right (nat_eq y.0 x) (is_id xs y.0) y.1.0, y.1.1))
+]
+
+pub takes_any : (p : ℕ → Bool) (u : ℕ) (xs : List ℕ) → is_id xs u ≡ true → p u ≡ true → list_any p xs ≡ true
+takes_any p u [] h k = absurd (true≢false (sym h))
+takes_any p u (x ∷ xs) h k = elim (or_cases (nat_eq u x) (is_id xs u) h) [
+  | inl e ↦ or_left (p x) (list_any p xs) (ap p (sym (eqb-true u x e)) ∙ k)
+  | inr e ↦ or_right (p x) (list_any p xs) (takes_any p u xs e k)
+]
 
 module _ (b : Book) (is : IsBook b) (ids : List ℕ) (live : (r : ℕ) → is_id ids r ≡ true → is_live b r ≡ true) where
   pub calm_pos : (r : ℕ) → is_calm b ids r ≡ true → 0 < calm_size b r
@@ -53,7 +65,7 @@ module _ (b : Book) (is : IsBook b) (ids : List ℕ) (live : (r : ℕ) → is_id
   pub grows_new : (new : Book) (xs : List SectionPos) → ((r : ℕ) → is_ticking (state_of b r) ≡ true → is_live b r ≡ true) → ((r : ℕ) → is_calm b ids r ≡ false) → Makes b new xs Ready → new.ahead ≡ b.ahead → new.behind ≡ b.behind → Grows b new ids xs b.next
   grows_new new xs lives none m ahead behind = record {
     choice = inr (refl, none);
-    owner = m.owner ∙ fun_ext (λ s. ap (λ x. cond x b.next (owner_of b s)) (sym (ap (λ x. is_among xs s || x) (none (owner_of b s)) ∙ or_false (is_among xs s))));
+    owner = m.owner ∙ fun_ext (λ s. ap (λ x. cond x b.next (owner_of b s)) (sym (ap (λ x. is_among xs s || x) (none (owner_of b s)) ∙ or-false (is_among xs s))));
     state = λ r n. ap (λ (f : ℕ → State). f r) m.state ∙ ap (λ x. cond x Ready (state_of b r)) (ne_eqb b.next r (λ e. n (sym e))) ∙ sym (ap (λ x. cond x Dead (state_of b r)) (none r));
     waits = m.waits ∙ fun_ext (λ a. fun_ext (λ k. elim (cases_eq a b.next) [
       | inl e ↦ ap (λ j. waits_of b j k) e ∙ from_next k ∙ sym (ap (λ x. cond x (list_any (λ u. is_calm b ids u && waits_of b u k) ids) (not (is_calm b ids a) && waits_of b a k)) (eq-eqb a b.next e) ∙ no_any none k ids)
@@ -70,10 +82,6 @@ module _ (b : Book) (is : IsBook b) (ids : List ℕ) (live : (r : ℕ) → is_id
     behind_room = ap (λ v. v.room) behind;
   }
     where
-      or_false : (x : Bool) → (x || false) ≡ x
-      or_false true = refl
-      or_false false = refl
-
       from_next : (k : ℕ) → waits_of b b.next k ≡ false
       from_next k = elim (cases_Bool (waits_of b b.next k)) [ inl e ↦ absurd (omega (arith, live_next b is b.next (waiter_lives b is b.next k e))) | inr e ↦ e ]
 
@@ -95,20 +103,6 @@ module _ (b : Book) (is : IsBook b) (ids : List ℕ) (live : (r : ℕ) → is_id
         drop true true = refl
         drop true false = refl
         drop false y = refl
-
-    gives_any : (p : ℕ → Bool) (xs : List ℕ) → list_any p xs ≡ true → (u : ℕ) × ((is_id xs u ≡ true) × (p u ≡ true))
-    gives_any p [] h = absurd (true≢false (sym h))
-    gives_any p (x ∷ xs) h = elim (or_cases (p x) (list_any p xs) h) [
-      | inl e ↦ (x, (or_left (nat_eq x x) (is_id xs x) (eq-eqb x x refl), e))
-      | inr e ↦ let y = gives_any p xs e in (y.0, (or_right (nat_eq y.0 x) (is_id xs y.0) y.1.0, y.1.1))
-    ]
-
-    takes_any : (p : ℕ → Bool) (u : ℕ) (xs : List ℕ) → is_id xs u ≡ true → p u ≡ true → list_any p xs ≡ true
-    takes_any p u [] h k = absurd (true≢false (sym h))
-    takes_any p u (x ∷ xs) h k = elim (or_cases (nat_eq u x) (is_id xs u) h) [
-      | inl e ↦ or_left (p x) (list_any p xs) (ap p (sym (eqb-true u x e)) ∙ k)
-      | inr e ↦ or_right (p x) (list_any p xs) (takes_any p u xs e k)
-    ]
 
     all_waits : (k : ℕ) → (waits_of b t k || list_any (λ u. is_drawn b t u && waits_of b u k) ids) ≡ list_any (λ u. is_calm b ids u && waits_of b u k) ids
     all_waits k = same_answer _ _
@@ -155,10 +149,10 @@ module _ (b : Book) (is : IsBook b) (ids : List ℕ) (live : (r : ℕ) → is_id
     }
       where
         drawn_t : (is_id ids t && is_drawn b t t) ≡ false
-        drawn_t = ap (λ x. is_id ids t && (not (is_ticking (state_of b t)) && not x)) (eq-eqb t t refl) ∙ ap (λ x. is_id ids t && x) (and_false (not (is_ticking (state_of b t)))) ∙ and_false (is_id ids t)
+        drawn_t = ap (λ x. is_id ids t && (not (is_ticking (state_of b t)) && not x)) (eq-eqb t t refl) ∙ ap (λ x. is_id ids t && x) (and-false (not (is_ticking (state_of b t)))) ∙ and-false (is_id ids t)
 
         ticks : (r : ℕ) → is_ticking (state_of b r) ≡ true → (is_id ids r && is_drawn b t r) ≡ false
-        ticks r h = ap (λ x. is_id ids r && (not x && not (nat_eq r t))) h ∙ and_false (is_id ids r)
+        ticks r h = ap (λ x. is_id ids r && (not x && not (nat_eq r t))) h ∙ and-false (is_id ids r)
 
         own : (s : SectionPos) → cond (is_among xs s) t (cond (is_id ids (owner_of b s) && is_drawn b t (owner_of b s)) t (owner_of b s)) ≡ cond (is_among xs s || is_calm b ids (owner_of b s)) t (owner_of b s)
         own s = elim (cases_Bool (is_among xs s)) [

@@ -3,51 +3,17 @@ use Rattle.std.proofs.Common.{◌≡◌, ℕ, ◌<◌, refl, sym, ◌∙◌, ap,
 use Rattle.std.specs.Prelude.{◌≢◌, nat_eq, Some, None}
 use Rattle.std.specs.List.{list_any, count_by}
 use Rattle.std.specs.Ordering.{nat_cmp, eq_by_cmp}
+use Rattle.std.proofs.Math.Bool.{and-false}
 use Rattle.std.proofs.Math.Path.{fun_ext}
 use Rattle.std.proofs.lemmas.Bool.{cases_Bool, cases_eq, true≢false, eq-eqb, eqb-true, ne_eqb, or_left}
 use Rattle.fol_model.specs.Universe.{numbers_below}
 use Rattle.fol_laws.proofs.Listed as listed
 use Rattle.fol_laws.proofs.NumberOrder.{numbers_tell, numbers_sorted, in_numbers}
 use Rattle.fol_regions.specs.Links.{first_id}
-use Rattle.fol_regions.specs.Book.{Book, IsBook, KeepsRoom, ahead_of, waits_of, with_pair, handed_waits, merged_waits}
+use Rattle.fol_regions.specs.Book.{Book, IsBook, KeepsRoom, ahead_of, waits_of, handed_waits, merged_waits}
 use Rattle.fol_regions.proofs.BookFacts.{waits_next}
 
 module _ (w : ℕ → ℕ → Bool) (u t v : ℕ) (apart : u ≢ t) where
-  -- the pair goes, and comes for the other region
-  pub handed_both : v ≢ t → with_pair (with_pair w u v false) t v true ≡ handed_waits w u t v
-  handed_both n = fun_ext (λ a. fun_ext (λ b. elim (cases_eq a u) [
-    | inl e ↦ let p : nat_eq a u ≡ true = eq-eqb a u e in let q : nat_eq u a ≡ true = eq-eqb u a (sym e) in let r : nat_eq t a ≡ false = ne_eqb t a (λ x. apart (sym (x ∙ e))) in
-        rw (p, q, r) (ap (λ j. cond (nat_eq v b) false (w j b)) e ∙ first (nat_eq v b) (w u b))
-    | inr e ↦ let p : nat_eq a u ≡ false = ne_eqb a u e in let q : nat_eq u a ≡ false = ne_eqb u a (λ x. e (sym x)) in elim (cases_eq a t) [
-      | inl f ↦ let r : nat_eq t a ≡ true = eq-eqb t a (sym f) in let s : nat_eq a t ≡ true = eq-eqb a t f in let k : nat_eq v t ≡ false = ne_eqb v t n in
-          rw (p, q, r, s, k) (ap (λ j. cond (nat_eq v b) true (w j b)) f ∙ second (nat_eq v b) (w t b))
-      | inr f ↦ let r : nat_eq t a ≡ false = ne_eqb t a (λ x. f (sym x)) in let s : nat_eq a t ≡ false = ne_eqb a t f in rw (p, q, r, s) refl
-    ]
-  ]))
-    where
-      first : (x y : Bool) → cond x false y ≡ (not x && y)
-      first true y = refl
-      first false y = refl
-
-      second : (x y : Bool) → cond x true y ≡ (x || y)
-      second true y = refl
-      second false y = refl
-
-  pub handed_own : v ≡ t → with_pair w u v false ≡ handed_waits w u t v
-  handed_own n = fun_ext (λ a. fun_ext (λ b. elim (cases_eq a u) [
-    | inl e ↦ let p : nat_eq a u ≡ true = eq-eqb a u e in let q : nat_eq u a ≡ true = eq-eqb u a (sym e) in
-        rw (p, q) (ap (λ j. cond (nat_eq v b) false (w j b)) e ∙ first (nat_eq v b) (w u b))
-    | inr e ↦ let p : nat_eq a u ≡ false = ne_eqb a u e in let q : nat_eq u a ≡ false = ne_eqb u a (λ x. e (sym x)) in elim (cases_eq a t) [
-      | inl f ↦ let s : nat_eq a t ≡ true = eq-eqb a t f in let k : nat_eq v t ≡ true = eq-eqb v t n in
-          rw (p, q, s, k) (ap (λ j. w j b) f)
-      | inr f ↦ let s : nat_eq a t ≡ false = ne_eqb a t f in rw (p, q, s) refl
-    ]
-  ]))
-    where
-      first : (x y : Bool) → cond x false y ≡ (not x && y)
-      first true y = refl
-      first false y = refl
-
   pub handed_stays : (a : ℕ) → a ≢ u → a ≢ t → (b : ℕ) → handed_waits w u t v a b ≡ w a b
   handed_stays a n m b = let p : nat_eq a u ≡ false = ne_eqb a u n in let q : nat_eq a t ≡ false = ne_eqb a t m in rw (p, q) refl
 
@@ -171,15 +137,11 @@ keeps_room-trans a b c h k = record {
 }
 
 -- ---- the pairs of a region that was merged
-and_false : (x : Bool) → (x && false) ≡ false
-and_false true = refl
-and_false false = refl
-
 pub merged_none : (w : ℕ → ℕ → Bool) (u t : ℕ) → u ≢ t → (k : ℕ) → merged_waits w u t u k ≡ false
 merged_none w u t n k = let p : nat_eq u t ≡ false = ne_eqb u t n in let q : nat_eq u u ≡ true = eq-eqb u u refl in rw (p, q) refl
 
 pub merged_nobody : (w : ℕ → ℕ → Bool) (u t : ℕ) → ((a : ℕ) → w a u ≡ false) → (a : ℕ) → merged_waits w u t a u ≡ false
 merged_nobody w u t last a = elim (cases_eq a t) [
-  | inl e ↦ let p : nat_eq a t ≡ true = eq-eqb a t e in let x = last t in let y = last u in rw (p, x, y) (and_false (not (nat_eq u t)))
-  | inr n ↦ let p : nat_eq a t ≡ false = ne_eqb a t n in let x = last a in rw (p, x) (and_false (not (nat_eq a u)))
+  | inl e ↦ let p : nat_eq a t ≡ true = eq-eqb a t e in let x = last t in let y = last u in rw (p, x, y) (and-false (not (nat_eq u t)))
+  | inr n ↦ let p : nat_eq a t ≡ false = ne_eqb a t n in let x = last a in rw (p, x) (and-false (not (nat_eq a u)))
 ]

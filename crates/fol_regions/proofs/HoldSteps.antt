@@ -1,10 +1,8 @@
 -- A hold more in both tables.
-use Rattle.std.proofs.Common.{◌≡◌, ℕ, zero, suc, ◌+◌, ◌*◌, ◌≤◌, ◌<◌, refl, sym, ◌∙◌, ap, arith, Bool, true, false, cond, not, ◌&&◌, ◌||◌, List, [], ◌∷◌, length, length-append, inl, inr}
-use Rattle.std.specs.Prelude.{ℤ, pos, neg_ℤ, ◌+ℤ◌, map, flat_map, filter, nat_eq, nat_lt}
-use Rattle.std.proofs.Math.Nat.{mul-le-mul}
+use Rattle.std.proofs.Common.{◌≡◌, ℕ, ◌+◌, ◌≤◌, ◌<◌, refl, sym, ◌∙◌, ap, arith, Bool, true, false, cond, not, ◌&&◌, ◌||◌, List, length, inl, inr}
+use Rattle.std.specs.Prelude.{filter, nat_eq, nat_lt}
+use Rattle.std.proofs.Math.Bool.{or-false, or-true}
 use Rattle.std.proofs.lemmas.Bool.{cases_Bool, eqb-true, lt-ltb, ltb-false, leb-true, and_parts}
-use Rattle.std.proofs.lemmas.List.{length-map}
-use Rattle.std.proofs.lemmas.List.Concat.{flat_map-cons}
 use Rattle.std.proofs.lemmas.List.Sums.{length-filter, count_by-le-length}
 use Rattle.fol_model.specs.declared.places.ChunkPos.{ChunkPos}
 use Rattle.fol_model.specs.declared.places.SectionPos.{SectionPos}
@@ -14,7 +12,7 @@ use Rattle.fol_model.specs.GridNumbers.{IsGrid}
 use Rattle.fol_model.specs.GridState.{GridState, at_chunk}
 use Rattle.fol_model.specs.GridState as grid
 use Rattle.fol_model.specs.Rules.{Rules}
-use Rattle.fol_model.specs.Universe.{all_sections, count_sections, from, square}
+use Rattle.fol_model.specs.Universe.{all_sections, count_sections, square}
 use Rattle.fol_laws.proofs.AddTarget.{near_has, target_pos}
 use Rattle.fol_laws.proofs.AllSections.{count_sections-is}
 use Rattle.fol_laws.proofs.FloorDivision.{around_in_limits}
@@ -30,36 +28,8 @@ use Rattle.fol_regions.specs.Answers.{add_answer}
 use Rattle.fol_regions.specs.Book.{Book, owner_of, state_of, waits_of}
 use Rattle.fol_regions.specs.Changes.{add_change, nothing}
 use Rattle.fol_regions.specs.Released.{IsPresence, grid_of}
+use Rattle.fol_sections.proofs.Lengths.{length-square}
 use Rattle.fol_regions.proofs.Chosen.{count_like, filter_like}
-
--- ---- how many sections are within the create radius
-length-from : (z : ℤ) (n : ℕ) → length (from z n) ≡ n
-unfolding from
-length-from z zero = refl
-length-from z (suc n) = ap suc (length-from (z +ℤ pos 1) n)
-
-length-plane : (xs ys : List ℤ) → length (flat_map (λ b. map (λ a. let q : SectionPos = record { x = a; z = b } in q) xs) ys) ≡ length ys * length xs
-length-plane xs [] = omega arith
-length-plane xs (y ∷ ys) =
-    ap length (flat_map-cons {A = SectionPos} (λ b. map (λ a. let q : SectionPos = record { x = a; z = b } in q) xs) y ys)
-    ∙ omega (
-      arith,
-      length-append (map (λ a. let q : SectionPos = record { x = a; z = y } in q) xs) (flat_map (λ b. map (λ a. let q : SectionPos = record { x = a; z = b } in q) xs) ys),
-      length-map xs (λ a. let q : SectionPos = record { x = a; z = y } in q),
-      length-plane xs ys,
-    )
-
-length-square : (s : SectionPos) (r : ℕ) → r ≤ 8 → length (square s r) ≤ 289
-unfolding square
-length-square s r h =
-    let a = length-from (s.z +ℤ neg_ℤ (pos r)) (r + r + 1) in
-    let b = length-from (s.x +ℤ neg_ℤ (pos r)) (r + r + 1) in
-    let all = length-plane (from (s.x +ℤ neg_ℤ (pos r)) (r + r + 1)) (from (s.z +ℤ neg_ℤ (pos r)) (r + r + 1)) in
-    let area = times_most (r + r + 1) (omega arith) in
-    omega (arith, all ∙ (λ i. a i * b i), area)
-  where
-    times_most : (n : ℕ) → n ≤ 17 → n * n ≤ 289
-    times_most n h = let m = mul-le-mul h h in omega (arith, m)
 
 -- ---- the answers of the table of sections
 module _ (f : Bool) (p w : ℕ) where
@@ -240,11 +210,7 @@ module _ (s : sections.Table) (b : Book) (presence : IsPresence s b) (c : ChunkP
     ]
 
     pub counted_presence : (s' : sections.Table) → Adds s s' c → nat_eq (wanted (grid_of s b) c) 0 ≡ true → IsPresence s' b
-    counted_presence s' h z q = ap (λ (f : SectionPos → Bool). f q) h.presence ∙ ap (λ x. presence_of s q || x) (missing_same q ∙ none_wanted z q) ∙ or_false (presence_of s q) ∙ presence q
-      where
-        or_false : (x : Bool) → (x || false) ≡ x
-        or_false true = refl
-        or_false false = refl
+    counted_presence s' h z q = ap (λ (f : SectionPos → Bool). f q) h.presence ∙ ap (λ x. presence_of s q || x) (missing_same q ∙ none_wanted z q) ∙ or-false (presence_of s q) ∙ presence q
 
     owner_now : (q : SectionPos) → nat_lt 0 ((extended (grid_of s b) c).owner q) ≡ (nat_lt 0 (owner_of b q) || is_wanted (grid_of s b) c q)
     unfolding grid_of
@@ -252,21 +218,13 @@ module _ (s : sections.Table) (b : Book) (presence : IsPresence s b) (c : ChunkP
         let g = grid_of s b in
         let t : 0 < target g c = target_pos g c rules ok limits in
         elim (cases_Bool (is_wanted g c q)) [
-          | inl e ↦ ap (λ x. nat_lt 0 (cond (x || is_near_calm g c (owner_of b q)) (target g c) (owner_of b q))) e ∙ lt-ltb 0 (target g c) t ∙ sym (ap (λ x. nat_lt 0 (owner_of b q) || x) e ∙ or_true (nat_lt 0 (owner_of b q)))
+          | inl e ↦ ap (λ x. nat_lt 0 (cond (x || is_near_calm g c (owner_of b q)) (target g c) (owner_of b q))) e ∙ lt-ltb 0 (target g c) t ∙ sym (ap (λ x. nat_lt 0 (owner_of b q) || x) e ∙ or-true (nat_lt 0 (owner_of b q)))
           | inr e ↦ ap (λ x. nat_lt 0 (cond (x || is_near_calm g c (owner_of b q)) (target g c) (owner_of b q))) e ∙ elim (cases_Bool (is_near_calm g c (owner_of b q))) [
             | inl f ↦ let n = near_has g c rules ok limits (owner_of b q) (and_parts (is_near g c (owner_of b q)) _ f).0 in
-                ap (λ x. nat_lt 0 (cond x (target g c) (owner_of b q))) f ∙ lt-ltb 0 (target g c) t ∙ sym (ap (λ x. nat_lt 0 (owner_of b q) || x) e ∙ or_false (nat_lt 0 (owner_of b q)) ∙ lt-ltb 0 (owner_of b q) n.0)
-            | inr f ↦ ap (λ x. nat_lt 0 (cond x (target g c) (owner_of b q))) f ∙ sym (ap (λ x. nat_lt 0 (owner_of b q) || x) e ∙ or_false (nat_lt 0 (owner_of b q)))
+                ap (λ x. nat_lt 0 (cond x (target g c) (owner_of b q))) f ∙ lt-ltb 0 (target g c) t ∙ sym (ap (λ x. nat_lt 0 (owner_of b q) || x) e ∙ or-false (nat_lt 0 (owner_of b q)) ∙ lt-ltb 0 (owner_of b q) n.0)
+            | inr f ↦ ap (λ x. nat_lt 0 (cond x (target g c) (owner_of b q))) f ∙ sym (ap (λ x. nat_lt 0 (owner_of b q) || x) e ∙ or-false (nat_lt 0 (owner_of b q)))
           ]
         ]
-      where
-        or_true : (x : Bool) → (x || true) ≡ true
-        or_true true = refl
-        or_true false = refl
-
-        or_false : (x : Bool) → (x || false) ≡ x
-        or_false true = refl
-        or_false false = refl
 
     pub filled_presence : (s' : sections.Table) (b' : Book) → Adds s s' c → owner_of b' ≡ (extended (bare s.grid b) c).owner → IsPresence s' b'
     filled_presence s' b' h owner q =

@@ -16,7 +16,8 @@ use Rattle.fol_laws.proofs.ListCounts.{count_by-mono}
 use Rattle.fol_laws.proofs.NumberOrder.{numbers_sorted}
 use Rattle.fol_regions.specs.Book.{Book, IsBook, Merges, owner_of, waits_of, is_live, ahead_of, behind_of}
 use Rattle.fol_regions.specs.Changes.{into}
-use Rattle.fol_regions.specs.Released.{is_id, Joins}
+use Rattle.fol_regions.specs.Added.{is_id}
+use Rattle.fol_regions.specs.Released.{Joins}
 use Rattle.fol_regions.specs.Slots.{slot_of}
 use Rattle.fol_regions.proofs.JoinSteps.{joins_more}
 use Rattle.fol_regions.proofs.PartingSteps.{count_parts, not_live}

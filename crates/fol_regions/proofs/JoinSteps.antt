@@ -1,5 +1,5 @@
 -- Regions that become part of a released one, one after another.
-use Rattle.std.proofs.Common.{◌≡◌, ℕ, refl, sym, ◌∙◌, ap, arith, Bool, true, false, inl, inr, not, ◌&&◌, ◌||◌, List, [], ◌∷◌, ◌++◌}
+use Rattle.std.proofs.Common.{◌≡◌, ℕ, refl, sym, ◌∙◌, ap, Bool, true, false, inl, inr, not, ◌&&◌, ◌||◌, List, [], ◌∷◌, ◌++◌}
 use Rattle.std.specs.Prelude.{◌≢◌, nat_eq, if◌then◌else◌}
 use Rattle.std.specs.List.{list_any}
 use Rattle.std.proofs.Math.Path.{fun_ext}
@@ -7,43 +7,20 @@ use Rattle.std.proofs.lemmas.Bool.{cases_Bool, cases_eq, eq-eqb, ne_eqb}
 use Rattle.std.proofs.lemmas.List.Folds.{list_any-append}
 use Rattle.fol_model.specs.declared.regions.State.TheVariants.{Dead}
 use Rattle.fol_model.specs.declared.places.SectionPos.{SectionPos}
-use Rattle.fol_regions.specs.Book.{Book, owner_of, state_of, waits_of, is_live, KeepsRoom, Merges}
-use Rattle.fol_regions.specs.Released.{is_id, Joins}
-
-pub rooms_same : (b : Book) → KeepsRoom b b
-rooms_same b = record { free = omega arith; ahead = omega arith; behind = omega arith; ahead_room = refl; behind_room = refl }
-
-pub rooms_both : (a b c : Book) → KeepsRoom a b → KeepsRoom b c → KeepsRoom a c
-rooms_both a b c h k = record {
-  free = omega (arith, h.free, k.free);
-  ahead = omega (arith, h.ahead, k.ahead);
-  behind = omega (arith, h.behind, k.behind);
-  ahead_room = k.ahead_room ∙ h.ahead_room;
-  behind_room = k.behind_room ∙ h.behind_room;
-}
+use Rattle.fol_regions.specs.Book.{Book, owner_of, state_of, waits_of, is_live, Merges}
+use Rattle.fol_regions.specs.Added.{is_id}
+use Rattle.fol_regions.specs.Released.{Joins}
+use Rattle.fol_regions.proofs.HandSteps.{keeps_room-trans}
 
 -- a test of one more
 pub one_more : (p : ℕ → Bool) (ids : List ℕ) (u : ℕ) → list_any p (ids ++ u ∷ []) ≡ (list_any p ids || p u)
 one_more p ids u = list_any-append p ids (u ∷ []) ∙ elim (cases_Bool (p u)) [ inl e ↦ rw e refl | inr e ↦ rw e refl ]
 
-same_swap : (a b : ℕ) → nat_eq a b ≡ nat_eq b a
+pub same_swap : (a b : ℕ) → nat_eq a b ≡ nat_eq b a
 same_swap a b = elim (cases_eq a b) [
   | inl e ↦ eq-eqb a b e ∙ sym (eq-eqb b a (sym e))
   | inr n ↦ ne_eqb a b n ∙ sym (ne_eqb b a (λ e. n (sym e)))
 ]
-
-pub joins_none : (b : Book) (t : ℕ) → ((v : ℕ) → waits_of b t v ≡ false) → Joins b b t []
-joins_none b t first = record {
-  owner = refl;
-  state = refl;
-  waits = fun_ext (λ u. fun_ext (λ v. elim (cases_eq u t) [
-    | inl e ↦ let k = eq-eqb u t e in let z = first v in let y : waits_of b u v ≡ false = rw e z in rw (k, y) (elim (cases_Bool (nat_eq v t)) [ inl x ↦ rw x refl | inr x ↦ rw x refl ])
-    | inr n ↦ let k = ne_eqb u t n in rw k refl
-  ]));
-  live = refl;
-  next = refl;
-  rooms = rooms_same b;
-}
 
 module _ (old mid new : Book) (t u : ℕ) (ids : List ℕ) (h : Joins old mid t ids) (m : Merges mid new u t) (apart : u ≢ t) (fresh : is_id ids u ≡ false) where
   owner_more : (s : SectionPos) → owner_of new s ≡ (if is_id (ids ++ u ∷ []) (owner_of old s) then t else owner_of old s)
@@ -107,5 +84,5 @@ module _ (old mid new : Book) (t u : ℕ) (ids : List ℕ) (h : Joins old mid t 
     waits = fun_ext (λ a. fun_ext (λ b. waits_more a b));
     live = fun_ext live_more;
     next = m.next ∙ h.next;
-    rooms = rooms_both old mid new h.rooms m.rooms;
+    rooms = keeps_room-trans old mid new h.rooms m.rooms;
   }

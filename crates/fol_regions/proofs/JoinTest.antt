@@ -19,7 +19,8 @@ use Rattle.fol_laws.proofs.Tests.{same_answer}
 use Rattle.fol_laws.proofs.ListCounts.{count_by-cons}
 use Rattle.fol_laws.proofs.Joins as joins
 use Rattle.fol_regions.specs.Book.{Book, owner_of, state_of, waits_of, SetsState}
-use Rattle.fol_regions.specs.Released.{is_id, Joins}
+use Rattle.fol_regions.specs.Added.{is_id}
+use Rattle.fol_regions.specs.Released.{Joins}
 
 -- ---- numbers that pass a test
 pub filter_some : (p q : ℕ → Bool) (n : ℕ) → list_any q (filter p (numbers_below n)) ≡ some_below (λ w. p w && q w) n

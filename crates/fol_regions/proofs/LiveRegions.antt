@@ -5,7 +5,7 @@ use Rattle.std.specs.Cmp.{both_ways, nat_eq_equiv}
 use Rattle.std.specs.List.{IsDistinct, list_any}
 use Rattle.std.specs.List.Sorted.{IsPermutation, IsSorted, IsStrictlySortedBy}
 use Rattle.std.specs.Ordering.{nat_cmp}
-use Rattle.std.proofs.lemmas.Bool.{cases_Bool, true≢false, eqb-true, eq-eqb, lt-ltb, ltb-true}
+use Rattle.std.proofs.lemmas.Bool.{cases_Bool, true≢false, eqb-true, lt-ltb, ltb-true}
 use Rattle.std.proofs.lemmas.List.Folds.{list_any-append}
 use Rattle.std.proofs.lemmas.List.Sorted.{IsNonDecreasingBy-from_sort, list_any-IsPermutation}
 use Rattle.std.proofs.lemmas.Map.Keys.{IsDistinct-IsPermutation, IsDistinct-push, IsStrictlyIncreasing-from_distinct, sorted_from_strictly_increasing}
@@ -26,6 +26,7 @@ use Rattle.fol_regions.specs.SlotKeys.{AreKeys}
 use Rattle.fol_regions.specs.Slots.{SlotTable, has_id, region_at, slot_of}
 use Rattle.fol_regions.proofs.Among.{among_at}
 use Rattle.fol_regions.proofs.Chosen.{filter_like}
+use Rattle.fol_regions.proofs.JoinSteps.{same_swap}
 use Rattle.fol_regions.proofs.PartedBooks.{row_members}
 use Rattle.fol_regions.proofs.SlotSteps.{has-some, one_slot}
 use Rattle.fol_regions.proofs.TableSteps.{dead_if}
@@ -34,9 +35,6 @@ use Rattle.fol_regions.proofs.TableSteps.{dead_if}
 pub record AreIdsBelow (v : SlotTable) (n : ℕ) (ids : List ℕ) : Type 0 where
   pub members : (id : ℕ) → list_any (nat_eq id) ids ≡ some_below (λ k. has_id id (region_at v k)) n
   pub distinct : IsDistinct nat_eq ids
-
-nat_eq-swap : (a b : ℕ) → nat_eq a b ≡ nat_eq b a
-nat_eq-swap a b = both_ways (nat_eq a b) (nat_eq b a) (λ h. eq-eqb b a (sym (eqb-true a b h))) (λ h. eq-eqb a b (sym (eqb-true b a h)))
 
 or-swap : (a b : Bool) → (a || (b || false)) ≡ (b || a)
 or-swap true true = refl
@@ -70,7 +68,7 @@ module _ (v : SlotTable) where
   module _ (n : ℕ) (whole : n ≡ v.room) (ids sorted : List ℕ) (h : AreIdsBelow v n ids) (moved : IsPermutation ids sorted) where
     pub ids_rise : IsSorted nat_cmp sorted → IsStrictlySortedBy nat_cmp sorted
     ids_rise up =
-        sorted_from_strictly_increasing sorted (IsStrictlyIncreasing-from_distinct sorted (IsNonDecreasingBy-from_sort (λ x. x) sorted up) (IsDistinct-IsPermutation nat_eq nat_eq-swap ids sorted moved h.distinct))
+        sorted_from_strictly_increasing sorted (IsStrictlyIncreasing-from_distinct sorted (IsNonDecreasingBy-from_sort (λ x. x) sorted up) (IsDistinct-IsPermutation nat_eq same_swap ids sorted moved h.distinct))
 
     pub ids_of_all : (id : ℕ) → list_any (nat_eq id) sorted ≡ nat_lt (slot_of v id) v.room
     ids_of_all id =
@@ -95,7 +93,7 @@ module _ (v : SlotTable) where
       members = λ id.
           let e : has_id id (region_at v n) ≡ nat_eq r.id id = ap (has_id id) here in
           let rest = h.members id in
-          let swap = nat_eq-swap id r.id in
+          let swap = same_swap id r.id in
           let both : (list_any (nat_eq id) ids || (nat_eq id r.id || false)) ≡ (nat_eq r.id id || some_below (λ k. has_id id (region_at v k)) n) =
           rw (rest, swap) (or-swap (some_below (λ k. has_id id (region_at v k)) n) (nat_eq r.id id)) in
           list_any-append (nat_eq id) ids (r.id ∷ []) ∙ both ∙ sym (rw (add-one, e) refl);

@@ -1,11 +1,10 @@
 -- A new region.
-use Rattle.std.proofs.Common.{◌≡◌, ℕ, zero, suc, ◌+◌, ◌≤◌, ◌<◌, refl, sym, ◌∙◌, ap, arith, Bool, true, false, cond, ◌||◌, List, [], ◌∷◌, ◌++◌, length, inl, inr, get_or, add-one}
+use Rattle.std.proofs.Common.{◌≡◌, ℕ, zero, suc, ◌+◌, ◌≤◌, ◌<◌, refl, sym, ◌∙◌, ap, arith, true, false, cond, ◌||◌, List, [], ◌∷◌, length, inl, inr, get_or}
 use Rattle.std.specs.Prelude.{◌≢◌, ℤ, filter, nat_eq, nat_lt, Option, Some, None, is_some, sum_by, replicate}
 use Rattle.std.specs.List.{count_by, list_any}
 use Rattle.std.proofs.Math.Path.{fun_ext}
 use Rattle.std.proofs.lemmas.Bool.{cases_Bool, cases_eq, true≢false, eq-eqb, ne_eqb, lt-ltb, le-ltb}
 use Rattle.std.proofs.lemmas.List.{length-replicate, length-set, get_or-set_same, get_or-set_other}
-use Rattle.std.proofs.lemmas.List.Elements.{filter-append}
 use Rattle.std.proofs.lemmas.List.Sums.{sum_by-cons}
 use Rattle.fol_lists.specs.Numbered.{list_at, total, with_list}
 use Rattle.fol_model.specs.declared.places.SectionPos.{SectionPos}
@@ -20,7 +19,7 @@ use Rattle.fol_regions.specs.Slots.{SlotTable, region_at, slot_of, slot_state}
 use Rattle.fol_regions.specs.Book.{Book, IsBook, Makes, owner_of, state_of, is_live, rows_of, ahead_of, behind_of, waits_of}
 use Rattle.fol_regions.proofs.BookFacts.{slot_live, not_live, no_list, owner_live, live_next, waits_next, waiter_lives}
 use Rattle.fol_regions.proofs.Chosen.{filter_like, none_kept}
-use Rattle.fol_regions.proofs.LinkSteps.{append-none}
+use Rattle.fol_regions.proofs.PartingSteps.{filter_next}
 use Rattle.fol_regions.proofs.OwnSteps.{own_other, own_here, own_count, own_limits}
 use Rattle.fol_regions.proofs.Totals.{total_with}
 
@@ -38,10 +37,6 @@ regions_few b is own within = live_few b.slots.regions b.rows.lists (λ k r e.
     let s = own k r e in
     let l = slot_live b r.id (omega (arith, s, within k r e)) in
     omega (arith, is.some r.id l, ap (λ j. length (list_at b.rows j)) s))
-
-filter_next : (p : ℕ → Bool) (n : ℕ) → p n ≡ false → filter p (numbers_below (n + 1)) ≡ filter p (numbers_below n)
-unfolding numbers_below
-filter_next p n h = rw add-one (filter-append p (numbers_below n) (n ∷ []) ∙ ap (λ b. filter p (numbers_below n) ++ cond b (n ∷ []) []) h ∙ append-none (filter p (numbers_below n)))
 
 module _ (b : Book) (is : IsBook b) (xs : List SectionPos) (some : 0 < length xs) (absent : (s : SectionPos) → is_among xs s ≡ true → owner_of b s ≡ 0) (row : xs ≡ filter (is_among xs) all_sections)
     (owned : List ((ℤ × ℤ) × ℕ)) (free : ℕ) (set : (q : SectionPos) → owner_in owned q ≡ cond (is_among xs q) b.next (owner_of b q))

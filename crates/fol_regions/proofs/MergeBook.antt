@@ -2,6 +2,7 @@
 use Rattle.std.proofs.Common.{◌≡◌, ℕ, ◌+◌, ◌<◌, refl, sym, ◌∙◌, ap, arith, Bool, true, false, cond, not, ◌&&◌, ◌||◌, List, [], length, inl, inr}
 use Rattle.std.specs.Prelude.{◌≢◌, ℤ, filter, nat_eq, nat_lt}
 use Rattle.std.specs.List.{list_any}
+use Rattle.std.proofs.Math.Bool.{or-false, or-true}
 use Rattle.std.proofs.Math.Path.{fun_ext}
 use Rattle.std.proofs.lemmas.Bool.{cases_Bool, cases_eq, true≢false, eq-eqb, eqb-true, ne_eqb, lt-ltb, le-ltb, ltb-true}
 use Rattle.std.proofs.lemmas.List.{length-set, get_or-set_same, get_or-set_other}
@@ -124,17 +125,9 @@ module _ (b : Book) (is : IsBook b) (u t : ℕ) (lu : is_live b u ≡ true) (lt 
   -- ---- the sections
   own_t : (s : SectionPos) → nat_eq (owner_of merged s) t ≡ (nat_eq (owner_of b s) t || is_among (rows_of b u) s)
   own_t s = ap (λ k. nat_eq k t) (owners s) ∙ elim (cases_Bool (nat_eq (owner_of b s) u)) [
-    | inl e ↦ let f = among_u s ∙ e in rw (e, f) (eq-eqb t t refl ∙ sym (right (nat_eq (owner_of b s) t)))
-    | inr e ↦ let f = among_u s ∙ e in rw (e, f) (sym (left (nat_eq (owner_of b s) t)))
+    | inl e ↦ let f = among_u s ∙ e in rw (e, f) (eq-eqb t t refl ∙ sym (or-true (nat_eq (owner_of b s) t)))
+    | inr e ↦ let f = among_u s ∙ e in rw (e, f) (sym (or-false (nat_eq (owner_of b s) t)))
   ]
-    where
-      right : (x : Bool) → (x || true) ≡ true
-      right true = refl
-      right false = refl
-
-      left : (x : Bool) → (x || false) ≡ x
-      left true = refl
-      left false = refl
 
   own_u : (s : SectionPos) → nat_eq (owner_of merged s) u ≡ false
   own_u s = ap (λ k. nat_eq k u) (owners s) ∙ elim (cases_Bool (nat_eq (owner_of b s) u)) [

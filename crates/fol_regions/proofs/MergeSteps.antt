@@ -4,6 +4,7 @@ use Rattle.std.specs.List.{AllByRecursion}
 use Rattle.std.specs.List.Sorted.{IsStrictlySortedBy}
 use Rattle.std.specs.declared.cmp.Ordering.TheVariants.{Less, Equal, Greater}
 use Rattle.std.specs.Ordering.{ordering_reverse}
+use Rattle.std.proofs.Math.Bool.{or-false}
 use Rattle.std.proofs.lemmas.List.{take-append-drop, drop_more, drop_all}
 use Rattle.std.proofs.lemmas.List.Folds.{list_any-append}
 use Rattle.std.proofs.lemmas.Bool.{or_cases}
@@ -47,11 +48,7 @@ shift out rest x h = subst Sorted (sym (append_assoc out (x ∷ []) rest)) h
 
 module _ (out xs ys : List SectionPos) (i j : ℕ) (d : SectionPos) (m : Merged out xs ys i j) where
   among_push : (x s : SectionPos) → is_among (out ++ x ∷ []) s ≡ (is_among out s || same_section x s)
-  among_push x s = list_any-append (same_section s) out (x ∷ []) ∙ ap (λ b. is_among out s || b) (one (same_section s x) ∙ same_section-swap s x)
-    where
-      one : (b : Bool) → (b || false) ≡ b
-      one true = refl
-      one false = refl
+  among_push x s = list_any-append (same_section s) out (x ∷ []) ∙ ap (λ b. is_among out s || b) (or-false (same_section s x) ∙ same_section-swap s x)
 
   first_at : i < length xs → Sorted (out ++ get_or xs i d ∷ drop (i + 1) xs)
   first_at l = subst (λ (zs : List SectionPos). Sorted (out ++ zs)) (drop_more xs i d l) m.first

@@ -2,6 +2,7 @@
 use Rattle.std.proofs.Common.{◌≡◌, ℕ, zero, suc, ◌+◌, ◌<◌, refl, sym, ◌∙◌, ap, arith, Bool, true, false, ◌&&◌, ◌||◌, List, [], ◌∷◌, ◌++◌, inl, inr}
 use Rattle.std.specs.Prelude.{ℤ, pos, neg_ℤ, ◌+ℤ◌, ◌-ℤ◌, map, flat_map, nat_eq, nat_lt}
 use Rattle.std.specs.List.{list_any, filter}
+use Rattle.std.proofs.Math.Bool.{and-false, or-false}
 use Rattle.std.proofs.lemmas.List.{map-append}
 use Rattle.std.proofs.lemmas.Grind.{flat_map-append}
 use Rattle.std.proofs.lemmas.List.Concat.{flat_map-cons}
@@ -87,23 +88,19 @@ module _ (owner : SectionPos → ℕ) (next : ℕ) (below : (s : SectionPos) →
       any : ℕ → Bool
       any r = list_any (λ q. nat_eq (owner q) r) xs
 
-      right : (b : Bool) → (b || false) ≡ b
-      right true = refl
-      right false = refl
-
       one : (r : ℕ) → has_one owner (xs ++ s ∷ []) r ≡ (nat_lt 0 r && (list_any (λ q. nat_eq (owner q) r) xs || nat_eq (owner s) r))
-      one r = ap (λ b. nat_lt 0 r && b) (list_any-append (λ q. nat_eq (owner q) r) xs (s ∷ []) ∙ ap (λ b. list_any (λ q. nat_eq (owner q) r) xs || b) (right (nat_eq (owner s) r)))
+      one r = ap (λ b. nat_lt 0 r && b) (list_any-append (λ q. nat_eq (owner q) r) xs (s ∷ []) ∙ ap (λ b. list_any (λ q. nat_eq (owner q) r) xs || b) (or-false (nat_eq (owner s) r)))
 
       none : (r : ℕ) → owner s ≡ 0 → (nat_lt 0 r && (list_any (λ q. nat_eq (owner q) r) xs || nat_eq (owner s) r)) ≡ has_one owner xs r
       none r e = elim (cases_Bool (nat_lt 0 r)) [
-        | inl l ↦ let f : nat_eq (owner s) r ≡ false = ne_eqb (owner s) r (λ x. absurd (omega (arith, ltb-true 0 r l))) in rw (l, f) (right (list_any (λ q. nat_eq (owner q) r) xs))
+        | inl l ↦ let f : nat_eq (owner s) r ≡ false = ne_eqb (owner s) r (λ x. absurd (omega (arith, ltb-true 0 r l))) in rw (l, f) (or-false (list_any (λ q. nat_eq (owner q) r) xs))
         | inr l ↦ rw l refl
       ]
 
       there : (r : ℕ) → has_one owner xs (owner s) ≡ true → (nat_lt 0 r && (list_any (λ q. nat_eq (owner q) r) xs || nat_eq (owner s) r)) ≡ has_one owner xs r
       there r e = elim (cases_eq (owner s) r) [
         | inl x ↦ let y : has_one owner xs r ≡ true = ap (has_one owner xs) (sym x) ∙ e in let p = and_parts (nat_lt 0 r) (list_any (λ q. nat_eq (owner q) r) xs) y in let a = p.0 in let b = p.1 in rw (a, b) refl
-        | inr x ↦ let f : nat_eq (owner s) r ≡ false = ne_eqb (owner s) r x in rw f (ap (λ b. nat_lt 0 r && b) (right (list_any (λ q. nat_eq (owner q) r) xs)))
+        | inr x ↦ let f : nat_eq (owner s) r ≡ false = ne_eqb (owner s) r x in rw f (ap (λ b. nat_lt 0 r && b) (or-false (list_any (λ q. nat_eq (owner q) r) xs)))
       ]
 
       or_swap : (a b : Bool) → (a || b) ≡ (b || a)
@@ -115,7 +112,7 @@ module _ (owner : SectionPos → ℕ) (next : ℕ) (below : (s : SectionPos) →
       here : (r : ℕ) → (owner s ≡ 0 → ⊥) → (nat_lt 0 r && (list_any (λ q. nat_eq (owner q) r) xs || nat_eq (owner s) r)) ≡ (nat_eq (owner s) r || has_one owner xs r)
       here r n = elim (cases_eq (owner s) r) [
         | inl x ↦ let f : nat_eq (owner s) r ≡ true = eq-eqb (owner s) r x in let l : nat_lt 0 r ≡ true = lt-ltb 0 r (omega arith) in rw (f, l) (or_swap (list_any (λ q. nat_eq (owner q) r) xs) true)
-        | inr x ↦ let f : nat_eq (owner s) r ≡ false = ne_eqb (owner s) r x in rw f (ap (λ b. nat_lt 0 r && b) (right (list_any (λ q. nat_eq (owner q) r) xs)))
+        | inr x ↦ let f : nat_eq (owner s) r ≡ false = ne_eqb (owner s) r x in rw f (ap (λ b. nat_lt 0 r && b) (or-false (list_any (λ q. nat_eq (owner q) r) xs)))
       ]
 
   -- all sections of the square
@@ -150,10 +147,6 @@ pub regions_none : (owner : SectionPos → ℕ) (next : ℕ) → regions_of owne
 unfolding regions_of
 regions_none owner next = go (numbers_below next)
   where
-    and_false : (b : Bool) → (b && false) ≡ false
-    and_false true = refl
-    and_false false = refl
-
     go : (ns : List ℕ) → filter (λ r. nat_lt 0 r && false) ns ≡ []
     go [] = refl
-    go (n ∷ ns) = let e = and_false (nat_lt 0 n) in rw e (go ns)
+    go (n ∷ ns) = let e = and-false (nat_lt 0 n) in rw e (go ns)

@@ -1,6 +1,7 @@
 -- Sections that had no owner get one.
 use Rattle.std.proofs.Common.{◌≡◌, ℕ, ◌+◌, ◌<◌, refl, sym, ◌∙◌, ap, arith, Bool, true, false, cond, ◌||◌, List, length, inl, inr}
 use Rattle.std.specs.Prelude.{◌≢◌, filter, nat_eq, nat_lt}
+use Rattle.std.proofs.Math.Bool.{or-false, or-true}
 use Rattle.std.proofs.lemmas.Bool.{cases_Bool, eq-eqb, ne_eqb, lt-ltb, ltb-true}
 use Rattle.std.proofs.lemmas.List.Sums.{length-filter}
 use Rattle.fol_model.specs.declared.places.SectionPos.{SectionPos}
@@ -25,17 +26,9 @@ module _ (f g : SectionPos → ℕ) (xs : List SectionPos) (t : ℕ) (pos : 0 < 
 
   pub own_here : (s : SectionPos) → nat_eq (g s) t ≡ (nat_eq (f s) t || is_among xs s)
   own_here s = elim (cases_Bool (is_among xs s)) [
-    | inl e ↦ eq-eqb (g s) t (yes s e) ∙ sym (rw e (right (nat_eq (f s) t)))
-    | inr e ↦ rw e (ap (λ k. nat_eq k t) (no s e) ∙ sym (left (nat_eq (f s) t)))
+    | inl e ↦ eq-eqb (g s) t (yes s e) ∙ sym (rw e (or-true (nat_eq (f s) t)))
+    | inr e ↦ rw e (ap (λ k. nat_eq k t) (no s e) ∙ sym (or-false (nat_eq (f s) t)))
   ]
-    where
-      right : (b : Bool) → (b || true) ≡ true
-      right true = refl
-      right false = refl
-
-      left : (b : Bool) → (b || false) ≡ b
-      left true = refl
-      left false = refl
 
   pub own_length : length xs ≡ count_sections (is_among xs)
   own_length = ap length row ∙ length-filter (is_among xs) all_sections
@@ -44,17 +37,9 @@ module _ (f g : SectionPos → ℕ) (xs : List SectionPos) (t : ℕ) (pos : 0 < 
   own_count = count_either (λ s. nat_lt 0 (f s)) (is_among xs) (λ s. nat_lt 0 (g s))
       (λ s h. elim (cases_Bool (is_among xs s)) [ inl e ↦ absurd (omega (arith, ltb-true 0 (f s) h, absent s e)) | inr e ↦ e ])
       (λ s. elim (cases_Bool (is_among xs s)) [
-        | inl e ↦ lt-ltb 0 (g s) (omega (arith, yes s e)) ∙ sym (ap (λ b. nat_lt 0 (f s) || b) e ∙ right (nat_lt 0 (f s)))
-        | inr e ↦ ap (nat_lt 0) (no s e) ∙ sym (ap (λ b. nat_lt 0 (f s) || b) e ∙ left (nat_lt 0 (f s)))
+        | inl e ↦ lt-ltb 0 (g s) (omega (arith, yes s e)) ∙ sym (ap (λ b. nat_lt 0 (f s) || b) e ∙ or-true (nat_lt 0 (f s)))
+        | inr e ↦ ap (nat_lt 0) (no s e) ∙ sym (ap (λ b. nat_lt 0 (f s) || b) e ∙ or-false (nat_lt 0 (f s)))
       ]) all_sections ∙ ap (λ n. count_sections (λ s. nat_lt 0 (f s)) + n) (sym own_length)
-    where
-      right : (b : Bool) → (b || true) ≡ true
-      right true = refl
-      right false = refl
-
-      left : (b : Bool) → (b || false) ≡ b
-      left true = refl
-      left false = refl
 
   pub own_limits : ((s : SectionPos) → 0 < f s → is_section s ≡ true) → (s : SectionPos) → 0 < g s → is_section s ≡ true
   own_limits l s p = elim (cases_Bool (is_among xs s)) [

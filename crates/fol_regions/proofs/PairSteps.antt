@@ -2,6 +2,7 @@
 use Rattle.std.proofs.Common.{◌≡◌, ℕ, ◌+◌, ◌≤◌, ◌<◌, refl, sym, ◌∙◌, ap, arith, Bool, true, false, cond, not, ◌&&◌, ◌||◌, List, [], ◌∷◌, length, length-append, inl, inr}
 use Rattle.std.specs.Prelude.{◌≢◌, filter, nat_eq, nat_lt}
 use Rattle.std.specs.List.{list_any}
+use Rattle.std.proofs.Math.Bool.{and-false}
 use Rattle.std.proofs.Math.Path.{fun_ext}
 use Rattle.std.proofs.lemmas.Bool.{cases_Bool, cases_eq, true≢false, eq-eqb, ne_eqb, or_cases}
 use Rattle.std.proofs.lemmas.List.{length-set}
@@ -13,10 +14,6 @@ use Rattle.fol_regions.specs.Book.{Book, IsBook, SetsPair, owner_of, state_of, i
 use Rattle.fol_regions.proofs.BookFacts.{put_at, put_other, put_unused, live_slot, live_next, waits_next, waiter_lives}
 use Rattle.fol_regions.proofs.Chosen.{chosen_below, filter_like, with_chosen, without_chosen}
 use Rattle.fol_regions.proofs.LinkSteps.{filter_le, two_sides}
-
-and_false : (x : Bool) → (x && false) ≡ false
-and_false true = refl
-and_false false = refl
 
 module _ (b : Book) (is : IsBook b) (u t : ℕ) (lu : is_live b u ≡ true) (lt : is_live b t ≡ true) (there : Bool) (xs ys : List ℕ)
     (hx : xs ≡ filter (with_pair (waits_of b) u t there u) (numbers_below b.next)) (hy : ys ≡ filter (λ a. with_pair (waits_of b) u t there a t) (numbers_below b.next))
@@ -71,7 +68,7 @@ module _ (b : Book) (is : IsBook b) (u t : ℕ) (lu : is_live b u ≡ true) (lt 
     behind = λ a. elim (cases_eq a t) [
       | inl e ↦ ap (behind_of paired) e ∙ behind_here ∙ hy ∙ filter_like _ _ (λ k. sym (pair_waits k t)) (numbers_below b.next) ∙ ap (λ j. filter (λ k. waits_of paired k j) (numbers_below b.next)) (sym e)
       | inr n ↦ behind_there a n ∙ is.behind a ∙ filter_like _ _ (λ k. let f : nat_eq t a ≡ false = ne_eqb t a (λ e. n (sym e)) in
-          let g : (nat_eq u k && nat_eq t a) ≡ false = ap (λ x. nat_eq u k && x) f ∙ and_false (nat_eq u k) in
+          let g : (nat_eq u k && nat_eq t a) ≡ false = ap (λ x. nat_eq u k && x) f ∙ and-false (nat_eq u k) in
           sym (pair_waits k a ∙ ap (λ x. cond x there (waits_of b k a)) g)) (numbers_below b.next)
     ];
     given = is.given;

@@ -240,7 +240,3 @@ module _ (g : GridState) (t : ℕ) (rules : Rules g) (ticks : g.state t ≡ Tick
   -- each section that stays is found in the part with its number
   pub found_by_number : (s : SectionPos) → remains g t s ≡ true → is_among (get_or found (part_of g t s) []) s ≡ true
   found_by_number s r = let k = found_in s r in let e = part_found k.0 s k.1 k.2 in rw e k.2
-
-  -- and nothing else is found
-  pub found_stays : (i : ℕ) (s : SectionPos) → i < length found → is_among (get_or found i []) s ≡ true → remains g t s ≡ true
-  found_stays i s l h = stays i l s h

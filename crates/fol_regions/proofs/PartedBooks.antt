@@ -179,9 +179,6 @@ module _ (b n c : Book) (t : ℕ) (h : IsBookBut b t) (live : is_live b t ≡ tr
   gone_pairs u v = gone_waits n c t cleared n_row n_ahead_of n_behind_of owner slots_at room rows ahead behind next u v
       ∙ put_waits b n t h live [] n_owner n_slots n_rows n_ahead n_behind n_next u v
 
-  pub gone_owner : (s : SectionPos) → owner_of c s ≡ owner_of b s
-  gone_owner s = owner s ∙ n_owner s
-
 -- ---- all sections of a region leave, and then it goes
 module _ (b m n c : Book) (t : ℕ) (h : IsBook b) (live : is_live b t ≡ true) (first : ahead_of b t ≡ []) (last : behind_of b t ≡ [])
     (m_owner : (s : SectionPos) → owner_of m s ≡ (if is_among (rows_of b t) s then 0 else owner_of b s))

@@ -2,6 +2,7 @@
 use Rattle.std.proofs.Common.{◌≡◌, ℕ, ◌+◌, ◌*◌, ◌≤◌, ◌<◌, refl, sym, ◌∙◌, ap, arith, Bool, true, false, inl, inr, not, ◌&&◌, ◌||◌, List, [], ◌∷◌, ◌++◌, length, get_or}
 use Rattle.std.specs.Prelude.{◌≢◌, nat_eq, nat_lt, nat_le, if◌then◌else◌, filter, Option, Some, None, IsTrue}
 use Rattle.std.specs.List.{All, range_with_len, IsDistinct}
+use Rattle.std.proofs.Math.Bool.{not-not}
 use Rattle.std.proofs.lemmas.Bool.{cases_Bool, eq-eqb, ne_eqb, eqb-true, true≢false, and_parts, and_from, or_parts, lt-ltb, le-ltb, ltb-true, le-leb, lt-leb}
 use Rattle.std.proofs.lemmas.List.{append-nil}
 use Rattle.fol_model.specs.declared.places.SectionPos.{SectionPos}
@@ -20,15 +21,15 @@ use Rattle.fol_sections.specs.Table.{holds_of, presence_of, in_margin_of}
 use Rattle.fol_sections.specs.Table as sections
 use Rattle.fol_split.specs.Parts.{ArePartsOf}
 use Rattle.fol_regions.specs.declared.slots.Region.{Region}
-use Rattle.fol_regions.specs.Book.{Book, IsBook, SetsState, KeepsRoom, owner_of, state_of, waits_of, is_live, rows_of, ahead_of, behind_of}
-use Rattle.fol_regions.specs.Changes.{Changes, into, release_change, waiting_for, part_ids}
-use Rattle.fol_regions.specs.Released.{is_id, Joins, Cleans, Keeps, Ends, Splits, IsPresence, grid_of, with_parts}
+use Rattle.fol_regions.specs.Book.{Book, IsBook, SetsState, owner_of, state_of, waits_of, is_live, rows_of, ahead_of, behind_of}
+use Rattle.fol_regions.specs.Changes.{into, release_change, waiting_for, part_ids}
+use Rattle.fol_regions.specs.Added.{is_id}
+use Rattle.fol_regions.specs.Released.{Joins, Cleans, Keeps, Ends, Splits, IsPresence, grid_of, with_parts}
 use Rattle.fol_regions.specs.Rows.{is_among}
 use Rattle.fol_regions.specs.Slots.{slot_state, region_at, state_in}
 use Rattle.fol_regions.proofs.BookFacts as facts
 use Rattle.fol_regions.proofs.ChangeLists.{numbers_from}
 use Rattle.fol_regions.proofs.CleanSteps as clean
-use Rattle.fol_regions.proofs.JoinSteps.{rooms_both}
 use Rattle.fol_regions.proofs.JoinTest as test
 use Rattle.fol_regions.proofs.SettleSteps.{row_few, living_distinct}
 use Rattle.fol_split.proofs.Search.{among_at}
@@ -141,19 +142,11 @@ module _ (s : sections.Table) (b : Book) (t : ℕ) (rules : Rules (grid_of s b))
     unfolding grid_of
     waiting_is = ids_is
 
-    -- the change after the joins
-    abbrev joined_change : Changes
-    joined_change = record { created = []; dead = ids; merges = into t ids; parts = [] }
-
     pub wait_test : nat_eq (length (ahead_of j t)) 0 ≡ not (must_wait (grid_of s b) t)
     wait_test = ap (λ xs. nat_eq (length xs) 0) (k.ahead t) ∙ test.waits_test (grid_of s b) t rules ticks b j shown ids ids_is w
 
     pub wait_is : not (nat_eq (length (ahead_of j t)) 0) ≡ must_wait (grid_of s b) t
-    wait_is = ap not wait_test ∙ twice (must_wait (grid_of s b) t)
-      where
-        twice : (v : Bool) → not (not v) ≡ v
-        twice true = refl
-        twice false = refl
+    wait_is = ap not wait_test ∙ not-not (must_wait (grid_of s b) t)
 
     -- ---- t waits
     module _ (d : Book) (sets : SetsState j d t Transient) (must : must_wait (grid_of s b) t ≡ true) where
@@ -254,17 +247,13 @@ module _ (s : sections.Table) (b : Book) (t : ℕ) (rules : Rules (grid_of s b))
         let pos = joins.t_pos (grid_of s b) t rules ticks in
         let row = k.rows t pos in
         let x : not (nat_eq joined 0) ≡ some_below (λ u. (grid_of s b).waits u t) (grid_of s b).next =
-        ap (λ n. not (nat_eq n 0)) a ∙ ap not (test.joins_test (grid_of s b) t rules ticks b j shown ids ids_is w) ∙ twice (some_below (λ u. (grid_of s b).waits u t) (grid_of s b).next) in
+        ap (λ n. not (nat_eq n 0)) a ∙ ap not (test.joins_test (grid_of s b) t rules ticks b j shown ids ids_is w) ∙ not-not (some_below (λ u. (grid_of s b).waits u t) (grid_of s b).next) in
         let y : size ≡ joined_size (grid_of s b) t = c ∙ ap length row ∙ test.size_test (grid_of s b) t rules ticks b j shown ids ids_is w in
         let z : dead ≡ joined_dead (grid_of s b) t =
         d ∙ ap (λ xs. length (filter (λ q. not (in_margin_of s q)) xs)) row
         ∙ ap length (filter_same (λ q. not (in_margin_of s q)) (λ q. not (in_margin (grid_of s b) q)) (filter (λ q. nat_eq (owner_of j q) t) all_sections) (λ q. ap not (sym (margin_is s b q))))
         ∙ test.dead_test (grid_of s b) t rules ticks b j shown ids ids_is w in
         rw (x, y, z) refl
-      where
-        twice : (v : Bool) → not (not v) ≡ v
-        twice true = refl
-        twice false = refl
 
     -- ---- t is cleaned
     module _ (living : List SectionPos) (stays : living ≡ filter (in_margin_of s) (rows_of j t)) (found : List (List SectionPos)) (are : ArePartsOf living s.grid.merge found) where
@@ -316,14 +305,6 @@ module _ (s : sections.Table) (b : Book) (t : ℕ) (rules : Rules (grid_of s b))
           by_cases [] e c = by_none d (sym (ap length e)) c
           by_cases (p ∷ []) e c = by_one d (sym (ap length e)) c.0 c.1 c.2
           by_cases (p ∷ q ∷ ps) e c = by_more d (omega (arith, ap length e)) c.0 c.1 (let f = e in rw (← f) c.2)
-
-      pub clean_rooms : (d : Book) → Cleans j d t living found → KeepsRoom j d
-      clean_rooms d c = by_cases found c
-        where
-          by_cases : (xs : List (List SectionPos)) → Cleans j d t living xs → KeepsRoom j d
-          by_cases [] c = c.rooms
-          by_cases (p ∷ []) c = rooms_both j c.0 d c.1.rooms c.2.rooms
-          by_cases (p ∷ q ∷ ps) c = rooms_both j c.0 d c.1.rooms c.2.rooms
 
       -- ---- the state and the change
       module _ (calm : must_wait (grid_of s b) t ≡ false) (cleaning : cleans (grid_of s b) t ≡ true) where

@@ -1,7 +1,7 @@
 -- The sections of a region that stay, and the parts into which they fall.
-use Rattle.std.proofs.Common.{◌≡◌, ℕ, ◌+◌, ◌≤◌, ◌<◌, refl, sym, ◌∙◌, ap, arith, Bool, true, false, inl, inr, ◌&&◌, List, [], ◌∷◌, ◌++◌, length, get_or}
+use Rattle.std.proofs.Common.{◌≡◌, ℕ, ◌+◌, ◌≤◌, ◌<◌, refl, sym, ◌∙◌, ap, arith, Bool, true, false, inl, inr, ◌&&◌, List, [], length, get_or}
 use Rattle.std.specs.Prelude.{nat_eq, nat_lt, if◌then◌else◌, filter, IsTrue, map, pos as int_pos}
-use Rattle.std.specs.List.{All, range_with_len, IsDistinct}
+use Rattle.std.specs.List.{All, IsDistinct}
 use Rattle.std.specs.List.Sorted.{IsStrictlySortedBy}
 use Rattle.std.specs.Ordering.{on}
 use Rattle.std.specs.declared.cmp.Ordering.TheVariants.{Less}
@@ -10,17 +10,15 @@ use Rattle.std.proofs.lemmas.List.Kept.{IsStrictlySortedBy-filter}
 use Rattle.std.proofs.lemmas.Map.Keys.{Less-from_sorted, sorted_from_all_adjacent}
 use Rattle.std.proofs.lemmas.List.{get_or-map, length-map}
 use Rattle.fol_model.specs.declared.places.SectionPos.{SectionPos}
-use Rattle.fol_model.specs.declared.regions.State.TheVariants.{Ready}
 use Rattle.fol_model.specs.Geometry.{is_section, same_section}
-use Rattle.fol_model.specs.Universe.{all_sections, count_sections, numbers_below, section_cmp}
+use Rattle.fol_model.specs.Universe.{all_sections, count_sections, section_cmp}
 use Rattle.fol_laws.proofs.ListCounts.{count_by-mono}
 use Rattle.fol_laws.proofs.SectionOrder.{section_members, section_rows_are, sections_sorted}
 use Rattle.fol_split.specs.Parts.{ArePartsOf, IsPart, least_of}
 use Rattle.fol_split.proofs.Places.{rising-distinct, section_order}
 use Rattle.fol_split.proofs.Search.{among_at, at_index}
-use Rattle.fol_regions.specs.Book.{Book, IsBook, SetsState, owner_of, waits_of, is_live, rows_of, ahead_of, behind_of}
-use Rattle.fol_regions.specs.Changes.{Changes}
-use Rattle.fol_regions.specs.Released.{AreRows, Cleans, Ends, Keeps, Splits, with_parts}
+use Rattle.fol_regions.specs.Book.{Book, IsBook, owner_of, is_live, rows_of}
+use Rattle.fol_regions.specs.Released.{AreRows, Keeps}
 use Rattle.fol_regions.specs.Rows.{is_among}
 use Rattle.fol_regions.proofs.BookFacts.{row_most}
 use Rattle.fol_regions.proofs.PartNumbers.{first_among, first_least, not_both}
@@ -29,36 +27,6 @@ use Rattle.fol_regions.proofs.SplitSteps.{placed_some}
 
 abbrev origin : SectionPos
 origin = record { x = int_pos 0; z = int_pos 0 }
-
--- ---- by the number of parts
-pub cleans_none : (old new : Book) (t : ℕ) (living : List SectionPos) (found : List (List SectionPos)) → length found ≡ 0 → Ends old new t → Cleans old new t living found
-cleans_none old new t living [] e h = h
-cleans_none old new t living (p ∷ ps) e h = absurd (omega arith)
-
-pub cleans_one : (old mid new : Book) (t : ℕ) (living : List SectionPos) (found : List (List SectionPos)) → length found ≡ 1 → Keeps old mid t living → SetsState mid new t Ready → Cleans old new t living found
-cleans_one old mid new t living [] e h k = absurd (omega arith)
-cleans_one old mid new t living (p ∷ []) e h k = (mid, h, k)
-cleans_one old mid new t living (p ∷ q ∷ ps) e h k = absurd (omega arith)
-
-pub cleans_more : (old mid new : Book) (t : ℕ) (living : List SectionPos) (found : List (List SectionPos)) → 2 ≤ length found → Keeps old mid t living → Splits mid new t found → Cleans old new t living found
-cleans_more old mid new t living [] e h k = absurd (omega arith)
-cleans_more old mid new t living (p ∷ []) e h k = absurd (omega arith)
-cleans_more old mid new t living (p ∷ q ∷ ps) e h k = (mid, h, k)
-
-pub parts_none : (c : Changes) (t n : ℕ) (found : List (List SectionPos)) → length found ≡ 0 → record c { dead = c.dead ++ t ∷ [] } ≡ with_parts c t n found
-parts_none c t n [] e = refl
-parts_none c t n (p ∷ ps) e = absurd (omega arith)
-
-pub parts_one : (c : Changes) (t n : ℕ) (found : List (List SectionPos)) → length found ≡ 1 → c ≡ with_parts c t n found
-parts_one c t n [] e = absurd (omega arith)
-parts_one c t n (p ∷ []) e = refl
-parts_one c t n (p ∷ q ∷ ps) e = absurd (omega arith)
-
-pub parts_more : (c : Changes) (t n k : ℕ) (found : List (List SectionPos)) → 2 ≤ k → k ≡ length found
-    → record { created = c.created ++ range_with_len n k; dead = c.dead ++ t ∷ []; merges = c.merges; parts = c.parts ++ range_with_len n k } ≡ with_parts c t n found
-parts_more c t n k [] l e = absurd (omega arith)
-parts_more c t n k (p ∷ []) l e = absurd (omega arith)
-parts_more c t n k (p ∷ q ∷ ps) l e = ap (λ (m : ℕ). record { created = c.created ++ range_with_len n m; dead = c.dead ++ t ∷ []; merges = c.merges; parts = c.parts ++ range_with_len n m }) e
 
 -- ---- the sections that stay
 module _ (b : Book) (t : ℕ) (h : IsBook b) (live : is_live b t ≡ true) (p : SectionPos → Bool) (living : List SectionPos) (is : living ≡ filter p (rows_of b t)) where
@@ -93,17 +61,6 @@ module _ (b : Book) (t : ℕ) (h : IsBook b) (live : is_live b t ≡ true) (p : 
 
   -- ---- after the others left
   module _ (mid : Book) (m : IsBook mid) (keeps : Keeps b mid t living) where
-    pub mid_live : is_live mid t ≡ true
-    mid_live = ap (λ f. f t) keeps.live ∙ live
-
-    pub mid_first : ahead_of b t ≡ [] → ahead_of mid t ≡ []
-    mid_first e =
-        m.ahead t ∙ ap (λ (f : ℕ → ℕ → Bool). filter (f t) (numbers_below mid.next)) keeps.waits ∙ ap (λ n. filter (waits_of b t) (numbers_below n)) keeps.next ∙ sym (h.ahead t) ∙ e
-
-    pub mid_last : behind_of b t ≡ [] → behind_of mid t ≡ []
-    mid_last e =
-        m.behind t ∙ ap (λ (f : ℕ → ℕ → Bool). filter (λ u. f u t) (numbers_below mid.next)) keeps.waits ∙ ap (λ n. filter (λ u. waits_of b u t) (numbers_below n)) keeps.next ∙ sym (h.behind t) ∙ e
-
     mid_owner : (s : SectionPos) → owner_of mid s ≡ (if nat_eq (owner_of b s) t then (if is_among living s then t else 0) else owner_of b s)
     mid_owner s = ap (λ f. f s) keeps.owner
 

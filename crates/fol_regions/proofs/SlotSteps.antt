@@ -262,14 +262,6 @@ module _ (v w : SlotTable) (same : w.room ≡ v.room) (keys : List (ℕ × ℕ))
         ])
   ]
 
-  pub removed_keys : AreKeys w.regions w.room keys fits
-  removed_keys = record {
-    found = λ k r e. kept.found k r (sym (others k (λ x. let y : None ≡ Some r = sym changed ∙ ap (region_at w) (sym x) ∙ e in absurd (cc))) ∙ e);
-    within = λ k l. end k (omega arith);
-    most = omega (arith, kept.most);
-    key_room = omega (arith, kept.key_room);
-  }
-
 -- another state in a slot
 module _ (regions : List (Option Region)) (room at : ℕ) (old : Region) (state : State) (was : slice_index_or regions at None ≡ Some old) where
   bounds : (xs : List (Option Region)) (k : ℕ) → slice_index_or xs k None ≡ Some old → k < length xs

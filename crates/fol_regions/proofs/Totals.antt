@@ -9,9 +9,6 @@ module _ {T : Type 0} where
   pub total_with : (v : Numbered T) (n : ℕ) (xs : List T) → n < length v.lists → total (with_list v n xs) + length (list_at v n) ≡ total v + length xs
   total_with v n xs l = omega (arith, sum_by-set {X = List T} length v.lists n xs [] l)
 
-  pub list_le : (v : Numbered T) (n : ℕ) → n < length v.lists → length (list_at v n) ≤ total v
-  list_le v n l = omega (arith, total_with v n [] l)
-
   -- two lists
   pub total_two : (v : Numbered T) (n m : ℕ) (xs : List T) → n < length v.lists → m < length v.lists → n ≢ m → total (with_list (with_list v m []) n xs) + (length (list_at v n) + length (list_at v m)) ≡ total v + length xs
   total_two v n m xs l k d =

@@ -1,19 +1,16 @@
 -- What the steps of a release do to the tables of regions.
-use Rattle.std.specs.Prelude.{◌≡◌, ℕ, ◌+◌, ◌<◌, Bool, true, not, ◌&&◌, nat_eq, nat_lt, nat_le, if◌then◌else◌, List, [], ◌∷◌, ◌++◌, length, filter}
+use Rattle.std.specs.Prelude.{◌≡◌, ℕ, ◌+◌, ◌<◌, true, not, ◌&&◌, nat_eq, nat_lt, nat_le, if◌then◌else◌, List, [], ◌∷◌, ◌++◌, length, filter}
 use Rattle.std.specs.List.{list_any, slice_index_or, range_with_len}
 use Rattle.fol_model.specs.declared.places.SectionPos.{SectionPos}
 use Rattle.fol_model.specs.declared.regions.State.TheVariants.{Ready, Dead}
 use Rattle.fol_model.specs.GridState.{GridState, with_state}
 use Rattle.fol_model.specs.Universe.{all_sections}
+use Rattle.fol_regions.specs.Added.{is_id}
 use Rattle.fol_regions.specs.Book.{Book, owner_of, state_of, waits_of, is_live, KeepsRoom, SetsState}
 use Rattle.fol_regions.specs.Changes.{Changes}
 use Rattle.fol_sections.specs.Table.{holds_of, presence_of}
 use Rattle.fol_sections.specs.Table as sections
 use Rattle.fol_regions.specs.Rows.{is_among}
-
--- the number is one of the list
-abbrev pub is_id : List ℕ → ℕ → Bool
-is_id ids r = list_any (nat_eq r) ids
 
 -- the regions of a list become part of t, which waits for whom they waited, but not for itself
 pub record Joins (old new : Book) (t : ℕ) (ids : List ℕ) : Type 0 where

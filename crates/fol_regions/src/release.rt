@@ -1,15 +1,16 @@
 //! The end of a tick: the regions that wait join, dead sections leave, and what is left falls into parts.
 
 ghost use Rattle.std.specs.Prelude.{◌≡◌, ◌≢◌, ℕ, ◌+◌, ◌*◌, ◌<◌, ◌≤◌, ◌^◌, not, ◌||◌, ◌&&◌, true, false, IfOk, IsTrue, [], ◌++◌, length, filter, nat_eq, nat_le, nat_lt};
-ghost use Rattle.std.specs.List.{All, range_with_len};
+ghost use Rattle.std.specs.List.{All, IsDistinct, range_with_len};
 ghost use Rattle.std.specs.Vec.{vec_capacity};
 ghost use Rattle.fol_model.specs.declared.places.SectionPos.{SectionPos};
 ghost use Rattle.fol_model.specs.declared.regions.State.TheVariants.{Ticking};
+ghost use Rattle.fol_model.specs.Geometry.{same_section};
 ghost use Rattle.fol_model.specs.GridNumbers.{IsGrid};
 ghost use Rattle.fol_model.specs.Release.{release};
 ghost use Rattle.fol_model.specs.Rules.{Rules};
 ghost use Rattle.fol_model.specs.Universe.{count_sections};
-ghost use Rattle.fol_sections.specs.Table.{in_margin_of, presence_of};
+ghost use Rattle.fol_sections.specs.Table.{holds_of, in_margin_of, presence_of};
 ghost use Rattle.fol_regions.specs.Book.{owner_of, waits_of, is_live, rows_of, ahead_of, behind_of, KeepsRoom};
 ghost use Rattle.fol_regions.specs.Changes.{into, nothing, release_change};
 ghost use Rattle.fol_regions.specs.Released.{Cleans, Joins, with_parts};
@@ -30,13 +31,9 @@ const MOST: usize = 16_384;
 /// The memory in which a release works.
 #[derive(Drop)]
 pub struct Releaser {
-    splitter: Splitter,
     /// The regions that join.
     ids: Vec<u64>,
-    /// The sections of the region that are in a margin.
-    living: Vec<SectionPos>,
-    /// The other ones.
-    dead: Vec<SectionPos>,
+    cleaner: Cleaner,
 }
 
 impl Model for Releaser {
@@ -47,7 +44,7 @@ impl Model for Releaser {
 
     ghost view = { λ r. 0 };
 
-    ghost invariant = { λ r. (16384 ≤ vec_capacity r.ids) × (16384 ≤ vec_capacity r.living) × (16384 ≤ vec_capacity r.dead) };
+    ghost invariant = { λ r. (16384 ≤ vec_capacity r.ids) × (16384 ≤ vec_capacity r.cleaner.living) × (16384 ≤ vec_capacity r.cleaner.dead) };
 }
 
 impl Releaser {
@@ -55,11 +52,17 @@ impl Releaser {
 
     /// Takes the memory for 16,384 sections.
     pub fn new(alloc: Global) -> Result<Releaser, AllocError> {
+        let splitter = Splitter::new(alloc)?;
+        let ids = Vec::with_capacity(alloc, MOST)?;
+        let living = Vec::with_capacity(alloc, MOST)?;
+        let dead = Vec::with_capacity(alloc, MOST)?;
         Ok(Releaser {
-            splitter: Splitter::new(alloc)?,
-            ids: Vec::with_capacity(alloc, MOST)?,
-            living: Vec::with_capacity(alloc, MOST)?,
-            dead: Vec::with_capacity(alloc, MOST)?,
+            ids,
+            cleaner: Cleaner {
+                splitter,
+                living,
+                dead,
+            },
         })
     }
 
@@ -95,30 +98,11 @@ impl Releaser {
             tables.set_state(id, State::Transient);
             return;
         }
-        self.living.clear();
-        self.dead.clear();
-        sort_out(
-            sections,
-            tables.sections(id),
-            &mut self.living,
-            &mut self.dead,
-        );
-        if must_clean(
-            grid,
-            self.ids.len(),
-            self.living.len() + self.dead.len(),
-            self.dead.len(),
-        ) {
-            settle(
-                &mut self.splitter,
-                tables,
-                change,
-                grid.merge,
-                id,
-                &self.living,
-                &self.dead,
-            );
-            sections.drop_dead(&mut self.dead);
+        self.cleaner.sort_out(sections, tables.sections(id));
+        let dead = self.cleaner.dead.len();
+        let size = self.cleaner.living.len() + dead;
+        if must_clean(grid, self.ids.len(), size, dead) {
+            self.cleaner.clean(tables, sections, change, grid.merge, id);
         } else {
             tables.set_state(id, State::Ready);
         }
@@ -153,29 +137,79 @@ fn join_all(tables: &mut Tables, change: &mut Change, ids: &[u64], id: u64)
     }
 }
 
-/// Puts the sections of a region that are in a margin into one list, and the others into another.
-fn sort_out(
-    sections: &Sections,
-    row: &[SectionPos],
-    living: &mut Vec<SectionPos>,
-    dead: &mut Vec<SectionPos>,
-)
-    requires present { (s : SectionPos) → is_among row.now s ≡ true → presence_of sections.now s ≡ true }
-    requires living_empty { living.old.items ≡ [] }
-    requires dead_empty { dead.old.items ≡ [] }
-    requires living_room { length row.now ≤ vec_capacity living.old }
-    requires dead_room { length row.now ≤ vec_capacity dead.old }
-    ensures living { living.new.items ≡ filter (in_margin_of sections.now) row.now }
-    ensures dead { dead.new.items ≡ filter (λ s. not (in_margin_of sections.now s)) row.now }
-    ensures living_room { vec_capacity living.old ≤ vec_capacity living.new }
-    ensures dead_room { vec_capacity dead.old ≤ vec_capacity dead.new }
-{
-    for s in row {
-        if sections.is_dead(*s) {
-            dead.push_reserved(*s);
-        } else {
-            living.push_reserved(*s);
+/// The sections of a released region, and the memory in which it falls into parts.
+#[derive(Drop)]
+struct Cleaner {
+    splitter: Splitter,
+    /// The sections of the region that are in a margin.
+    living: Vec<SectionPos>,
+    /// The other ones.
+    dead: Vec<SectionPos>,
+}
+
+impl Cleaner {
+    /// Puts the sections of a region that are in a margin into one list, and the others into another.
+    fn sort_out(&mut self, sections: &Sections, row: &[SectionPos])
+        requires present { (s : SectionPos) → is_among row.now s ≡ true → presence_of sections.now s ≡ true }
+        requires living_room { length row.now ≤ vec_capacity self.old.living }
+        requires dead_room { length row.now ≤ vec_capacity self.old.dead }
+        ensures living { self.new.living.items ≡ filter (in_margin_of sections.now) row.now }
+        ensures dead { self.new.dead.items ≡ filter (λ s. not (in_margin_of sections.now s)) row.now }
+        ensures living_room { vec_capacity self.old.living ≤ vec_capacity self.new.living }
+        ensures dead_room { vec_capacity self.old.dead ≤ vec_capacity self.new.dead }
+    {
+        self.living.clear();
+        self.dead.clear();
+        for s in row {
+            if sections.is_dead(*s) {
+                self.dead.push_reserved(*s);
+            } else {
+                self.living.push_reserved(*s);
+            }
         }
+    }
+
+    /// Leaves a region its living sections, as one region or as several; its dead ones are no longer present.
+    fn clean(
+        &mut self,
+        tables: &mut Tables,
+        sections: &mut Sections,
+        change: &mut Change,
+        merge: u8,
+        id: u64,
+    )
+        requires region { is_live tables.old id ≡ true }
+        requires first { ahead_of tables.old id ≡ [] }
+        requires last { behind_of tables.old id ≡ [] }
+        requires dead { (s : SectionPos) → is_among self.old.dead.items s ≡ true → owner_of tables.old s ≡ id }
+        requires living { self.old.living.items ≡ filter (λ s. not (is_among self.old.dead.items s)) (rows_of tables.old id) }
+        requires few { count_sections (λ s. nat_lt 0 (owner_of tables.old s)) ≤ 16384 }
+        requires few_ids { tables.old.next < 2 ^ 62 }
+        requires merge { (1 ≤ merge) × (merge ≤ 4) }
+        requires room { (change.old.created ≡ []) × (change.old.parts ≡ []) × (length change.old.dead < 16385) }
+        requires present { All (λ s. IsTrue (presence_of sections.old s)) self.old.dead.items }
+        requires distinct { IsDistinct same_section self.old.dead.items }
+        ensures parts { ArePartsOf self.old.living.items merge self.new.splitter }
+        ensures tables { Cleans tables.old tables.new id self.old.living.items self.new.splitter }
+        ensures change { change.new ≡ with_parts change.old id tables.old.next self.new.splitter }
+        ensures presence { presence_of sections.new ≡ (λ s. presence_of sections.old s && not (is_among self.old.dead.items s && not (in_margin_of sections.old s))) }
+        ensures holds { holds_of sections.new ≡ holds_of sections.old }
+        ensures grid { sections.new.grid ≡ sections.old.grid }
+        ensures filled { sections.new.filled ≡ sections.old.filled }
+        ensures spare { sections.new.spare ≡ sections.old.spare }
+        ensures living_room { vec_capacity self.new.living ≡ vec_capacity self.old.living }
+        ensures dead_room { vec_capacity self.new.dead ≡ vec_capacity self.old.dead }
+    {
+        settle(
+            &mut self.splitter,
+            tables,
+            change,
+            merge,
+            id,
+            &self.living,
+            &self.dead,
+        );
+        sections.drop_dead(&mut self.dead);
     }
 }
 

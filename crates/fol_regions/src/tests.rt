@@ -292,47 +292,23 @@ fn wide_margins_are_full_at_the_border(rt: HostRuntime) {
     assert_eq!(rt; regions.holds(c), 0);
 }
 
+/// Loads the four chunks of columns `x` and `x + 1` in rows 0 and 1.
+fn load_four(rt: &impl Abort, regions: &mut Regions, x: u16) {
+    let x = x as i32;
+    load(rt, regions, ChunkPos { x, z: 0 });
+    load(rt, regions, ChunkPos { x: x + 1, z: 0 });
+    load(rt, regions, ChunkPos { x, z: 1 });
+    load(rt, regions, ChunkPos { x: x + 1, z: 1 });
+}
+
 #[test]
 fn the_last_section_fits(rt: HostRuntime) {
     let mut regions = table(&rt, rt.alloc(), 1, 6);
     for i in 0..1024u16 {
-        load(
-            &rt,
-            &mut regions,
-            ChunkPos {
-                x: 8 * i as i32,
-                z: 0,
-            },
-        );
-        load(
-            &rt,
-            &mut regions,
-            ChunkPos {
-                x: 8 * i as i32 + 1,
-                z: 0,
-            },
-        );
-        load(
-            &rt,
-            &mut regions,
-            ChunkPos {
-                x: 8 * i as i32,
-                z: 1,
-            },
-        );
-        load(
-            &rt,
-            &mut regions,
-            ChunkPos {
-                x: 8 * i as i32 + 1,
-                z: 1,
-            },
-        );
+        load_four(&rt, &mut regions, 8 * i);
     }
-    assert_eq!(rt;
-        load(&rt, &mut regions, ChunkPos { x: 0, z: 0 }),
-        AddAnswer::Counted
-    );
+    let there = ChunkPos { x: 0, z: 0 };
+    assert_eq!(rt; load(&rt, &mut regions, there), AddAnswer::Counted);
     let full = AddAnswer::Full {
         present: 16_384,
         wanted: 9,

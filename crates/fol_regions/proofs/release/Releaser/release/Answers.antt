@@ -66,14 +66,14 @@ sort_out-requires-clause-living_room c =
     let is = c.deref.ensures.value ∙ c.list_waiting.ensures.ids in
     let live = facts.t_live c.args.sections.now c.args.tables.now c.args.id c.requires.rules c.requires.ticks c.keeps_lists.ensures c.keeps_states.ensures in
     let most = facts.row_most c.args.sections.now c.args.tables.now c.args.id c.requires.rules c.requires.ticks c.keeps_lists.ensures c.join_all.new.tables c.deref.result.now is c.join_all.ensures.joins c.keeps_lists-2.ensures live in
-    omega (arith, most, ap length c.sections.ensures, c.clear-2.ensures.capacity, c.self.invariant.1)
+    omega (arith, most, ap length c.sections.ensures, c.self.invariant.1)
 
 pub sort_out-requires-clause-dead_room : goal.sort_out-requires-clause-dead_room
 sort_out-requires-clause-dead_room c =
     let is = c.deref.ensures.value ∙ c.list_waiting.ensures.ids in
     let live = facts.t_live c.args.sections.now c.args.tables.now c.args.id c.requires.rules c.requires.ticks c.keeps_lists.ensures c.keeps_states.ensures in
     let most = facts.row_most c.args.sections.now c.args.tables.now c.args.id c.requires.rules c.requires.ticks c.keeps_lists.ensures c.join_all.new.tables c.deref.result.now is c.join_all.ensures.joins c.keeps_lists-2.ensures live in
-    omega (arith, most, ap length c.sections.ensures, c.clear-3.ensures.capacity, c.self.invariant.2)
+    omega (arith, most, ap length c.sections.ensures, c.self.invariant.2)
 
 pub must_clean-requires-clause-size : goal.must_clean-requires-clause-size
 must_clean-requires-clause-size c =
@@ -81,7 +81,7 @@ must_clean-requires-clause-size c =
     let live = facts.t_live c.args.sections.now c.args.tables.now c.args.id c.requires.rules c.requires.ticks c.keeps_lists.ensures c.keeps_states.ensures in
     let out = rw c.sections.ensures at c.sort_out.ensures.dead in
     let stays = rw c.sections.ensures at c.sort_out.ensures.living in
-    omega (arith, facts.lengths c.args.sections.now c.args.tables.now c.args.id c.requires.rules c.requires.ticks c.keeps_lists.ensures c.join_all.new.tables c.deref.result.now is c.join_all.ensures.joins c.keeps_lists-2.ensures c.sort_out.new.dead.items out c.sort_out.new.living.items stays, facts.row_most c.args.sections.now c.args.tables.now c.args.id c.requires.rules c.requires.ticks c.keeps_lists.ensures c.join_all.new.tables c.deref.result.now is c.join_all.ensures.joins c.keeps_lists-2.ensures live)
+    omega (arith, facts.lengths c.args.sections.now c.args.tables.now c.args.id c.requires.rules c.requires.ticks c.keeps_lists.ensures c.join_all.new.tables c.deref.result.now is c.join_all.ensures.joins c.keeps_lists-2.ensures c.sort_out.new.self.dead.items out c.sort_out.new.self.living.items stays, facts.row_most c.args.sections.now c.args.tables.now c.args.id c.requires.rules c.requires.ticks c.keeps_lists.ensures c.join_all.new.tables c.deref.result.now is c.join_all.ensures.joins c.keeps_lists-2.ensures live)
 
 pub must_clean-requires-clause-dead : goal.must_clean-requires-clause-dead
 must_clean-requires-clause-dead c =
@@ -89,10 +89,10 @@ must_clean-requires-clause-dead c =
     let live = facts.t_live c.args.sections.now c.args.tables.now c.args.id c.requires.rules c.requires.ticks c.keeps_lists.ensures c.keeps_states.ensures in
     let out = rw c.sections.ensures at c.sort_out.ensures.dead in
     let stays = rw c.sections.ensures at c.sort_out.ensures.living in
-    omega (arith, facts.lengths c.args.sections.now c.args.tables.now c.args.id c.requires.rules c.requires.ticks c.keeps_lists.ensures c.join_all.new.tables c.deref.result.now is c.join_all.ensures.joins c.keeps_lists-2.ensures c.sort_out.new.dead.items out c.sort_out.new.living.items stays, facts.row_most c.args.sections.now c.args.tables.now c.args.id c.requires.rules c.requires.ticks c.keeps_lists.ensures c.join_all.new.tables c.deref.result.now is c.join_all.ensures.joins c.keeps_lists-2.ensures live)
+    omega (arith, facts.lengths c.args.sections.now c.args.tables.now c.args.id c.requires.rules c.requires.ticks c.keeps_lists.ensures c.join_all.new.tables c.deref.result.now is c.join_all.ensures.joins c.keeps_lists-2.ensures c.sort_out.new.self.dead.items out c.sort_out.new.self.living.items stays, facts.row_most c.args.sections.now c.args.tables.now c.args.id c.requires.rules c.requires.ticks c.keeps_lists.ensures c.join_all.new.tables c.deref.result.now is c.join_all.ensures.joins c.keeps_lists-2.ensures live)
 
-pub settle-requires-clause-region : goal.settle-requires-clause-region
-settle-requires-clause-region c =
+pub clean-requires-clause-region : goal.clean-requires-clause-region
+clean-requires-clause-region c =
     let is = c.deref.ensures.value ∙ c.list_waiting.ensures.ids in
     let live = facts.t_live c.args.sections.now c.args.tables.now c.args.id c.requires.rules c.requires.ticks c.keeps_lists.ensures c.keeps_states.ensures in
     facts.j_live c.args.sections.now c.args.tables.now c.args.id c.requires.rules c.requires.ticks c.keeps_lists.ensures c.join_all.new.tables c.deref.result.now is c.join_all.ensures.joins c.keeps_lists-2.ensures live
@@ -103,48 +103,48 @@ set_state-requires-else-must_clean c =
     let live = facts.t_live c.args.sections.now c.args.tables.now c.args.id c.requires.rules c.requires.ticks c.keeps_lists.ensures c.keeps_states.ensures in
     facts.j_live c.args.sections.now c.args.tables.now c.args.id c.requires.rules c.requires.ticks c.keeps_lists.ensures c.join_all.new.tables c.deref.result.now is c.join_all.ensures.joins c.keeps_lists-2.ensures live
 
-pub settle-requires-clause-last : goal.settle-requires-clause-last
-settle-requires-clause-last c =
+pub clean-requires-clause-last : goal.clean-requires-clause-last
+clean-requires-clause-last c =
     let is = c.deref.ensures.value ∙ c.list_waiting.ensures.ids in
     facts.j_last c.args.sections.now c.args.tables.now c.args.id c.requires.rules c.requires.ticks c.keeps_lists.ensures c.join_all.new.tables c.deref.result.now is c.join_all.ensures.joins c.keeps_lists-2.ensures
 
-pub settle-requires-clause-dead : goal.settle-requires-clause-dead
-settle-requires-clause-dead c =
+pub clean-requires-clause-dead : goal.clean-requires-clause-dead
+clean-requires-clause-dead c =
     let is = c.deref.ensures.value ∙ c.list_waiting.ensures.ids in
     let out = rw c.sections.ensures at c.sort_out.ensures.dead in
-    rw c.deref-then-must_clean-2.ensures.value (facts.dead_owner c.args.sections.now c.args.tables.now c.args.id c.requires.rules c.requires.ticks c.keeps_lists.ensures c.join_all.new.tables c.deref.result.now is c.join_all.ensures.joins c.keeps_lists-2.ensures c.sort_out.new.dead.items out)
+    (facts.dead_owner c.args.sections.now c.args.tables.now c.args.id c.requires.rules c.requires.ticks c.keeps_lists.ensures c.join_all.new.tables c.deref.result.now is c.join_all.ensures.joins c.keeps_lists-2.ensures c.sort_out.new.self.dead.items out)
 
-pub settle-requires-clause-living : goal.settle-requires-clause-living
-settle-requires-clause-living c =
+pub clean-requires-clause-living : goal.clean-requires-clause-living
+clean-requires-clause-living c =
     let is = c.deref.ensures.value ∙ c.list_waiting.ensures.ids in
     let out = rw c.sections.ensures at c.sort_out.ensures.dead in
     let stays = rw c.sections.ensures at c.sort_out.ensures.living in
-    rw (c.deref-then-must_clean.ensures.value, c.deref-then-must_clean-2.ensures.value) (facts.living_left c.args.sections.now c.args.tables.now c.args.id c.requires.rules c.requires.ticks c.keeps_lists.ensures c.join_all.new.tables c.deref.result.now is c.join_all.ensures.joins c.keeps_lists-2.ensures c.sort_out.new.dead.items out c.sort_out.new.living.items stays)
+    (facts.living_left c.args.sections.now c.args.tables.now c.args.id c.requires.rules c.requires.ticks c.keeps_lists.ensures c.join_all.new.tables c.deref.result.now is c.join_all.ensures.joins c.keeps_lists-2.ensures c.sort_out.new.self.dead.items out c.sort_out.new.self.living.items stays)
 
-pub settle-requires-clause-few : goal.settle-requires-clause-few
-settle-requires-clause-few c =
+pub clean-requires-clause-few : goal.clean-requires-clause-few
+clean-requires-clause-few c =
     let is = c.deref.ensures.value ∙ c.list_waiting.ensures.ids in
     facts.j_few c.args.sections.now c.args.tables.now c.args.id c.requires.rules c.requires.ticks c.keeps_lists.ensures c.join_all.new.tables c.deref.result.now is c.join_all.ensures.joins c.keeps_lists-2.ensures
 
-pub settle-requires-clause-room : goal.settle-requires-clause-room
-settle-requires-clause-room c =
+pub clean-requires-clause-room : goal.clean-requires-clause-room
+clean-requires-clause-room c =
     let is = c.deref.ensures.value ∙ c.list_waiting.ensures.ids in
     let live = facts.t_live c.args.sections.now c.args.tables.now c.args.id c.requires.rules c.requires.ticks c.keeps_lists.ensures c.keeps_states.ensures in
     let most = ids_few c.args.tables.now c.args.id c.keeps_lists.ensures live (facts.alone c.args.sections.now c.args.tables.now c.args.id c.requires.rules c.requires.ticks c.keeps_lists.ensures) (facts.last c.args.sections.now c.args.tables.now c.args.id c.requires.rules c.requires.ticks c.keeps_lists.ensures) (facts.few c.args.sections.now c.args.tables.now c.args.id c.requires.rules c.requires.ticks c.keeps_lists.ensures) c.deref.result.now is in
     rw c.join_all.ensures.change (refl, refl, omega (arith, most))
 
-pub drop_dead-requires-clause-present : goal.drop_dead-requires-clause-present
-drop_dead-requires-clause-present c =
+pub clean-requires-clause-present : goal.clean-requires-clause-present
+clean-requires-clause-present c =
     let is = c.deref.ensures.value ∙ c.list_waiting.ensures.ids in
     let out = rw c.sections.ensures at c.sort_out.ensures.dead in
-    facts.dead_present c.args.sections.now c.args.tables.now c.args.id c.requires.rules c.requires.ticks c.keeps_lists.ensures c.join_all.new.tables c.deref.result.now is c.join_all.ensures.joins c.keeps_lists-2.ensures c.sort_out.new.dead.items out c.requires.presence
+    facts.dead_present c.args.sections.now c.args.tables.now c.args.id c.requires.rules c.requires.ticks c.keeps_lists.ensures c.join_all.new.tables c.deref.result.now is c.join_all.ensures.joins c.keeps_lists-2.ensures c.sort_out.new.self.dead.items out c.requires.presence
 
-pub drop_dead-requires-clause-distinct : goal.drop_dead-requires-clause-distinct
-drop_dead-requires-clause-distinct c =
+pub clean-requires-clause-distinct : goal.clean-requires-clause-distinct
+clean-requires-clause-distinct c =
     let is = c.deref.ensures.value ∙ c.list_waiting.ensures.ids in
     let live = facts.t_live c.args.sections.now c.args.tables.now c.args.id c.requires.rules c.requires.ticks c.keeps_lists.ensures c.keeps_states.ensures in
     let out = rw c.sections.ensures at c.sort_out.ensures.dead in
-    facts.dead_distinct c.args.sections.now c.args.tables.now c.args.id c.requires.rules c.requires.ticks c.keeps_lists.ensures c.join_all.new.tables c.deref.result.now is c.join_all.ensures.joins c.keeps_lists-2.ensures c.sort_out.new.dead.items out live
+    facts.dead_distinct c.args.sections.now c.args.tables.now c.args.id c.requires.rules c.requires.ticks c.keeps_lists.ensures c.join_all.new.tables c.deref.result.now is c.join_all.ensures.joins c.keeps_lists-2.ensures c.sort_out.new.self.dead.items out live
 
 pub returns-then-must_clean-clause-state : goal.returns-then-must_clean-clause-state
 returns-then-must_clean-clause-state c =
@@ -152,16 +152,16 @@ returns-then-must_clean-clause-state c =
     let out = rw c.sections.ensures at c.sort_out.ensures.dead in
     let stays = rw c.sections.ensures at c.sort_out.ensures.living in
     let calm : must_wait (grid_of c.args.sections.now c.args.tables.now) c.args.id ≡ false = sym (facts.wait_is c.args.sections.now c.args.tables.now c.args.id c.requires.rules c.requires.ticks c.keeps_lists.ensures c.join_all.new.tables c.deref.result.now is c.join_all.ensures.joins c.keeps_lists-2.ensures) ∙ sym c.is_waiting.ensures ∙ c.if-is_waiting.false in
-    let lengths = facts.lengths c.args.sections.now c.args.tables.now c.args.id c.requires.rules c.requires.ticks c.keeps_lists.ensures c.join_all.new.tables c.deref.result.now is c.join_all.ensures.joins c.keeps_lists-2.ensures c.sort_out.new.dead.items out c.sort_out.new.living.items stays in
-    let test = facts.clean_test c.args.sections.now c.args.tables.now c.args.id c.requires.rules c.requires.ticks c.keeps_lists.ensures c.join_all.new.tables c.deref.result.now is c.join_all.ensures.joins c.keeps_lists-2.ensures c.len.result (c.len-2.result + c.len-3.result) c.len-4.result (omega (arith, ap length c.deref.ensures.value)) (omega (arith, lengths)) (omega (arith, ap length out)) in
+    let lengths = facts.lengths c.args.sections.now c.args.tables.now c.args.id c.requires.rules c.requires.ticks c.keeps_lists.ensures c.join_all.new.tables c.deref.result.now is c.join_all.ensures.joins c.keeps_lists-2.ensures c.sort_out.new.self.dead.items out c.sort_out.new.self.living.items stays in
+    let test = facts.clean_test c.args.sections.now c.args.tables.now c.args.id c.requires.rules c.requires.ticks c.keeps_lists.ensures c.join_all.new.tables c.deref.result.now is c.join_all.ensures.joins c.keeps_lists-2.ensures c.len-2.result (c.len.result + c.len-dead.result) c.len-dead.result (omega (arith, ap length c.deref.ensures.value)) (omega (arith, lengths)) (omega (arith, ap length out)) in
     let answer = rw c.requires.grid at c.must_clean.ensures in
     let cleaning : cleans (grid_of c.args.sections.now c.args.tables.now) c.args.id ≡ true = sym test ∙ sym answer ∙ c.if-must_clean.true in
     let grid = c.grid.view_is ∙ c.requires.grid in
     let merge = ap (λ (x : GridNumbers). x.merge) grid in
-    let are = rw (c.deref-then-must_clean.ensures.value, merge) at c.settle.ensures.parts in
-    let by = rw c.deref-then-must_clean.ensures.value at c.settle.ensures.tables in
-    let x = facts.is_cleaned c.args.sections.now c.args.tables.now c.args.id c.requires.rules c.requires.ticks c.keeps_lists.ensures c.join_all.new.tables c.deref.result.now is c.join_all.ensures.joins c.keeps_lists-2.ensures c.sort_out.new.living.items stays c.settle.new.splitter are c.settle.new.tables by in
-    facts.cleaned_state c.args.sections.now c.args.tables.now c.args.id c.requires.rules c.requires.ticks c.keeps_lists.ensures c.join_all.new.tables c.deref.result.now is c.join_all.ensures.joins c.keeps_lists-2.ensures c.sort_out.new.living.items stays c.settle.new.splitter are calm cleaning c.drop_dead.new.self c.settle.new.tables c.drop_dead.ensures.stays.0 c.drop_dead.ensures.holds x
+    let are = rw merge at c.clean.ensures.parts in
+    let by = c.clean.ensures.tables in
+    let x = facts.is_cleaned c.args.sections.now c.args.tables.now c.args.id c.requires.rules c.requires.ticks c.keeps_lists.ensures c.join_all.new.tables c.deref.result.now is c.join_all.ensures.joins c.keeps_lists-2.ensures c.sort_out.new.self.living.items stays c.clean.new.self.splitter are c.clean.new.tables by in
+    facts.cleaned_state c.args.sections.now c.args.tables.now c.args.id c.requires.rules c.requires.ticks c.keeps_lists.ensures c.join_all.new.tables c.deref.result.now is c.join_all.ensures.joins c.keeps_lists-2.ensures c.sort_out.new.self.living.items stays c.clean.new.self.splitter are calm cleaning c.clean.new.sections c.clean.new.tables c.clean.ensures.grid c.clean.ensures.holds x
 
 pub returns-then-must_clean-clause-change : goal.returns-then-must_clean-clause-change
 returns-then-must_clean-clause-change c =
@@ -169,17 +169,15 @@ returns-then-must_clean-clause-change c =
     let out = rw c.sections.ensures at c.sort_out.ensures.dead in
     let stays = rw c.sections.ensures at c.sort_out.ensures.living in
     let calm : must_wait (grid_of c.args.sections.now c.args.tables.now) c.args.id ≡ false = sym (facts.wait_is c.args.sections.now c.args.tables.now c.args.id c.requires.rules c.requires.ticks c.keeps_lists.ensures c.join_all.new.tables c.deref.result.now is c.join_all.ensures.joins c.keeps_lists-2.ensures) ∙ sym c.is_waiting.ensures ∙ c.if-is_waiting.false in
-    let lengths = facts.lengths c.args.sections.now c.args.tables.now c.args.id c.requires.rules c.requires.ticks c.keeps_lists.ensures c.join_all.new.tables c.deref.result.now is c.join_all.ensures.joins c.keeps_lists-2.ensures c.sort_out.new.dead.items out c.sort_out.new.living.items stays in
-    let test = facts.clean_test c.args.sections.now c.args.tables.now c.args.id c.requires.rules c.requires.ticks c.keeps_lists.ensures c.join_all.new.tables c.deref.result.now is c.join_all.ensures.joins c.keeps_lists-2.ensures c.len.result (c.len-2.result + c.len-3.result) c.len-4.result (omega (arith, ap length c.deref.ensures.value)) (omega (arith, lengths)) (omega (arith, ap length out)) in
+    let lengths = facts.lengths c.args.sections.now c.args.tables.now c.args.id c.requires.rules c.requires.ticks c.keeps_lists.ensures c.join_all.new.tables c.deref.result.now is c.join_all.ensures.joins c.keeps_lists-2.ensures c.sort_out.new.self.dead.items out c.sort_out.new.self.living.items stays in
+    let test = facts.clean_test c.args.sections.now c.args.tables.now c.args.id c.requires.rules c.requires.ticks c.keeps_lists.ensures c.join_all.new.tables c.deref.result.now is c.join_all.ensures.joins c.keeps_lists-2.ensures c.len-2.result (c.len.result + c.len-dead.result) c.len-dead.result (omega (arith, ap length c.deref.ensures.value)) (omega (arith, lengths)) (omega (arith, ap length out)) in
     let answer = rw c.requires.grid at c.must_clean.ensures in
     let cleaning : cleans (grid_of c.args.sections.now c.args.tables.now) c.args.id ≡ true = sym test ∙ sym answer ∙ c.if-must_clean.true in
     let grid = c.grid.view_is ∙ c.requires.grid in
     let merge = ap (λ (x : GridNumbers). x.merge) grid in
-    let are = rw (c.deref-then-must_clean.ensures.value, merge) at c.settle.ensures.parts in
-    let by = rw c.deref-then-must_clean.ensures.value at c.settle.ensures.tables in
-    let x = facts.is_cleaned c.args.sections.now c.args.tables.now c.args.id c.requires.rules c.requires.ticks c.keeps_lists.ensures c.join_all.new.tables c.deref.result.now is c.join_all.ensures.joins c.keeps_lists-2.ensures c.sort_out.new.living.items stays c.settle.new.splitter are c.settle.new.tables by in
-    let change = rw c.join_all.ensures.change at c.settle.ensures.change in
-    change ∙ facts.cleaned_change c.args.sections.now c.args.tables.now c.args.id c.requires.rules c.requires.ticks c.keeps_lists.ensures c.join_all.new.tables c.deref.result.now is c.join_all.ensures.joins c.keeps_lists-2.ensures c.sort_out.new.living.items stays c.settle.new.splitter are calm cleaning
+    let are = rw merge at c.clean.ensures.parts in
+    let change = rw c.join_all.ensures.change at c.clean.ensures.change in
+    change ∙ facts.cleaned_change c.args.sections.now c.args.tables.now c.args.id c.requires.rules c.requires.ticks c.keeps_lists.ensures c.join_all.new.tables c.deref.result.now is c.join_all.ensures.joins c.keeps_lists-2.ensures c.sort_out.new.self.living.items stays c.clean.new.self.splitter are calm cleaning
 
 pub returns-then-must_clean-clause-presence : goal.returns-then-must_clean-clause-presence
 returns-then-must_clean-clause-presence c =
@@ -187,17 +185,17 @@ returns-then-must_clean-clause-presence c =
     let out = rw c.sections.ensures at c.sort_out.ensures.dead in
     let stays = rw c.sections.ensures at c.sort_out.ensures.living in
     let calm : must_wait (grid_of c.args.sections.now c.args.tables.now) c.args.id ≡ false = sym (facts.wait_is c.args.sections.now c.args.tables.now c.args.id c.requires.rules c.requires.ticks c.keeps_lists.ensures c.join_all.new.tables c.deref.result.now is c.join_all.ensures.joins c.keeps_lists-2.ensures) ∙ sym c.is_waiting.ensures ∙ c.if-is_waiting.false in
-    let lengths = facts.lengths c.args.sections.now c.args.tables.now c.args.id c.requires.rules c.requires.ticks c.keeps_lists.ensures c.join_all.new.tables c.deref.result.now is c.join_all.ensures.joins c.keeps_lists-2.ensures c.sort_out.new.dead.items out c.sort_out.new.living.items stays in
-    let test = facts.clean_test c.args.sections.now c.args.tables.now c.args.id c.requires.rules c.requires.ticks c.keeps_lists.ensures c.join_all.new.tables c.deref.result.now is c.join_all.ensures.joins c.keeps_lists-2.ensures c.len.result (c.len-2.result + c.len-3.result) c.len-4.result (omega (arith, ap length c.deref.ensures.value)) (omega (arith, lengths)) (omega (arith, ap length out)) in
+    let lengths = facts.lengths c.args.sections.now c.args.tables.now c.args.id c.requires.rules c.requires.ticks c.keeps_lists.ensures c.join_all.new.tables c.deref.result.now is c.join_all.ensures.joins c.keeps_lists-2.ensures c.sort_out.new.self.dead.items out c.sort_out.new.self.living.items stays in
+    let test = facts.clean_test c.args.sections.now c.args.tables.now c.args.id c.requires.rules c.requires.ticks c.keeps_lists.ensures c.join_all.new.tables c.deref.result.now is c.join_all.ensures.joins c.keeps_lists-2.ensures c.len-2.result (c.len.result + c.len-dead.result) c.len-dead.result (omega (arith, ap length c.deref.ensures.value)) (omega (arith, lengths)) (omega (arith, ap length out)) in
     let answer = rw c.requires.grid at c.must_clean.ensures in
     let cleaning : cleans (grid_of c.args.sections.now c.args.tables.now) c.args.id ≡ true = sym test ∙ sym answer ∙ c.if-must_clean.true in
     let grid = c.grid.view_is ∙ c.requires.grid in
     let merge = ap (λ (x : GridNumbers). x.merge) grid in
-    let are = rw (c.deref-then-must_clean.ensures.value, merge) at c.settle.ensures.parts in
-    let by = rw c.deref-then-must_clean.ensures.value at c.settle.ensures.tables in
-    let x = facts.is_cleaned c.args.sections.now c.args.tables.now c.args.id c.requires.rules c.requires.ticks c.keeps_lists.ensures c.join_all.new.tables c.deref.result.now is c.join_all.ensures.joins c.keeps_lists-2.ensures c.sort_out.new.living.items stays c.settle.new.splitter are c.settle.new.tables by in
+    let are = rw merge at c.clean.ensures.parts in
+    let by = c.clean.ensures.tables in
+    let x = facts.is_cleaned c.args.sections.now c.args.tables.now c.args.id c.requires.rules c.requires.ticks c.keeps_lists.ensures c.join_all.new.tables c.deref.result.now is c.join_all.ensures.joins c.keeps_lists-2.ensures c.sort_out.new.self.living.items stays c.clean.new.self.splitter are c.clean.new.tables by in
     let ok = rw grid at c.grid.invariant in
-    facts.cleaned_presence c.args.sections.now c.args.tables.now c.args.id c.requires.rules c.requires.ticks c.keeps_lists.ensures c.join_all.new.tables c.deref.result.now is c.join_all.ensures.joins c.keeps_lists-2.ensures c.sort_out.new.living.items stays c.settle.new.splitter are calm cleaning ok c.drop_dead.new.self c.settle.new.tables c.sort_out.new.dead.items out c.requires.presence c.drop_dead.ensures.presence x
+    facts.cleaned_presence c.args.sections.now c.args.tables.now c.args.id c.requires.rules c.requires.ticks c.keeps_lists.ensures c.join_all.new.tables c.deref.result.now is c.join_all.ensures.joins c.keeps_lists-2.ensures c.sort_out.new.self.living.items stays c.clean.new.self.splitter are calm cleaning ok c.clean.new.sections c.clean.new.tables c.sort_out.new.self.dead.items out c.requires.presence c.clean.ensures.presence x
 
 pub returns-else-must_clean-clause-state : goal.returns-else-must_clean-clause-state
 returns-else-must_clean-clause-state c =
@@ -205,8 +203,8 @@ returns-else-must_clean-clause-state c =
     let out = rw c.sections.ensures at c.sort_out.ensures.dead in
     let stays = rw c.sections.ensures at c.sort_out.ensures.living in
     let calm : must_wait (grid_of c.args.sections.now c.args.tables.now) c.args.id ≡ false = sym (facts.wait_is c.args.sections.now c.args.tables.now c.args.id c.requires.rules c.requires.ticks c.keeps_lists.ensures c.join_all.new.tables c.deref.result.now is c.join_all.ensures.joins c.keeps_lists-2.ensures) ∙ sym c.is_waiting.ensures ∙ c.if-is_waiting.false in
-    let lengths = facts.lengths c.args.sections.now c.args.tables.now c.args.id c.requires.rules c.requires.ticks c.keeps_lists.ensures c.join_all.new.tables c.deref.result.now is c.join_all.ensures.joins c.keeps_lists-2.ensures c.sort_out.new.dead.items out c.sort_out.new.living.items stays in
-    let test = facts.clean_test c.args.sections.now c.args.tables.now c.args.id c.requires.rules c.requires.ticks c.keeps_lists.ensures c.join_all.new.tables c.deref.result.now is c.join_all.ensures.joins c.keeps_lists-2.ensures c.len.result (c.len-2.result + c.len-3.result) c.len-4.result (omega (arith, ap length c.deref.ensures.value)) (omega (arith, lengths)) (omega (arith, ap length out)) in
+    let lengths = facts.lengths c.args.sections.now c.args.tables.now c.args.id c.requires.rules c.requires.ticks c.keeps_lists.ensures c.join_all.new.tables c.deref.result.now is c.join_all.ensures.joins c.keeps_lists-2.ensures c.sort_out.new.self.dead.items out c.sort_out.new.self.living.items stays in
+    let test = facts.clean_test c.args.sections.now c.args.tables.now c.args.id c.requires.rules c.requires.ticks c.keeps_lists.ensures c.join_all.new.tables c.deref.result.now is c.join_all.ensures.joins c.keeps_lists-2.ensures c.len-2.result (c.len.result + c.len-dead.result) c.len-dead.result (omega (arith, ap length c.deref.ensures.value)) (omega (arith, lengths)) (omega (arith, ap length out)) in
     let answer = rw c.requires.grid at c.must_clean.ensures in
     let cleaning : cleans (grid_of c.args.sections.now c.args.tables.now) c.args.id ≡ false = sym test ∙ sym answer ∙ c.if-must_clean.false in
     facts.rested_state c.args.sections.now c.args.tables.now c.args.id c.requires.rules c.requires.ticks c.keeps_lists.ensures c.join_all.new.tables c.deref.result.now is c.join_all.ensures.joins c.keeps_lists-2.ensures calm cleaning c.set_state-else-must_clean.new.self c.set_state-else-must_clean.ensures
@@ -217,8 +215,8 @@ returns-else-must_clean-clause-change c =
     let out = rw c.sections.ensures at c.sort_out.ensures.dead in
     let stays = rw c.sections.ensures at c.sort_out.ensures.living in
     let calm : must_wait (grid_of c.args.sections.now c.args.tables.now) c.args.id ≡ false = sym (facts.wait_is c.args.sections.now c.args.tables.now c.args.id c.requires.rules c.requires.ticks c.keeps_lists.ensures c.join_all.new.tables c.deref.result.now is c.join_all.ensures.joins c.keeps_lists-2.ensures) ∙ sym c.is_waiting.ensures ∙ c.if-is_waiting.false in
-    let lengths = facts.lengths c.args.sections.now c.args.tables.now c.args.id c.requires.rules c.requires.ticks c.keeps_lists.ensures c.join_all.new.tables c.deref.result.now is c.join_all.ensures.joins c.keeps_lists-2.ensures c.sort_out.new.dead.items out c.sort_out.new.living.items stays in
-    let test = facts.clean_test c.args.sections.now c.args.tables.now c.args.id c.requires.rules c.requires.ticks c.keeps_lists.ensures c.join_all.new.tables c.deref.result.now is c.join_all.ensures.joins c.keeps_lists-2.ensures c.len.result (c.len-2.result + c.len-3.result) c.len-4.result (omega (arith, ap length c.deref.ensures.value)) (omega (arith, lengths)) (omega (arith, ap length out)) in
+    let lengths = facts.lengths c.args.sections.now c.args.tables.now c.args.id c.requires.rules c.requires.ticks c.keeps_lists.ensures c.join_all.new.tables c.deref.result.now is c.join_all.ensures.joins c.keeps_lists-2.ensures c.sort_out.new.self.dead.items out c.sort_out.new.self.living.items stays in
+    let test = facts.clean_test c.args.sections.now c.args.tables.now c.args.id c.requires.rules c.requires.ticks c.keeps_lists.ensures c.join_all.new.tables c.deref.result.now is c.join_all.ensures.joins c.keeps_lists-2.ensures c.len-2.result (c.len.result + c.len-dead.result) c.len-dead.result (omega (arith, ap length c.deref.ensures.value)) (omega (arith, lengths)) (omega (arith, ap length out)) in
     let answer = rw c.requires.grid at c.must_clean.ensures in
     let cleaning : cleans (grid_of c.args.sections.now c.args.tables.now) c.args.id ≡ false = sym test ∙ sym answer ∙ c.if-must_clean.false in
     c.join_all.ensures.change ∙ facts.rested_change c.args.sections.now c.args.tables.now c.args.id c.requires.rules c.requires.ticks c.keeps_lists.ensures c.join_all.new.tables c.deref.result.now is c.join_all.ensures.joins c.keeps_lists-2.ensures calm cleaning
