@@ -22,6 +22,7 @@ use Rattle.fol_model.specs.declared.events.Accept.TheVariants as accept
 use Rattle.fol_model.specs.World.{World}
 use Rattle.fol_model.specs.End.{put_back, accepted}
 use Rattle.fol_laws.specs.Contents.{SameOn}
+use Rattle.fol_laws.proofs.OwnedRuns.{same_self}
 use Rattle.fol_laws.proofs.SoundRuns.{Ending, accepted_ending}
 use Rattle.fol_laws.proofs.TickingKept.{Kept}
 use Rattle.fol_laws.proofs.WishLimits.{WishOk, comes_back}
@@ -57,9 +58,6 @@ put_back_is w (action.Post c d inner) b = refl
 put_back_is w (action.Send id to) b = refl
 put_back_is w (action.Every p l inner) b = refl
 
-same_flat : (rec : Recorded) (f : Flat) → SameOn rec f f
-same_flat rec f = record { blocks = λ b h. refl; standing = λ id. refl }
-
 -- it stands in a chunk of rec
 pub back_outside : (rec : Recorded) (f : Flat) (a : Action) (b : Option BlockPos) → comes_back rec a b ≡ true → ((e : _) → a ≡ action.Arrive e → f.standing e.id ≡ None) → SameOn (λ c. not (rec c)) f (returned f a b)
 back_outside rec f (action.Arrive e) (Some b) ok free = record {
@@ -69,14 +67,14 @@ back_outside rec f (action.Arrive e) (Some b) ok free = record {
     | inr k ↦ rw k refl
   ];
 }
-back_outside rec f (action.Arrive e) None ok free = same_flat _ f
-back_outside rec f (action.Set at id) b ok free = same_flat _ f
-back_outside rec f (action.Copy at to) b ok free = same_flat _ f
-back_outside rec f (action.Load c) b ok free = same_flat _ f
-back_outside rec f (action.Unload c) b ok free = same_flat _ f
-back_outside rec f (action.Post c d inner) b ok free = same_flat _ f
-back_outside rec f (action.Send id to) b ok free = same_flat _ f
-back_outside rec f (action.Every p l inner) b ok free = same_flat _ f
+back_outside rec f (action.Arrive e) None ok free = same_self _ f
+back_outside rec f (action.Set at id) b ok free = same_self _ f
+back_outside rec f (action.Copy at to) b ok free = same_self _ f
+back_outside rec f (action.Load c) b ok free = same_self _ f
+back_outside rec f (action.Unload c) b ok free = same_self _ f
+back_outside rec f (action.Post c d inner) b ok free = same_self _ f
+back_outside rec f (action.Send id to) b ok free = same_self _ f
+back_outside rec f (action.Every p l inner) b ok free = same_self _ f
 
 pub back_within : (rec : Recorded) (f : Flat) (a : Action) (b : Option BlockPos) → comes_back rec a b ≡ true → returned (within rec f) a b ≡ within rec (returned f a b)
 back_within rec f (action.Arrive e) (Some b) ok = flat_ext _ _ (λ p. refl) (λ id. elim (cases_Bool (nat_eq e.id id)) [ inl k ↦ rw (k, ok) refl | inr k ↦ rw k refl ])

@@ -31,7 +31,7 @@ use Rattle.fol_store.specs.Bag.{Bag, new_bag, no_bag}
 use Rattle.fol_core.specs.Hands.{rests}
 use Rattle.fol_core.specs.Bags.{CanJoin, IsBagOf, joined_bags}
 use Rattle.fol_core.proofs.JoinedBags.{Apart, among, can_join, in_filter, joined_into, sorted_apart}
-use Rattle.fol_core.proofs.UnsettledBags.{IsBagBut}
+use Rattle.fol_core.proofs.UnsettledBags.{IsBagBut, not_dead}
 
 pub filter_none : {X : Type 0} (p : X → Bool) (xs : List X) → ((x : X) → p x ≡ false) → filter p xs ≡ []
 filter_none p [] h = refl
@@ -40,12 +40,6 @@ filter_none p (x ∷ xs) h = let e = h x in rw e (filter_none p xs h)
 pub same_filter : {X : Type 0} (p q : X → Bool) (xs : List X) → ((x : X) → p x ≡ q x) → filter p xs ≡ filter q xs
 same_filter p q xs h = ap (λ r. filter r xs) (fun_ext h)
 
-lives : (s : State) → s ≢ Dead → not (is_dead s) ≡ true
-lives Transient d = refl
-lives Ready d = refl
-lives Ticking d = refl
-lives Dead d = absurd (d refl)
-
 not_ticking : (s : State) → s ≢ Ticking → is_ticking s ≡ false
 not_ticking Transient d = refl
 not_ticking Ready d = refl
@@ -53,7 +47,7 @@ not_ticking Ticking d = absurd (d refl)
 not_ticking Dead d = refl
 
 resting : (s : State) → s ≢ Dead → s ≢ Ticking → (not (is_dead s) && not (is_ticking s)) ≡ true
-resting s d n = and_from (not (is_dead s)) (not (is_ticking s)) (lives s d) (rw (not_ticking s n) refl)
+resting s d n = and_from (not (is_dead s)) (not (is_ticking s)) (not_dead s d) (rw (not_ticking s n) refl)
 
 dead_ticks : Dead ≢ Ticking
 dead_ticks e = absurd (cc)
@@ -167,7 +161,7 @@ module _ (g : GridState) (c : ChunkPos) (rules : Rules g) (ok : IsGrid g.grid) (
 
   module _ (owed tick : ℕ → ℕ) (recorded : ℕ → Recorded) (f : ℕ → Bag) (bags : (r : ℕ) → IsBagOf g tick owed recorded r (f r)) where
     pub calm_rests : (r : ℕ) → is_near_calm g c r ≡ true → rests g r ≡ true
-    calm_rests r k = let p = and_parts (is_near g c r) (not (is_ticking (g.state r))) k in and_from (not (is_dead (g.state r))) (not (is_ticking (g.state r))) (lives (g.state r) (near_lives g c rules ok limits r p.0)) p.1
+    calm_rests r k = let p = and_parts (is_near g c r) (not (is_ticking (g.state r))) k in and_from (not (is_dead (g.state r))) (not (is_ticking (g.state r))) (not_dead (g.state r) (near_lives g c rules ok limits r p.0)) p.1
 
     pub calm_here : (r : ℕ) → is_near_calm g c r ≡ true → (f r).here ≡ true
     calm_here r k = (bags r).here ∙ calm_rests r k

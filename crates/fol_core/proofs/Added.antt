@@ -1,8 +1,7 @@
 -- A hold more: bags, counters and stack after it.
 use Rattle.std.proofs.Common.{◌≡◌, ◌≢◌, ℕ, ◌+◌, ◌≤◌, ◌<◌, refl, sym, ◌∙◌, ap, arith, true, false, inl, inr, ◌⊎◌, List, [], ◌∷◌, ◌++◌, length, ◌&&◌, not}
 use Rattle.std.specs.Prelude.{nat_eq, nat_lt}
-use Rattle.std.proofs.lemmas.Bool.{cases_Bool, cases_eq, eqb-true, eq-eqb, ne_eqb, and_parts, and_from, and_right, or_left, or_right, true≢false}
-use Rattle.std.proofs.lemmas.List.Folds.{list_any-append}
+use Rattle.std.proofs.lemmas.Bool.{cases_Bool, cases_eq, eqb-true, eq-eqb, ne_eqb, and_parts, and_from, and_right, or_right, true≢false}
 use Rattle.fol_model.specs.declared.places.ChunkPos.{ChunkPos}
 use Rattle.fol_model.specs.declared.regions.State.{State}
 use Rattle.fol_model.specs.declared.regions.State.TheVariants.{Transient, Ready, Ticking, Dead}
@@ -26,16 +25,13 @@ use Rattle.fol_store.specs.Bag.{Bag, new_bag}
 use Rattle.fol_core.specs.Bags.{CanJoin, IsBagOf, Follow, joined_bags, opened_bags, unsettled_at}
 use Rattle.fol_core.specs.Agenda.{Covers, owes}
 use Rattle.fol_core.specs.Follows.{changed_bags, target_in}
-use Rattle.fol_core.proofs.JoinedBags.{among, joined_into}
+use Rattle.fol_core.proofs.JoinedBags.{among, behind, in_front, joined_into}
 use Rattle.fol_core.proofs.AddBags as parts
 use Rattle.fol_core.proofs.AddBags.{filter_none, same_filter}
 use Rattle.fol_core.proofs.UnsettledBags.{IsBagBut, bag_but}
 
-among_more : (r : ℕ) (xs ys : List ℕ) → among r xs ≡ true → among r (xs ++ ys) ≡ true
-among_more r xs ys h = list_any-append (nat_eq r) xs ys ∙ or_left (among r xs) (among r ys) h
-
 among_last : (r t : ℕ) (xs : List ℕ) → r ≡ t → among r (xs ++ t ∷ []) ≡ true
-among_last r t xs e = list_any-append (nat_eq r) xs (t ∷ []) ∙ or_right (among r xs) (among r (t ∷ [])) (let z : nat_eq r t ≡ true = eq-eqb r t e in rw z refl)
+among_last r t xs e = behind r xs (t ∷ []) (let z : nat_eq r t ≡ true = eq-eqb r t e in rw z refl)
 
 owes_parts : (g : GridState) (f : ℕ → Bag) (r : ℕ) → owes g f r ≡ true → (is_ready (g.state r) ≡ true) × (nat_lt 0 (f r).owed ≡ true)
 owes_parts g f r h = and_parts (is_ready (g.state r)) (nat_lt 0 (f r).owed) h
@@ -80,7 +76,7 @@ module _ (g : GridState) (c : ChunkPos) (rules : Rules g) (ok : IsGrid g.grid) (
       follow = tt;
       few = omega arith;
       joins = tt;
-      covers = λ xs h r o. among_more r xs [] (h r o);
+      covers = λ xs h r o. in_front r xs [] (h r o);
       next = omega arith;
     }
 
@@ -106,7 +102,7 @@ module _ (g : GridState) (c : ChunkPos) (rules : Rules g) (ok : IsGrid g.grid) (
       follow = tt;
       few = omega arith;
       joins = tt;
-      covers = λ xs h r o. among_more r xs [] (h r o);
+      covers = λ xs h r o. in_front r xs [] (h r o);
       next = omega arith;
     }
 
@@ -157,14 +153,14 @@ module _ (g : GridState) (c : ChunkPos) (rules : Rules g) (ok : IsGrid g.grid) (
             few = omega arith;
             joins = parts.drawn_join g c rules ok limits owed tick recorded f bags k;
             covers = λ xs cov r o. elim (cases_eq r t) [
-              | inr d ↦ among_more r xs (target_in (into t drawn)) (cov r (other_owes h ch r d o))
+              | inr d ↦ in_front r xs (target_in (into t drawn)) (cov r (other_owes h ch r d o))
               | inl e ↦ elim (joins_or drawn) [
                 | inr m ↦ rw e (m xs)
                 | inl none ↦ let p = owes_parts ext h r o in
                     let ready : is_ready (target_state g c) ≡ true = sym (ap is_ready (ap ext.state e ∙ state_target g c rules ok limits)) ∙ p.0 in
                     let mine : (h t).owed ≡ (f t).owed = elim j.some [ inl x ↦ x | inr x ↦ absurd (true≢false (sym x.1 ∙ ap (among x.0) none)) ] in
                     let positive : nat_lt 0 (f t).owed ≡ true = sym (ap (nat_lt 0) mine) ∙ ap (λ q. nat_lt 0 (h q).owed) (sym e) ∙ p.1 in
-                    among_more r xs (target_in (into t drawn)) (cov r (rw e (owes_from g f t (was_ready k ready) positive)))
+                    in_front r xs (target_in (into t drawn)) (cov r (rw e (owes_from g f t (was_ready k ready) positive)))
               ]
             ];
             next = rw n (omega arith);
@@ -187,7 +183,7 @@ module _ (g : GridState) (c : ChunkPos) (rules : Rules g) (ok : IsGrid g.grid) (
             few = omega arith;
             joins = rw empty tt;
             covers = λ xs cov r o. elim (cases_eq r t) [
-              | inr d ↦ among_more r xs (target_in (into t drawn)) (cov r (other_owes h ch r d (rw changed at o)))
+              | inr d ↦ in_front r xs (target_in (into t drawn)) (cov r (other_owes h ch r d (rw changed at o)))
               | inl x ↦ let p = owes_parts ext h r (rw changed at o) in
                   let z : (h r).owed ≡ 0 = ap (λ q. (h q).owed) x ∙ ap (λ (b : Bag). b.owed) (at_here f t (new_bag 0 0)) in
                   absurd (true≢false (sym p.1 ∙ ap (nat_lt 0) z))

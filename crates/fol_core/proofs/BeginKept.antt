@@ -194,7 +194,7 @@ owing_now g f id e l = elim (cases_Bool (nat_lt 0 id && nat_lt id g.next)) [
 ]
 
 -- the room that was reserved for a region
-pub room_for : (room : Option Room) (t : Tables) (v : Vec Entry) (id : ℕ) → HasRoom room t v → room_of room ≡ id → 0 < id
+pub room_for : (room : Option Room) (t : Tables) (v : Vec Entry) (id : ℕ) → HasRoom room t v → room_of room ≡ Some id
     → (t.course.size < 2 ^ 50) × (vec_len v + 2 ≤ vec_capacity v) × (owes (grid_state t.regions) (bag_of t.store) id ≡ true → (bag_of t.store id).whole ≡ true)
-room_for None t v id r e l = absurd (omega arith)
-room_for (Some room) t v id r e l = (r.size, r.history, (let P : ℕ → Type 0 = λ n. owes (grid_state t.regions) (bag_of t.store) n ≡ true → (bag_of t.store n).whole ≡ true in subst P e r.whole))
+room_for None t v id r e = absurd (cc)
+room_for (Some room) t v id r e = (r.size, r.history, (let P : ℕ → Type 0 = λ n. owes (grid_state t.regions) (bag_of t.store) n ≡ true → (bag_of t.store n).whole ≡ true in subst P (same_Some room.id id e) r.whole))

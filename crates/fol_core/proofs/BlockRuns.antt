@@ -1,6 +1,6 @@
 -- Every block with a number is within the limits, after every run.
 use Rattle.std.proofs.Common.{◌≡◌, ℕ, ◌<◌, refl, sym, ◌∙◌, ap, arith, true, inl, inr, List, [], ◌∷◌, ◌&&◌}
-use Rattle.std.specs.Prelude.{nat_eq, nat_le, Option, Some, None}
+use Rattle.std.specs.Prelude.{nat_eq, nat_le}
 use Rattle.std.specs.List.{AllByRecursion, list_all}
 use Rattle.std.proofs.lemmas.Bool.{cases_Bool, and_parts, and_from}
 use Rattle.fol_model.specs.declared.places.ChunkPos.{ChunkPos}
@@ -8,7 +8,6 @@ use Rattle.fol_model.specs.declared.places.BlockPos.{BlockPos}
 use Rattle.fol_model.specs.declared.openings.BlockAt.{BlockAt}
 use Rattle.fol_model.specs.declared.tasks.Ran.{Ran}
 use Rattle.fol_model.specs.declared.tasks.Task.{Task}
-use Rattle.fol_model.specs.declared.tasks.Wish.{Wish}
 use Rattle.fol_model.specs.declared.actions.Action.{Action}
 use Rattle.fol_model.specs.declared.actions.Action.TheVariants as action
 use Rattle.fol_model.specs.declared.events.Entry.{Entry}
@@ -24,11 +23,12 @@ use Rattle.fol_model.specs.FlatTick.{acted, flat_tick}
 use Rattle.fol_model.specs.World.{World, block_in, due}
 use Rattle.fol_model.specs.Holds.{loaded, unloaded, posted}
 use Rattle.fol_model.specs.QueuedTask.{begun}
-use Rattle.fol_model.specs.End.{accepted, all_accepted, dropped, ended, put_back, released, run_down, ticked}
+use Rattle.fol_model.specs.End.{dropped, ended, released, run_down, ticked}
 use Rattle.fol_model.specs.Run.{RunFrom, after, after_all}
 use Rattle.fol_laws.proofs.SamePlaces.{same_block-true}
 use Rattle.fol_laws.proofs.SoundState.{SoundWorld}
 use Rattle.fol_laws.proofs.SoundRuns.{after_keeps}
+use Rattle.fol_laws.proofs.UnseenTicks.{wishes_blocks}
 use Rattle.fol_laws.proofs.WishLimits.{TaskOk, deed_action, due_ok}
 
 -- each block with a number is within the limits
@@ -82,35 +82,13 @@ down_within : (w : World) (r : ℕ) (ran : List Ran) → SoundWorld w → Blocks
 unfolding dropped
 down_within w r ran s h = ticked_within w r ran s h
 
-blocks_back : (w : World) (a : Action) (b : Option BlockPos) → (put_back w a b).flat.blocks ≡ w.flat.blocks
-blocks_back w (action.Set at id) b = refl
-blocks_back w (action.Copy at to) b = refl
-blocks_back w (action.Load c) b = refl
-blocks_back w (action.Unload c) b = refl
-blocks_back w (action.Post c d inner) b = refl
-blocks_back w (action.Send id to) b = refl
-blocks_back w (action.Arrive e) None = refl
-blocks_back w (action.Arrive e) (Some b) = refl
-blocks_back w (action.Every p l inner) b = refl
-
 blocks_posted : (w : World) (c : ChunkPos) (d : ℕ) (a : Action) → (posted w c d a).flat.blocks ≡ w.flat.blocks
 unfolding posted
 blocks_posted w c d a = elim (cases_Bool (is_full w.grid c)) [ inl f ↦ rw f refl | inr f ↦ rw f refl ]
 
-blocks_accepted : (w : World) (x : Wish) → (accepted w x).flat.blocks ≡ w.flat.blocks
-unfolding accepted
-blocks_accepted w x = elim (cases_Bool (is_full w.grid x.chunk)) [
-  | inl f ↦ rw f (blocks_back w x.action x.back)
-  | inr f ↦ rw f (blocks_posted w x.chunk x.delay x.action)
-]
-
-blocks_all : (w : World) (xs : List Wish) → (all_accepted w xs).flat.blocks ≡ w.flat.blocks
-blocks_all w [] = refl
-blocks_all w (x ∷ xs) = blocks_all (accepted w x) xs ∙ blocks_accepted w x
-
 blocks_ended : (w : World) (r : ℕ) (ran : List Ran) → (ended w r ran).flat.blocks ≡ (run_down w r ran).flat.blocks
 unfolding ended released
-blocks_ended w r ran = blocks_all (run_down w r ran) (ticked w r ran).wishes
+blocks_ended w r ran = wishes_blocks (run_down w r ran) (ticked w r ran).wishes
 
 blocks_loaded : (w : World) (c : ChunkPos) → (loaded w c).flat.blocks ≡ w.flat.blocks
 unfolding loaded

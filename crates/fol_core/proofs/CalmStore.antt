@@ -24,16 +24,11 @@ use Rattle.fol_core.proofs.Flats.{outside_none}
 use Rattle.fol_core.proofs.HandSteps.{ticker_off}
 use Rattle.fol_core.proofs.KeyedRows.{map_passing, none_passes, passing}
 use Rattle.fol_core.proofs.LeastFound.{holds_of, kept_number}
+use Rattle.fol_core.proofs.UnsettledBags.{not_dead}
 
 -- the regions that are not Dead
 abbrev pub live_in : GridState → List ℕ
 live_in g = filter (λ r. not (is_dead (g.state r))) (numbers_below g.next)
-
-not_dead : (s : State) → s ≢ Dead → not (is_dead s) ≡ true
-not_dead Transient h = refl
-not_dead Ready h = refl
-not_dead Ticking h = refl
-not_dead Dead h = absurd (h refl)
 
 pub dead_not : (s : State) → not (is_dead s) ≡ true → s ≢ Dead
 dead_not s h e = let k : false ≡ true = rw e at h in absurd (cc)

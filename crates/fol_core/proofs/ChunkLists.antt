@@ -1,11 +1,12 @@
 -- The loaded chunks of a region as a list.
-use Rattle.std.proofs.Common.{◌≡◌, ℕ, zero, suc, refl, sym, ◌∙◌, ap, arith, Bool, true, false, inl, inr, ◌&&◌, List, [], ◌∷◌, filter}
+use Rattle.std.proofs.Common.{◌≡◌, ℕ, zero, suc, refl, sym, ◌∙◌, ap, arith, Bool, true, inl, inr, ◌&&◌, List, [], ◌∷◌, filter}
 use Rattle.std.specs.Prelude.{All, IsTrue, nat_eq, nat_lt}
 use Rattle.std.specs.List.{list_any}
 use Rattle.std.specs.List.Sorted.{IsStrictlySortedBy}
 use Rattle.std.proofs.Math.Path.{fun_ext}
 use Rattle.std.proofs.lemmas.Bool.{cases_Bool, and_parts, or_left, or_right, eqb-true, ltb-true}
 use Rattle.std.proofs.lemmas.List.Kept.{IsStrictlySortedBy-filter}
+use Rattle.std.proofs.lemmas.Map.Views.{any-filter_same}
 use Rattle.fol_model.specs.declared.places.ChunkPos.{ChunkPos}
 use Rattle.fol_model.specs.Geometry.{is_chunk, same_chunk, section_of}
 use Rattle.fol_model.specs.Universe.{all_chunks}
@@ -26,14 +27,7 @@ kept_sorted p = IsStrictlySortedBy-filter chunk_cmp p all_chunks chunks_sorted
 
 -- it has just the chunks within the limits that pass
 listed : (p : ChunkPos → Bool) (xs : List ChunkPos) (c : ChunkPos) → is_recorded (filter p xs) c ≡ (p c && is_recorded xs c)
-listed p [] c = elim (cases_Bool (p c)) [ inl e ↦ rw e refl | inr e ↦ rw e refl ]
-listed p (x ∷ xs) c = let i = listed p xs c in elim (cases_Bool (same_chunk c x)) [
-  | inl e ↦ let same : c ≡ x = same_chunk-true c x e in elim (cases_Bool (p x)) [
-    | inl q ↦ let pc : p c ≡ true = ap p same ∙ q in rw (q, e, pc) refl
-    | inr q ↦ let pc : p c ≡ false = ap p same ∙ q in rw (q, e, pc) (rw pc at i)
-  ]
-  | inr e ↦ elim (cases_Bool (p x)) [ inl q ↦ rw (q, e) i | inr q ↦ rw (q, e) i ]
-]
+listed p xs c = any-filter_same (same_chunk c) p (p c) (λ k e. ap p (sym (same_chunk-true c k e))) xs
 
 in_all : (c : ChunkPos) → is_chunk c ≡ true → is_recorded all_chunks c ≡ true
 in_all c l = some_chunk-is (same_chunk c) c l (same_chunk-self c)

@@ -45,7 +45,7 @@ unfolding queued_in
 same_queued g r None = refl
 same_queued g r (Some j) = refl
 
-module _ (o : Opening) (ok : IsGrid o.grid) (h : List Entry) (run : Run o h) (room : ℕ) (tick : Tick) (out : IsOut (record { opening = o; history = h; room = room }) tick) where
+module _ (o : Opening) (ok : IsGrid o.grid) (h : List Entry) (run : Run o h) (room : Option ℕ) (tick : Tick) (out : IsOut (record { opening = o; history = h; room = room }) tick) where
   abbrev r : ℕ
   r = tick.region
 

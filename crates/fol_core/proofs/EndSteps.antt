@@ -94,7 +94,7 @@ queued_was g r (Some i) j h = elim (cases_Bool (is_queued_in g r i)) [
   | inr k ↦ let e : None ≡ Some j = rw k at h in absurd (cc)
 ]
 
-module _ (t : Tables) (tick : Tick) (o : Opening) (h : List Entry) (m : ℕ) (s : Stands o h t) (out : IsOut (record { opening = o; history = h; room = m }) tick) where
+module _ (t : Tables) (tick : Tick) (o : Opening) (h : List Entry) (m : Option ℕ) (s : Stands o h t) (out : IsOut (record { opening = o; history = h; room = m }) tick) where
   abbrev w : World
   w = world o h
 

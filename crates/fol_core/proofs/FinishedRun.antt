@@ -1,17 +1,15 @@
 -- A tick that was given out and is finished, at its End: what it ran on, what it did, and what the End makes of it.
-use Rattle.std.proofs.Common.{◌≡◌, ℕ, ◌+◌, ◌-◌, ◌≤◌, refl, sym, ◌∙◌, ap, arith, Bool, true, false, not, ◌&&◌, inl, inr, List, [], ◌∷◌, ◌++◌}
+use Rattle.std.proofs.Common.{◌≡◌, ℕ, ◌+◌, ◌-◌, ◌≤◌, refl, sym, ◌∙◌, ap, arith, true, false, not, ◌&&◌, inl, inr, List, [], ◌∷◌, ◌++◌}
 use Rattle.std.specs.Prelude.{nat_eq, filter, Option, Some, None}
-use Rattle.std.proofs.Math.Path.{fun_ext}
 use Rattle.std.proofs.lemmas.Bool.{cases_Bool, and_parts, eq-eqb, ltb-true}
 use Rattle.std.proofs.lemmas.List.{append-nil}
-use Rattle.std.proofs.lemmas.Map.Views.{any-filter_same}
 use Rattle.fol_model.specs.declared.places.ChunkPos.{ChunkPos}
 use Rattle.fol_model.specs.declared.regions.State.TheVariants.{Ticking}
 use Rattle.fol_model.specs.declared.openings.Opening.{Opening}
 use Rattle.fol_model.specs.declared.tasks.Outcome.{Outcome}
 use Rattle.fol_model.specs.declared.events.Event.TheVariants.{Begin}
 use Rattle.fol_model.specs.declared.events.Entry.{Entry}
-use Rattle.fol_model.specs.Geometry.{chunk_of, is_chunk, same_chunk, section_of}
+use Rattle.fol_model.specs.Geometry.{chunk_of, is_chunk, section_of}
 use Rattle.fol_model.specs.GridNumbers.{IsGrid}
 use Rattle.fol_model.specs.GridState.{is_loaded}
 use Rattle.fol_model.specs.Universe.{all_chunks}
@@ -25,12 +23,10 @@ use Rattle.fol_model.specs.End.{dropped, run_down, ticked}
 use Rattle.fol_model.specs.Run.{Allowed, RunFrom, after, after_all}
 use Rattle.fol_laws.specs.Contents.{SameOn, seen}
 use Rattle.fol_laws.specs.Ownership.{Untouched}
-use Rattle.fol_laws.proofs.AllSections.{some_chunk-is}
 use Rattle.fol_laws.specs.OnePlace.{one}
 use Rattle.fol_laws.proofs.EntityCounts.{arrivals}
 use Rattle.fol_laws.proofs.EntityTotals.{due_total}
 use Rattle.fol_laws.proofs.FunctionsChanged.{at_here}
-use Rattle.fol_laws.proofs.SamePlaces.{same_chunk-self, same_chunk-true}
 use Rattle.fol_laws.proofs.UnseenTicks.{acted_outside, ticked_unseen}
 use Rattle.fol_laws.proofs.OwnedRuns.{began_ticks, owned, total_most}
 use Rattle.fol_laws.proofs.WholeRuns.{Good, good_after, good_run}
@@ -41,6 +37,7 @@ use Rattle.fol_end_laws.proofs.FinishedTicks.{due_on_recorded, finished_ends}
 use Rattle.fol_end_laws.proofs.KeptQueues.{queue_kept}
 use Rattle.fol_chunks.specs.Contents.{is_recorded, option_filter, within}
 use Rattle.fol_core.proofs.CalmRuns.{calm_after, calm_run}
+use Rattle.fol_core.proofs.ChunkLists.{kept_listed}
 use Rattle.fol_core.proofs.Flats.{flat_ext}
 use Rattle.fol_core.proofs.OwedKept.{owes_along}
 
@@ -56,14 +53,6 @@ before_entry w (x ∷ es) rest run = (run.0, run.1, before_entry (after w x.even
 pub world_at : (w : World) (es : List Entry) (e : Entry) (rest : List Entry) → after_all w (es ++ e ∷ rest) ≡ after_all (after (after_all w es) e.event) rest
 world_at w [] e rest = refl
 world_at w (x ∷ es) e rest = world_at (after w x.event) es e rest
-
--- ---- chunks in a list of those that pass
-is_listed : (p : ChunkPos → Bool) → ((c : ChunkPos) → p c ≡ true → is_chunk c ≡ true) → is_recorded (filter p all_chunks) ≡ p
-is_listed p limits = fun_ext (λ c.
-    any-filter_same (same_chunk c) p (p c) (λ k e. ap p (sym (same_chunk-true c k e))) all_chunks ∙ (elim (cases_Bool (p c)) [
-      | inl h ↦ let l = some_chunk-is (same_chunk c) c (limits c h) (same_chunk-self c) in rw (h, l) refl
-      | inr h ↦ rw h refl
-    ]))
 
 -- ---- contents within some chunks
 seen_is : (rec : Recorded) (o : Option Standing) → seen rec o ≡ option_filter (λ (s : Standing). rec (chunk_of s.at)) o
@@ -141,7 +130,7 @@ module _ (o : Opening) (ok : IsGrid o.grid) (es mid : List Entry) (by worker r :
   within_limits c h = good_u.sound.rules.chunk_limits c (ltb-true 0 (u.grid.holds c) (and_parts (is_loaded u.grid c) (nat_eq (u.grid.owner (section_of u.grid.grid c)) r) h).0)
 
   pub listed : (chunks : List ChunkPos) → chunks ≡ filter (is_chunk_of u.grid r) all_chunks → is_recorded chunks ≡ w.recorded r
-  listed chunks e = ap is_recorded e ∙ is_listed (is_chunk_of u.grid r) within_limits ∙ sym recorded_now
+  listed chunks e = ap is_recorded e ∙ kept_listed (is_chunk_of u.grid r) within_limits ∙ sym recorded_now
 
   pub due_now : due w r ≡ due v r
   due_now = untouched.due

@@ -1,12 +1,13 @@
 -- What becomes of the bags when regions join one region.
-use Rattle.std.proofs.Common.{◌≡◌, ◌≢◌, ℕ, ◌≤◌, ◌<◌, refl, sym, ◌∙◌, ap, arith, Bool, true, false, inl, inr, ◌⊎◌, List, [], ◌∷◌, ◌&&◌, max, filter}
+use Rattle.std.proofs.Common.{◌≡◌, ◌≢◌, ℕ, ◌≤◌, ◌<◌, refl, sym, ◌∙◌, ap, arith, Bool, true, false, inl, inr, ◌⊎◌, List, [], ◌∷◌, ◌++◌, ◌&&◌, max, filter}
 use Rattle.std.specs.Prelude.{nat_eq}
 use Rattle.std.specs.List.{AllByRecursion, list_any}
 use Rattle.std.specs.List.Sorted.{IsStrictlySortedBy}
 use Rattle.std.specs.Ordering.{nat_cmp}
 use Rattle.std.specs.Cmp.{ranks}
 use Rattle.std.specs.declared.cmp.Ordering.TheVariants.{Less}
-use Rattle.std.proofs.lemmas.Bool.{cases_Bool, cases_lt, eqb-true, eqb-false, eq-eqb, ne_eqb, or_parts, or_cases, or_right, true≢false}
+use Rattle.std.proofs.lemmas.Bool.{cases_Bool, cases_lt, eqb-true, eqb-false, eq-eqb, ne_eqb, or_left, or_parts, or_cases, or_right, true≢false}
+use Rattle.std.proofs.lemmas.List.Folds.{list_any-append}
 use Rattle.fol_model.specs.ActionStep.{at_id}
 use Rattle.fol_laws.proofs.FunctionsChanged.{at_here, at_other}
 use Rattle.fol_regions.specs.Changes.{into}
@@ -15,6 +16,12 @@ use Rattle.fol_core.specs.Bags.{CanJoin, joined_bag, joined_bags}
 
 abbrev pub among : ℕ → List ℕ → Bool
 among r us = list_any (nat_eq r) us
+
+pub in_front : (r : ℕ) (xs ys : List ℕ) → among r xs ≡ true → among r (xs ++ ys) ≡ true
+in_front r xs ys h = list_any-append (nat_eq r) xs ys ∙ or_left (among r xs) (among r ys) h
+
+pub behind : (r : ℕ) (xs ys : List ℕ) → among r ys ≡ true → among r (xs ++ ys) ≡ true
+behind r xs ys h = list_any-append (nat_eq r) xs ys ∙ or_right (among r xs) (among r ys) h
 
 module _ (t u : ℕ) (f : ℕ → Bag) where
   abbrev one : ℕ → Bag

@@ -35,7 +35,7 @@ use Rattle.fol_core.proofs.CalmStore.{dead_not, in_live, live_in}
 use Rattle.fol_core.proofs.KeyedRows.{none_passes, passing}
 use Rattle.fol_core.proofs.LeastFound.{first_below, first_found, first_none, first_some, holds_of}
 use Rattle.fol_core.proofs.Longer.{good_of, stands_more}
-use Rattle.fol_core.proofs.UnsettledBags.{have_bags}
+use Rattle.fol_core.proofs.UnsettledBags.{have_bags, ready_rests}
 
 -- ---- the bags of regions that all owe n
 owing_there : (n : ℕ) (xs : List ℕ) (f : ℕ → Bag) (r : ℕ) → owing_bags n xs f r ≡ (if list_any (nat_eq r) xs then record (f r) { owed = n } else f r)
@@ -73,12 +73,6 @@ rest_lives s h = dead_not s (and_parts (not (is_dead s)) (not (is_ticking s)) h)
 ready_lives : (s : State) → is_ready s ≡ true → s ≢ Dead
 ready_lives s h e = let k : false ≡ true = rw e at h in absurd (cc)
 
-ready_rest : (s : State) → is_ready s ≡ true → (not (is_dead s) && not (is_ticking s)) ≡ true
-ready_rest Ready h = refl
-ready_rest Transient h = absurd (true≢false (sym h))
-ready_rest Ticking h = absurd (true≢false (sym h))
-ready_rest Dead h = absurd (true≢false (sym h))
-
 module _ (g : GridState) (rules : Rules g) (calm : (r : ℕ) → g.state r ≢ Ticking) where
   all_ready : (r : ℕ) → g.state r ≢ Dead → is_ready (g.state r) ≡ true
   all_ready r d = ready_or (g.state r) d (calm r) (none_waits g rules calm r)
@@ -105,7 +99,7 @@ module _ (o : Opening) (h : List Entry) (t : Tables) (s : Stands o h t) where
   -- each region that is not Dead has its bag, where no phase is open
   pub all_here : t.course.in_phase ≡ false → (live : List ℕ) → live ≡ live_in (grid_state t.regions) → AllByRecursion (λ r. (bag_of t.store r).here ≡ true) live
   all_here p live l = rw (l, s.fits.regions) (passing (λ r. not (is_dead ((world o h).grid.state r))) (λ r. (bag_of t.store r).here ≡ true)
-      (λ r d. (s.fits.stored.bags r).here ∙ ready_rest ((world o h).grid.state r) (all_ready (world o h).grid good.sound.rules
+      (λ r d. (s.fits.stored.bags r).here ∙ ready_rests ((world o h).grid.state r) (all_ready (world o h).grid good.sound.rules
       (calm_run o h s.grid s.run (sym s.fits.course.in_phase ∙ p)) r (dead_not ((world o h).grid.state r) d))) _)
 
   pub opened_kept : (t.course.finished || t.course.stopped) ≡ false → t.course.in_phase ≡ false → (by n : ℕ) → 1 ≤ n → (world o h).sum + n ≤ 10000 → t.course.size < 2 ^ 50
@@ -148,7 +142,7 @@ module _ (o : Opening) (h : List Entry) (t : Tables) (s : Stands o h t) where
   -- ---- the regions for which a phase can't be closed
   busy_same : (r : ℕ) → is_busy_in (grid_state t.regions) (bag_of t.store) r ≡ is_busy (world o h) r
   busy_same r = rw s.fits.regions (elim (cases_Bool (is_ready ((world o h).grid.state r))) [
-    | inl e ↦ let k = (s.fits.stored.bags r).owes (ready_rest ((world o h).grid.state r) e) in rw (e, k) refl
+    | inl e ↦ let k = (s.fits.stored.bags r).owes (ready_rests ((world o h).grid.state r) e) in rw (e, k) refl
     | inr e ↦ rw e refl
   ])
 

@@ -39,10 +39,7 @@ use Rattle.fol_core.proofs.Held.{held_bags, held_flat, held_next, held_posted, h
 use Rattle.fol_core.proofs.LoadKept.{SameMarks, agenda_held, course_more, grid_held, jobs_held, regions_held}
 use Rattle.fol_core.proofs.Longer.{good_of, stands_more}
 use Rattle.fol_core.proofs.SinceRuns.{since_most}
-
-posted_tickets : (w : World) (c : ChunkPos) (d : ℕ) (a : Action) → (posted w c d a).tickets ≡ w.tickets
-unfolding posted
-posted_tickets w c d a = elim (cases_Bool (is_full w.grid c)) [ inl f ↦ rw f refl | inr f ↦ rw f refl ]
+use Rattle.fol_core.proofs.TicketRuns.{tickets_posted}
 
 full_marks : (w : World) (c : ChunkPos) (d : ℕ) (a : Action) → is_full w.grid c ≡ true → SameMarks w (posted w c d a)
 unfolding posted
@@ -114,7 +111,7 @@ module _ (o : Opening) (h : List Entry) (t : Tables) (s : Stands o h t) (c : Chu
             next = held_next o h t s c limits e allowed (λ r. refl) (λ r. refl) m (next_of u.store) held.next;
             bags = held_bags o h t s c limits e allowed (λ r. refl) (λ r. refl) m (bag_of u.store) held.bags;
           };
-          tickets = λ q. ap (λ x. count_at x q) tickets ∙ s.fits.tickets q ∙ sym (ap (λ (x : ChunkPos → ℕ). x q) (posted_tickets (world o h) c d a));
+          tickets = λ q. ap (λ x. count_at x q) tickets ∙ s.fits.tickets q ∙ sym (ap (λ (x : ChunkPos → ℕ). x q) (tickets_posted (world o h) c d a));
           agenda = agenda_held o h t s c limits e allowed (λ r. refl) (λ r. refl) m u held;
           course = course_more (world o h) (posted (world o h) c d a) t.course u.course k (full_marks (world o h) c d a full) s.fits.course held.course grows;
         })
@@ -149,7 +146,7 @@ module _ (o : Opening) (h : List Entry) (t : Tables) (s : Stands o h t) (c : Chu
             next = held_next o h t s c limits e allowed (λ r. refl) (λ r. refl) m (next_of u.store) posts.next;
             bags = bags;
           };
-          tickets = λ q. ap (λ x. count_at x q) posts.tickets ∙ s.fits.tickets q ∙ sym (ap (λ (x : ChunkPos → ℕ). x q) (posted_tickets (world o h) c d a));
+          tickets = λ q. ap (λ x. count_at x q) posts.tickets ∙ s.fits.tickets q ∙ sym (ap (λ (x : ChunkPos → ℕ). x q) (tickets_posted (world o h) c d a));
           agenda = let P : GridState → Type 0 = λ g. IsAgenda u.agenda.items g (bag_of u.store) in subst P (posts.regions ∙ ap (λ (g : GridState). add g c) s.fits.regions ∙ sym m.grid) posts.agenda;
           course = room_course (world o h) c d a t.course u.course k room s.fits.course posts.course grows;
         })

@@ -1,5 +1,6 @@
 -- What a core stands for after a release.
 use Rattle.std.proofs.Common.{◌≡◌, ℕ, ◌+◌, ◌≤◌, ◌^◌, refl, sym, ◌∙◌, ap, arith, List, [], ◌∷◌, ◌++◌, length}
+use Rattle.std.specs.Prelude.{Option}
 use Rattle.fol_model.specs.declared.openings.Opening.{Opening}
 use Rattle.fol_model.specs.declared.events.Event.{Event}
 use Rattle.fol_model.specs.declared.events.Entry.{Entry}
@@ -21,7 +22,7 @@ use Rattle.fol_core.proofs.FinishedRuns.{not_finished}
 use Rattle.fol_core.proofs.Longer.{stands_more}
 
 -- a tick whose room for more changed is out as it was
-pub out_same : (m : Meaning) (room : ℕ) (old new : Tick) → SameTick old new → IsOut m old → IsOut (record { opening = m.opening; history = m.history; room = room }) new
+pub out_same : (m : Meaning) (room : Option ℕ) (old new : Tick) → SameTick old new → IsOut m old → IsOut (record { opening = m.opening; history = m.history; room = room }) new
 out_same m room old new same out = let w = same.worker in let r = same.region in record {
   before = out.before;
   since = out.since;
@@ -60,7 +61,7 @@ fits_sized t c n w f e s = record {
   course = rw e (record { next_job = s.course.next_job; in_phase = s.course.in_phase; sum = s.course.sum; stopped = s.course.stopped; finished = s.course.finished });
 }
 
-module _ (o : Opening) (h : List Entry) (t : Tables) (s : Stands o h t) (m : ℕ) (tick : Tick) (out : IsOut (record { opening = o; history = h; room = m }) tick)
+module _ (o : Opening) (h : List Entry) (t : Tables) (s : Stands o h t) (m : Option ℕ) (tick : Tick) (out : IsOut (record { opening = o; history = h; room = m }) tick)
     (size : t.course.size + (1 + length tick.log.wishes) ≤ 2 ^ 50) (t' : Tables) (ends : Fits t' (ended (world o h) tick.region tick.log.ran) (since o h)) (same : t'.course.size ≡ t.course.size)
     (by : ℕ) (event : Event) (is : event ≡ end_event (world o h) tick.worker tick.region tick.log.ran) where
   abbrev w : World

@@ -18,6 +18,7 @@ use Rattle.fol_model.specs.Release.{release, must_wait, cleans, is_new_part, is_
 use Rattle.fol_model.specs.ActionStep.{Recorded, at_id}
 use Rattle.fol_model.specs.Outputs.{is_chunk_of}
 use Rattle.fol_model.specs.Rules.{Rules}
+use Rattle.fol_laws.proofs.AddTarget.{is_ticking-true}
 use Rattle.fol_laws.proofs.FunctionsChanged.{at_here, at_other}
 use Rattle.fol_laws.proofs.GreatestBelow.{greatest-at_least, greatest-at_most}
 use Rattle.fol_laws.proofs.CleanedGrid.{margin_from}
@@ -33,7 +34,6 @@ use Rattle.fol_core.specs.Bags.{CanJoin, IsBagOf, joined_bags}
 use Rattle.fol_core.specs.Released.{part_bag, parted}
 use Rattle.fol_core.proofs.AddBags.{filter_none, same_filter}
 use Rattle.fol_core.proofs.JoinedBags.{Apart, JoinedInto, among, can_join, in_filter, joined_into, sorted_apart}
-use Rattle.fol_core.proofs.ReleasedHands.{ticking_is}
 use Rattle.fol_core.proofs.OpenedBags.{opened_off, opened_new}
 
 pub dead_is : (s : State) → is_dead s ≡ true → s ≡ Dead
@@ -71,7 +71,7 @@ module _ (g h : GridState) (tick owed later left : ℕ → ℕ) (recorded : ℕ 
       → (b.whole ≡ true → b.chunks ≡ filter (is_chunk_of h q) all_chunks) → IsBagOf h later left recorded q b
   bag_rests b r n here taken t o whole = record {
     here = here ∙ sym r;
-    taken = taken ∙ sym (false_from_ne_true (is_ticking (h.state q)) (λ e. n (ticking_is (h.state q) e)));
+    taken = taken ∙ sym (false_from_ne_true (is_ticking (h.state q)) (λ e. n (is_ticking-true (h.state q) e)));
     counter = λ k. t;
     owes = λ k. o;
     whole = λ d w. whole w;

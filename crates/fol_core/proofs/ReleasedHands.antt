@@ -6,7 +6,6 @@ use Rattle.std.proofs.lemmas.Bool.{cases_Bool, eqb-true, eqb-false, eq-eqb, ne_e
 use Rattle.fol_model.specs.declared.places.ChunkPos.{ChunkPos}
 use Rattle.fol_model.specs.declared.places.SectionPos.{SectionPos}
 use Rattle.fol_model.specs.declared.places.BlockPos.{BlockPos}
-use Rattle.fol_model.specs.declared.regions.State.{State}
 use Rattle.fol_model.specs.declared.regions.State.TheVariants.{Transient, Ready, Ticking, Dead}
 use Rattle.fol_model.specs.Geometry.{section_of, chunk_of}
 use Rattle.fol_model.specs.GridNumbers.{IsGrid}
@@ -15,18 +14,13 @@ use Rattle.fol_model.specs.Release.{release, must_wait, cleans, is_part_id, part
 use Rattle.fol_model.specs.Rules.{Rules}
 use Rattle.fol_model.specs.ActionStep.{Flat, Recorded, Standing}
 use Rattle.fol_model.specs.Job.{Job}
+use Rattle.fol_laws.proofs.AddTarget.{is_ticking-true}
 use Rattle.fol_laws.proofs.GridFields.{ticking_release}
 use Rattle.fol_laws.proofs.ReleaseKeeps.{grid_release, release_ticking_sections}
 use Rattle.fol_end_laws.specs.KeptQueue.{queued_in}
 use Rattle.fol_chunks.specs.Contents.{within, outside, joined, option_filter}
 use Rattle.fol_core.specs.Hands.{owner_of, ticker, in_hands, went, at_rest}
 use Rattle.fol_core.proofs.Flats.{flat_ext}
-
-pub ticking_is : (s : State) → is_ticking s ≡ true → s ≡ Ticking
-ticking_is Ticking h = refl
-ticking_is Transient h = absurd (true≢false (sym h))
-ticking_is Ready h = absurd (true≢false (sym h))
-ticking_is Dead h = absurd (true≢false (sym h))
 
 module _ (g : GridState) (r : ℕ) (rules : Rules g) (ok : IsGrid g.grid) (ticks : g.state r ≡ Ticking) where
   some : 0 < r
@@ -74,7 +68,7 @@ module _ (g : GridState) (r : ℕ) (rules : Rules g) (ok : IsGrid g.grid) (ticks
 
   rests_now : (s : SectionPos) → ((release g r).state ((release g r).owner s) ≡ Ticking → ⊥) → is_ticking ((release g r).state ((release g r).owner s)) ≡ false
   rests_now s h = elim (cases_Bool (is_ticking ((release g r).state ((release g r).owner s)))) [
-    | inl e ↦ absurd (h (ticking_is _ e))
+    | inl e ↦ absurd (h (is_ticking-true _ e))
     | inr e ↦ e
   ]
 
@@ -85,7 +79,7 @@ module _ (g : GridState) (r : ℕ) (rules : Rules g) (ok : IsGrid g.grid) (ticks
     | inl e ↦ elim (cases_Bool (nat_eq (g.owner s) r)) [
       | inl k ↦ let z = rests_now s (λ h. (was_owned s h).2 (eqb-true _ _ k)) in rw (z, e, k) refl
       | inr k ↦
-          let t : g.state (g.owner s) ≡ Ticking = ticking_is _ e in
+          let t : g.state (g.owner s) ≡ Ticking = is_ticking-true _ e in
           let d : g.owner s ≢ r = eqb-false _ _ k in
           let o : (release g r).owner s ≡ g.owner s = (release_ticking_sections g r rules ok ticks (g.owner s) t d s).0 refl in
           let n : (release g r).state (g.owner s) ≡ Ticking = ticking_release g r (g.owner s) rules t d in

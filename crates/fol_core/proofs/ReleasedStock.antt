@@ -1,8 +1,7 @@
 -- All that follows in the store and in the stack when a region is released.
 use Rattle.std.proofs.Common.{◌≡◌, ◌≢◌, ℕ, ◌+◌, ◌≤◌, refl, sym, ◌∙◌, ap, arith, true, false, inl, inr, List, [], ◌∷◌, ◌++◌, length}
 use Rattle.std.specs.Prelude.{nat_eq, nat_lt, nat_le}
-use Rattle.std.proofs.lemmas.Bool.{cases_Bool, cases_eq, eqb-true, eq-eqb, ne_eqb, and_parts, and_from, or_left, or_right, true≢false}
-use Rattle.std.proofs.lemmas.List.Folds.{list_any-append}
+use Rattle.std.proofs.lemmas.Bool.{cases_Bool, cases_eq, eqb-true, eq-eqb, ne_eqb, and_parts, and_from, true≢false}
 use Rattle.fol_model.specs.declared.regions.State.{State}
 use Rattle.fol_model.specs.declared.regions.State.TheVariants.{Ticking, Dead}
 use Rattle.fol_model.specs.GridNumbers.{IsGrid}
@@ -16,7 +15,7 @@ use Rattle.fol_store.specs.Bag.{Bag, put_back}
 use Rattle.fol_core.specs.Agenda.{Covers, owes}
 use Rattle.fol_core.specs.Bags.{CanJoin, Follow, IsBagOf, joined_bags}
 use Rattle.fol_core.specs.Released.{heirs, parted, parts_in, rejoined, released_bags}
-use Rattle.fol_core.proofs.JoinedBags.{among}
+use Rattle.fol_core.proofs.JoinedBags.{behind, in_front}
 use Rattle.fol_core.proofs.PartIds.{parts_count, parts_few, parts_follow}
 use Rattle.fol_core.proofs.ReleasedBags as rb
 
@@ -30,12 +29,6 @@ pub record ReleasedTo (g h : GridState) (r : ℕ) (ch : Changes) (tick owed late
   pub next : h.next ≡ g.next + length (parts_in h ch r)
   pub bags : (q : ℕ) → IsBagOf h later left recorded q (released_bags h ch r (tick r) (owed r) f q)
   pub covers : (xs : List ℕ) → Covers xs g f → Covers (xs ++ heirs h ch r) h (released_bags h ch r (tick r) (owed r) f)
-
-in_front : (q : ℕ) (xs ys : List ℕ) → among q xs ≡ true → among q (xs ++ ys) ≡ true
-in_front q xs ys h = list_any-append (nat_eq q) xs ys ∙ or_left (among q xs) (among q ys) h
-
-behind : (q : ℕ) (xs ys : List ℕ) → among q ys ≡ true → among q (xs ++ ys) ≡ true
-behind q xs ys h = list_any-append (nat_eq q) xs ys ∙ or_right (among q xs) (among q ys) h
 
 not_ready : (s : State) → s ≡ Dead → is_ready s ≡ true → ⊥
 not_ready s e h = let x : false ≡ true = rw e at h in true≢false (sym x)

@@ -37,7 +37,8 @@ most_unloaded w c n h q = elim (cases_Bool (nat_eq (w.tickets c) 0)) [
   | inr f ↦ elim (cases_Bool (same_chunk c q)) [ inl s ↦ rw (f, s) (omega (arith, h c)) | inr s ↦ rw (f, s) (h q) ]
 ]
 
-tickets_posted : (w : World) (c : ChunkPos) (d : ℕ) (a : Action) → (posted w c d a).tickets ≡ w.tickets
+-- a post leaves the tickets
+pub tickets_posted : (w : World) (c : ChunkPos) (d : ℕ) (a : Action) → (posted w c d a).tickets ≡ w.tickets
 unfolding posted
 tickets_posted w c d a = elim (cases_Bool (is_full w.grid c)) [ inl f ↦ rw f refl | inr f ↦ rw f refl ]
 

@@ -56,13 +56,19 @@ unsettled_bag g tick owed recorded n h given is r = elim (cases_Bool (nat_lt 0 n
 pub bag_but : (g : GridState) (tick owed : ℕ → ℕ) (recorded : ℕ → Recorded) (n r : ℕ) (b : Bag) → IsBagOf g tick owed recorded r b → IsBagBut g tick owed recorded n r b
 bag_but g tick owed recorded n r b is = record { here = is.here; taken = is.taken; counter = is.counter; owes = is.owes; whole = λ d m w. is.whole d w; out = is.out }
 
+pub not_dead : (s : State) → s ≢ Dead → not (is_dead s) ≡ true
+not_dead Transient d = refl
+not_dead Ready d = refl
+not_dead Ticking d = refl
+not_dead Dead d = absurd (d refl)
+
 live_known : (s : State) → s ≢ Dead → ((not (is_dead s) && not (is_ticking s)) || is_ticking s) ≡ true
 live_known Transient d = refl
 live_known Ready d = refl
 live_known Ticking d = refl
 live_known Dead d = absurd (d refl)
 
-ready_rests : (s : State) → is_ready s ≡ true → (not (is_dead s) && not (is_ticking s)) ≡ true
+pub ready_rests : (s : State) → is_ready s ≡ true → (not (is_dead s) && not (is_ticking s)) ≡ true
 ready_rests Ready h = refl
 ready_rests Transient h = absurd (true≢false (sym h))
 ready_rests Ticking h = absurd (true≢false (sym h))

@@ -18,7 +18,7 @@ use Rattle.fol_model.specs.Add.{is_full, wanted}
 use Rattle.fol_model.specs.World.{World}
 use Rattle.fol_model.specs.End.{answers, run_down, ticked}
 use Rattle.fol_model.specs.Run.{load_answer, unload_answer}
-use Rattle.fol_core.specs.Meaning.{Meaning, Records, Stays, world_of}
+use Rattle.fol_core.specs.Meaning.{Meaning, Records, Unchanged, world_of}
 use Rattle.fol_core.specs.Ticks.{IsTick}
 use Rattle.fol_core.specs.declared.answers.Posting.{Posting}
 use Rattle.fol_core.specs.declared.answers.Posting.TheVariants as postings
@@ -52,14 +52,14 @@ load_result w c = if w.finished then loads.Over else load_answer w c
 
 -- every answer but Over is recorded
 abbrev pub LoadRecords : Meaning → Meaning → ℕ → ChunkPos → Loaded → Type 0
-LoadRecords old new caller c loads.Over = Stays old new
+LoadRecords old new caller c loads.Over = Unchanged old new
 LoadRecords old new caller c answer = Records old new caller (events.Load caller c answer)
 
 abbrev pub unload_result : World → ChunkPos → Unloaded
 unload_result w c = if w.finished then unloads.Over else unload_answer w c
 
 abbrev pub UnloadRecords : Meaning → Meaning → ℕ → ChunkPos → Unloaded → Type 0
-UnloadRecords old new caller c unloads.Over = Stays old new
+UnloadRecords old new caller c unloads.Over = Unchanged old new
 UnloadRecords old new caller c answer = Records old new caller (events.Unload caller c answer)
 
 -- what a recorded answer tells
@@ -76,7 +76,7 @@ post_result w c a =
 abbrev pub PostRecords : Meaning → Meaning → ℕ → ChunkPos → ℕ → Action → Posting → Type 0
 PostRecords old new caller c d a (postings.Posted n) = Records old new caller (events.Post caller c d a (accepts.Posted n))
 PostRecords old new caller c d a (postings.Full present wanted) = Records old new caller (events.Post caller c d a (accepts.Full present wanted))
-PostRecords old new caller c d a (postings.Over action) = Stays old new
+PostRecords old new caller c d a (postings.Over action) = Unchanged old new
 
 -- ---- phases
 
@@ -85,7 +85,7 @@ phase_result w = if is_over w then phases.Over else (if w.in_phase then phases.I
 
 abbrev pub PhaseRecords : Meaning → Meaning → ℕ → ℕ → Phase → Type 0
 PhaseRecords old new by n phases.Opened = Records old new by (events.PhaseOpen n)
-PhaseRecords old new by n answer = Stays old new
+PhaseRecords old new by n answer = Unchanged old new
 
 abbrev pub close_result : World → Close
 close_result w =
@@ -95,18 +95,18 @@ close_result w =
 
 abbrev pub CloseRecords : Meaning → Meaning → ℕ → Close → Type 0
 CloseRecords old new by closes.Closed = Records old new by events.PhaseClose
-CloseRecords old new by answer = Stays old new
+CloseRecords old new by answer = Unchanged old new
 
 abbrev pub finish_result : World → Finish
 finish_result w = if is_over w then finishes.Over else (if w.in_phase then finishes.InPhase else finishes.Finished)
 
 abbrev pub FinishRecords : Meaning → Meaning → ℕ → Finish → Type 0
 FinishRecords old new by finishes.Finished = Records old new by events.Finish
-FinishRecords old new by answer = Stays old new
+FinishRecords old new by answer = Unchanged old new
 
 -- a Stop is recorded unless the history is over
 abbrev pub StopRecords : Meaning → Meaning → ℕ → Bool → Type 0
-StopRecords old new caller true = Stays old new
+StopRecords old new caller true = Unchanged old new
 StopRecords old new caller false = Records old new caller (events.Stop caller)
 
 -- ---- ticks
@@ -114,9 +114,9 @@ StopRecords old new caller false = Records old new caller (events.Stop caller)
 -- each answer with what has to hold for it, and what it leaves
 abbrev pub Begins : Meaning → Meaning → ℕ → ℕ → ℕ → BeginAnswer → Type 0
 Begins old new by worker id (Got tick) = (is_over (world_of old) ≡ false) × (is_owing (world_of old) id ≡ true) × IsTick (world_of old) (length old.history) worker id tick × Records old new by (events.Begin worker id)
-Begins old new by worker id (NotReady state) = (is_over (world_of old) ≡ false) × (is_ready state ≡ false) × (state ≡ (world_of old).grid.state id) × Stays old new
-Begins old new by worker id NotOwing = (is_over (world_of old) ≡ false) × (is_ready ((world_of old).grid.state id) ≡ true) × ((world_of old).owed id ≡ 0) × Stays old new
-Begins old new by worker id Over = (is_over (world_of old) ≡ true) × Stays old new
+Begins old new by worker id (NotReady state) = (is_over (world_of old) ≡ false) × (is_ready state ≡ false) × (state ≡ (world_of old).grid.state id) × Unchanged old new
+Begins old new by worker id NotOwing = (is_over (world_of old) ≡ false) × (is_ready ((world_of old).grid.state id) ≡ true) × ((world_of old).owed id ≡ 0) × Unchanged old new
+Begins old new by worker id Over = (is_over (world_of old) ≡ true) × Unchanged old new
 
 -- the End of the tick in which these tasks ran
 abbrev pub end_event : World → ℕ → ℕ → List Ran → Event

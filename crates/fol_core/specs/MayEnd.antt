@@ -1,5 +1,5 @@
 -- A finished tick can end.
-use Rattle.std.specs.Prelude.{ℕ, ◌≡◌, ◌+◌, ◌≤◌, ◌^◌, List, [], length, vec_len, vec_capacity}
+use Rattle.std.specs.Prelude.{ℕ, ◌≡◌, ◌+◌, ◌≤◌, ◌^◌, List, [], length, Option, vec_len, vec_capacity}
 use Rattle.std.specs.Global.{Vec}
 use Rattle.fol_model.specs.declared.events.Accept.{Accept}
 use Rattle.fol_model.specs.declared.openings.Opening.{Opening}
@@ -14,7 +14,7 @@ use Rattle.fol_core.specs.Underway.{HasRoomFor}
 pub record MayEnd (t : Tables) (tick : Tick) : Type 0 where
   pub opening : Opening
   pub history : List Entry
-  pub room : ℕ
+  pub room : Option ℕ
   pub stands : Stands opening history t
   pub out : IsOut (record { opening = opening; history = history; room = room }) tick
   pub size : t.course.size + (1 + length tick.log.wishes) ≤ 2 ^ 50

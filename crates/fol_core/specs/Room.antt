@@ -5,19 +5,21 @@ use Rattle.std.specs.HashMap.{spare as room_in}
 use Rattle.fol_model.specs.declared.events.Entry.{Entry}
 use Rattle.fol_model.specs.declared.tasks.Task.{Task}
 use Rattle.fol_regions.specs.Table.{grid_state}
+use Rattle.fol_regions.specs.Answers.{IsGiven}
 use Rattle.fol_store.specs.Stock.{Stock, bag_of, due_of}
 use Rattle.fol_core.specs.declared.tables.Course.{Course}
 use Rattle.fol_core.specs.declared.tables.Tables.{Tables}
 use Rattle.fol_core.specs.declared.machine.Room.{Room}
 use Rattle.fol_core.specs.Agenda.{owes}
 
--- the region that it was reserved for, or 0
-abbrev pub room_of : Option Room → ℕ
-room_of None = 0
-room_of (Some room) = room.id
+-- the region that it was reserved for
+abbrev pub room_of : Option Room → Option ℕ
+room_of None = None
+room_of (Some room) = Some room.id
 
--- a Begin of the region needs no more memory, and a Stop after it neither
+-- a Begin of the region, which was given out, needs no more memory, and a Stop after it neither
 pub record BeginRoom (room : Room) (t : Tables) (h : Vec Entry) : Type 0 where
+  pub given : IsGiven (grid_state t.regions) room.id
   pub size : t.course.size < 2 ^ 50
   pub history : vec_len h + 2 ≤ vec_capacity h
   pub empty : room.due.items ≡ []

@@ -17,7 +17,7 @@ ghost use Rattle.fol_core.specs.Agenda.{Covers, HaveBags, IsAgenda, owes as owes
 ghost use Rattle.fol_core.specs.Answers.{Begins, IsGiven};
 ghost use Rattle.fol_core.specs.Room.{DueRoom};
 ghost use Rattle.fol_core.specs.Begun.{Gathered, due_task, left_job};
-ghost use Rattle.fol_core.specs.Meaning.{Stays, world_of};
+ghost use Rattle.fol_core.specs.Meaning.{IsReadyToBegin, Stays, world_of};
 ghost use Rattle.fol_core.specs.Same.{SameThings};
 
 use crate::BeginAnswer;
@@ -39,11 +39,11 @@ struct Begun {
 }
 
 impl Core {
-    /// Takes the memory for a Begin of this region. It then has it until the next call that changes the core. After want of memory
-    /// nothing has changed.
+    /// Takes the memory for a Begin of this region. The region is then ready to begin, until the next call that changes the core.
+    /// After want of memory nothing has changed, but an earlier readiness for a Begin may be lost.
     pub fn reserve(&mut self, alloc: Global, id: u64) -> Result<(), AllocError>
         requires given { IsGiven (world_of self.old) id }
-        ensures ready { OnOk result (self.new.room ≡ id) }
+        ensures ready { OnOk result (IsReadyToBegin self.new id) }
         ensures same { Stays self.old self.new }
     {
         self.room = None;
@@ -53,11 +53,11 @@ impl Core {
         Ok(())
     }
 
-    /// Begins the tick of a region that was reserved for. Over exactly where Finish or Stop stands in the history; else NotReady
-    /// exactly where its state is not Ready; else NotOwing exactly where it owes no tick. Only Got is recorded. Takes no memory.
+    /// Begins the tick of a region that is ready to begin, by `reserve`. Over exactly where Finish or Stop stands in the history;
+    /// else NotReady exactly where its state is not Ready; else NotOwing exactly where it owes no tick. Only Got is recorded. A
+    /// refusal changes nothing, the readiness for a Begin included. Takes no memory.
     pub fn begin(&mut self, by: u32, worker: u32, id: u64) -> BeginAnswer
-        requires given { IsGiven (world_of self.old) id }
-        requires ready { self.old.room ≡ id }
+        requires ready { IsReadyToBegin self.old id }
         ensures { Begins self.old self.new by worker id result }
     {
         if self.tables.course.is_over() {

@@ -1,6 +1,6 @@
 //! The end of a tick.
 
-ghost use Rattle.std.specs.Prelude.{◌≡◌, ℕ, ◌+◌, ◌≤◌, ◌<◌, ◌^◌, ◌||◌, ◌++◌, true, List, [], length, IsTrue, vec_len, vec_capacity};
+ghost use Rattle.std.specs.Prelude.{◌≡◌, ℕ, Option, ◌+◌, ◌≤◌, ◌<◌, ◌^◌, ◌||◌, ◌++◌, true, List, [], length, IsTrue, vec_len, vec_capacity};
 ghost use Rattle.std.specs.Option.{is_none, option_or, ForSome};
 ghost use Rattle.fol_model.specs.declared.regions.State.TheVariants.{Ticking};
 ghost use Rattle.fol_model.specs.ActionStep.{at_id};
@@ -45,8 +45,8 @@ pub(crate) fn end_tick(tables: &mut Tables, tick: Tick, mut accepts: Vec<Accept>
     requires may { MayEnd tables.old tick }
     requires empty { accepts.items ≡ [] }
     requires room { length tick.log.wishes ≤ vec_capacity accepts }
-    ensures event { (o : Opening) (h : List Entry) (m : ℕ) → Stands o h tables.old → IsOut (record { opening = o; history = h; room = m }) tick → result ≡ end_event (world o h) tick.worker tick.region tick.log.ran }
-    ensures ended { (o : Opening) (h : List Entry) (m : ℕ) → Stands o h tables.old → IsOut (record { opening = o; history = h; room = m }) tick → Fits tables.new (ended (world o h) tick.region tick.log.ran) (since o h) }
+    ensures event { (o : Opening) (h : List Entry) (m : Option ℕ) → Stands o h tables.old → IsOut (record { opening = o; history = h; room = m }) tick → result ≡ end_event (world o h) tick.worker tick.region tick.log.ran }
+    ensures ended { (o : Opening) (h : List Entry) (m : Option ℕ) → Stands o h tables.old → IsOut (record { opening = o; history = h; room = m }) tick → Fits tables.new (ended (world o h) tick.region tick.log.ran) (since o h) }
     ensures course { tables.new.course.size ≡ tables.old.course.size }
 {
     let Tick {

@@ -28,7 +28,8 @@ use std::alloc::AllocError;
 
 impl Core {
     /// Adds a ticket to a chunk. Records the load by this caller with its answer, but at Over, which comes exactly where the
-    /// history is finished. After want of memory nothing has changed.
+    /// history is finished, and which changes nothing, the readiness for a Begin included. After want of memory nothing has changed,
+    /// but the readiness may be lost.
     pub fn load(&mut self, caller: u32, c: ChunkPos) -> Result<Loaded, AllocError>
         requires in_range { IsTrue (is_chunk c) }
         ensures answer { IfOk result (λ a. a ≡ load_result (world_of self.old) c) }
@@ -51,7 +52,8 @@ impl Core {
     }
 
     /// Takes a ticket from a chunk. Records the unload by this caller with its answer, but at Over, which comes exactly where the
-    /// history is finished. After want of memory nothing has changed.
+    /// history is finished, and which changes nothing, the readiness for a Begin included. After want of memory nothing has changed,
+    /// but the readiness may be lost.
     pub fn unload(&mut self, caller: u32, c: ChunkPos) -> Result<Unloaded, AllocError>
         requires in_range { IsTrue (is_chunk c) }
         ensures answer { IfOk result (λ a. a ≡ unload_result (world_of self.old) c) }

@@ -12,7 +12,8 @@ use std::alloc::AllocError;
 
 impl Core {
     /// Finishes the history. Over exactly where Finish or Stop stands in it, else InPhase exactly where a phase is open. Only
-    /// Finished is recorded. After want of memory nothing has changed.
+    /// Finished is recorded. A refusal changes nothing, the readiness for a Begin included. After want of memory nothing has changed,
+    /// but the readiness may be lost.
     pub fn finish(&mut self, by: u32) -> Result<Finish, AllocError>
         ensures answer { IfOk result (λ a. a ≡ finish_result (world_of self.old)) }
         ensures recorded { IfOk result (λ a. FinishRecords self.old self.new by a) }
@@ -38,7 +39,8 @@ impl Core {
         Ok(Finish::Finished)
     }
 
-    /// Records a Stop by this caller, unless Finish or Stop stands in the history. Takes no memory.
+    /// Records a Stop by this caller, unless Finish or Stop stands in the history: then it changes nothing, the readiness for a Begin
+    /// included. Takes no memory.
     pub fn stop(&mut self, caller: u32)
         ensures { StopRecords self.old self.new caller (is_over (world_of self.old)) }
     {

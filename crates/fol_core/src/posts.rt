@@ -23,8 +23,9 @@ use fol_regions::AddAnswer;
 
 impl Core {
     /// Asks for a task on a chunk, in the `delay`-th tick that the chunk's region then begins. Records the post by this caller with
-    /// its answer, but at Over, which comes exactly where the history is finished and hands the action back. After want of memory,
-    /// which hands the action back, nothing has changed.
+    /// its answer, but at Over, which comes exactly where the history is finished, hands the action back and changes nothing, the
+    /// readiness for a Begin included. After want of memory, which hands the action back, nothing has changed, but the readiness may
+    /// be lost.
     pub fn post(
         &mut self,
         caller: u32,

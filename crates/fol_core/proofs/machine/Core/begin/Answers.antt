@@ -26,7 +26,7 @@ pub invariant_of-self : goal.invariant_of-self
 invariant_of-self c =
     let owing : owes (grid_state c.self.inside.tables.regions) (bag_of c.self.inside.tables.store) c.args.id ≡ true =
     owing_now (grid_state c.self.inside.tables.regions) (bag_of c.self.inside.tables.store) c.args.id (sym c.state.ensures ∙ c.in-Some-Ready.is ∙ ap (λ (x : State). Some x) c.in-Some-Ready.field-0-is) (omega (arith, c.owed.ensures, c.if-owed-eq0.false)) in
-    let room = room_for c.self.inside.room c.self.inside.tables c.self.inside.history c.args.id c.self.invariant.1 (rw (← c.self.view_is) at c.requires.ready) c.requires.given.above in
+    let room = room_for c.self.inside.room c.self.inside.tables c.self.inside.history c.args.id c.self.invariant.1 (rw (← c.self.view_is) at c.requires.ready) in
     let out = c.hand_out-chunks.ensures in
     let over = sym c.is_over.ensures ∙ c.if-is_over.false in (
       rw c.record.ensures.entries
@@ -40,7 +40,7 @@ pub returns : goal.returns
 returns c =
     let owing : owes (grid_state c.self.inside.tables.regions) (bag_of c.self.inside.tables.store) c.args.id ≡ true =
     owing_now (grid_state c.self.inside.tables.regions) (bag_of c.self.inside.tables.store) c.args.id (sym c.state.ensures ∙ c.in-Some-Ready.is ∙ ap (λ (x : State). Some x) c.in-Some-Ready.field-0-is) (omega (arith, c.owed.ensures, c.if-owed-eq0.false)) in
-    let room = room_for c.self.inside.room c.self.inside.tables c.self.inside.history c.args.id c.self.invariant.1 (rw (← c.self.view_is) at c.requires.ready) c.requires.given.above in
+    let room = room_for c.self.inside.room c.self.inside.tables c.self.inside.history c.args.id c.self.invariant.1 (rw (← c.self.view_is) at c.requires.ready) in
     let out = c.hand_out-chunks.ensures in
     let over = sym c.is_over.ensures ∙ c.if-is_over.false in
     rw (← c.self.view_is) (

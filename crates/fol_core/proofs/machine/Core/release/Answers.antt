@@ -1,4 +1,5 @@
 use Rattle.std.proofs.Common.{◌≡◌, ℕ, ◌+◌, sym, refl}
+use Rattle.std.specs.Prelude.{None}
 use Rattle.fol_core.specs.declared.tables.Course.{Course}
 use Rattle.fol_core.proofs.ReleaseKept.{out_same, release_kept}
 use Rattle.fol_core.proofs.Rooms.{room_left, same_room}
@@ -19,9 +20,9 @@ pub end_tick-event-requires-clause-may : goal.end_tick-event-requires-clause-may
 end_tick-event-requires-clause-may c = record {
   opening = c.self.inside.opening;
   history = c.self.inside.history.items;
-  room = 0;
+  room = None;
   stands = same_stands _ _ _ _ c.in-Ok.ensures.same c.self.invariant.0;
-  out = let v = c.self.view_is in out_same _ 0 c.args.tick c.grow_to_end.new.tick c.in-Ok.ensures.tick (rw (sym v) at c.requires.out);
+  out = let v = c.self.view_is in out_same _ None c.args.tick c.grow_to_end.new.tick c.in-Ok.ensures.tick (rw (sym v) at c.requires.out);
   size = c.in-Ok.ensures.ok.size;
   memory = c.in-Ok.ensures.ok.memory;
 }
@@ -30,9 +31,9 @@ pub invariant_of-self-in-Ok : goal.invariant_of-self-in-Ok
 invariant_of-self-in-Ok c =
     let v = c.self.view_is in
     let s = same_stands _ _ _ _ c.in-Ok.ensures.same c.self.invariant.0 in
-    let out = out_same _ 0 c.args.tick c.grow_to_end.new.tick c.in-Ok.ensures.tick (rw (sym v) at c.requires.out) in
-    let k = release_kept c.self.inside.opening c.self.inside.history.items c.grow_to_end.new.tables s 0 c.grow_to_end.new.tick out c.in-Ok.ensures.ok.size
-    c.end_tick-event.new.tables (c.end_tick-event.ensures.ended _ _ 0 s out) c.end_tick-event.ensures.course c.grow_to_end.new.tick.worker c.end_tick-event.result (c.end_tick-event.ensures.event _ _ 0 s out)
+    let out = out_same _ None c.args.tick c.grow_to_end.new.tick c.in-Ok.ensures.tick (rw (sym v) at c.requires.out) in
+    let k = release_kept c.self.inside.opening c.self.inside.history.items c.grow_to_end.new.tables s None c.grow_to_end.new.tick out c.in-Ok.ensures.ok.size
+    c.end_tick-event.new.tables (c.end_tick-event.ensures.ended _ _ None s out) c.end_tick-event.ensures.course c.grow_to_end.new.tick.worker c.end_tick-event.result (c.end_tick-event.ensures.event _ _ None s out)
     (record c.record.new.course { size = c.record.new.course.size + c.len-asked.result }) (sized c.end_tick-event.new.tables.course c.record.new.course c.len-asked.result c.record.ensures.size c.len-asked.ensures) in (
       rw (c.record.ensures.entries, c.in-Ok.ensures.entries) k,
       tt,
@@ -43,12 +44,12 @@ pub returns-in-Ok-clause-recorded : goal.returns-in-Ok-clause-recorded
 returns-in-Ok-clause-recorded c =
     let v = c.self.view_is in
     let s = same_stands _ _ _ _ c.in-Ok.ensures.same c.self.invariant.0 in
-    let out = out_same _ 0 c.args.tick c.grow_to_end.new.tick c.in-Ok.ensures.tick (rw (sym v) at c.requires.out) in
+    let out = out_same _ None c.args.tick c.grow_to_end.new.tick c.in-Ok.ensures.tick (rw (sym v) at c.requires.out) in
     let same = c.in-Ok.ensures.tick in
     let worker = same.worker in
     let region = same.region in
     let log = same.log in
-    let event = rw (worker, region, log) at (c.end_tick-event.ensures.event c.self.inside.opening c.self.inside.history.items 0 s out) in
+    let event = rw (worker, region, log) at (c.end_tick-event.ensures.event c.self.inside.opening c.self.inside.history.items None s out) in
     let new = c.record.ensures.entries in
     let old = c.in-Ok.ensures.entries in
     rw (sym v) (record { opening = refl; history = rw (new, old, worker, event) refl })
