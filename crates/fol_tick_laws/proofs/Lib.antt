@@ -1,0 +1,4 @@
+pub mod FreshArrivals
+pub mod BegunTicks
+pub mod FinishedTicks
+pub mod OpenTicks

@@ -1,0 +1,160 @@
+-- What open ticks may do, and what leaves them open.
+use Rattle.std.proofs.Common.{◌≡◌, ℕ, refl, ◌∙◌, ap, sym, true, false, inl, inr, List, [], ◌∷◌, ◌++◌, append_assoc, length}
+use Rattle.std.specs.Prelude.{◌&&◌, Option, None, is_some, nat_lt, Result, Ok, Err, IfOk, OnErr}
+use Rattle.std.proofs.lemmas.Bool.{and_parts, cases_Bool, ltb-true, ne_eqb}
+use Rattle.fol_model.specs.declared.places.ChunkPos.{ChunkPos}
+use Rattle.fol_model.specs.declared.actions.Action.{Action}
+use Rattle.fol_model.specs.declared.regions.State.{State}
+use Rattle.fol_model.specs.declared.events.Entry.{Entry}
+use Rattle.fol_model.specs.declared.events.Event.{Event}
+use Rattle.fol_model.specs.declared.events.Event.TheVariants.{Begin}
+use Rattle.fol_model.specs.declared.events.Loaded.{Loaded}
+use Rattle.fol_model.specs.declared.events.Loaded.TheVariants as loads
+use Rattle.fol_model.specs.GridNumbers.{IsGrid}
+use Rattle.fol_model.specs.OpenTick.{NoEnd, is_end}
+use Rattle.fol_model.specs.QueuedTask.{begun}
+use Rattle.fol_model.specs.Run.{Run, world}
+use Rattle.fol_model.specs.World.{World, start}
+use Rattle.fol_laws.proofs.LongerRuns.{world_more}
+use Rattle.fol_laws.proofs.WholeRuns.{Good, good_run}
+use Rattle.fol_data.specs.declared.tick.Tick.{Tick}
+use Rattle.fol_tick.specs.Calls.{HostCall}
+use Rattle.fol_tick.specs.Runs.{Finishes, MayRun}
+use Rattle.fol_core.specs.Answers.{Begins, IsGiven, LoadRecords, PhaseRecords, PostRecords, end_event, state_result}
+use Rattle.fol_core.specs.Meaning.{Meaning, Records, Stays, world_of}
+use Rattle.fol_core.specs.Ticks.{IsOut, IsTick}
+use Rattle.fol_core.specs.declared.answers.BeginAnswer.{BeginAnswer}
+use Rattle.fol_core.specs.declared.answers.BeginAnswer.TheVariants.{Got, NotReady, NotOwing, Over}
+use Rattle.fol_core.specs.declared.answers.Phase.{Phase}
+use Rattle.fol_core.specs.declared.answers.Phase.TheVariants as phases
+use Rattle.fol_core.specs.declared.answers.Posting.{Posting}
+use Rattle.fol_core.specs.declared.answers.Posting.TheVariants as postings
+use Rattle.fol_tick_laws.specs.OpenTicks.{IsOpen, KeepsOpen, KeepsOthers}
+use Rattle.fol_tick_laws.proofs.BegunTicks.{may_run}
+use Rattle.fol_tick_laws.proofs.FinishedTicks.{out_since}
+
+-- ---- what leaves open ticks open
+
+no_end_more : (r : ℕ) (es : List Entry) (e : Entry) → NoEnd r es → is_end r e.event ≡ false → NoEnd r (es ++ e ∷ [])
+no_end_more r [] e none other = (other, tt)
+no_end_more r (x ∷ es) e none other = (none.0, no_end_more r es e none.1 other)
+
+-- an entry more that is no End of the tick's region
+pub open_more : (m n : Meaning) (by : ℕ) (event : Event) (t : Tick) → Records m n by event → is_end t.region event ≡ false → IsOpen m t → IsOpen n t
+open_more m n by event t records other is =
+    let e : Entry = record { by = by; event = event } in
+    let b : Entry = record { by = is.by; event = Begin t.worker t.region } in
+    record {
+      before = is.before;
+      since = is.since ++ e ∷ [];
+      by = is.by;
+      begin = records.history ∙ ap (λ h. h ++ e ∷ []) is.begin ∙ append_assoc is.before (b ∷ is.since) (e ∷ []);
+      runs_on = no_end_more t.region is.since e is.runs_on other;
+      is = rw records.opening is.is;
+    }
+
+-- no entry more
+open_same : (m n : Meaning) → n.opening ≡ m.opening → n.history ≡ m.history → KeepsOpen m n
+open_same m n opening history t is = record {
+  before = is.before;
+  since = is.since;
+  by = is.by;
+  begin = history ∙ is.begin;
+  runs_on = is.runs_on;
+  is = rw opening is.is;
+}
+
+pub open_loaded : (m n : Meaning) (k : ℕ) (c : ChunkPos) (a : Loaded) → LoadRecords m n k c a → KeepsOpen m n
+open_loaded m n k c loads.Counted records t is = open_more m n k _ t records refl is
+open_loaded m n k c (loads.Full present wanted) records t is = open_more m n k _ t records refl is
+open_loaded m n k c loads.Over stays t is = open_same m n stays.opening stays.history t is
+
+-- a post, whatever it comes to
+pub open_posted : (m n : Meaning) (k : ℕ) (c : ChunkPos) (d : ℕ) (x : Action) (r : Result Posting Action) → IfOk r (λ a. PostRecords m n k c d x a)
+    → OnErr r (Stays m n) → KeepsOpen m n
+open_posted m n k c d x (Ok (postings.Posted number)) records stays t is = open_more m n k _ t records refl is
+open_posted m n k c d x (Ok (postings.Full present wanted)) records stays t is = open_more m n k _ t records refl is
+open_posted m n k c d x (Ok (postings.Over y)) records stays t is = open_same m n records.opening records.history t is
+open_posted m n k c d x (Err back) records stays t is = open_same m n stays.opening stays.history t is
+
+pub grid_posted : (m n : Meaning) (k : ℕ) (c : ChunkPos) (d : ℕ) (x : Action) (r : Result Posting Action) → IfOk r (λ a. PostRecords m n k c d x a)
+    → OnErr r (Stays m n) → IsGrid m.opening.grid → IsGrid n.opening.grid
+grid_posted m n k c d x (Ok (postings.Posted number)) records stays grid = rw records.opening grid
+grid_posted m n k c d x (Ok (postings.Full present wanted)) records stays grid = rw records.opening grid
+grid_posted m n k c d x (Ok (postings.Over y)) records stays grid = rw records.opening grid
+grid_posted m n k c d x (Err back) records stays grid = rw stays.opening grid
+
+pub open_phased : (m n : Meaning) (k ticks : ℕ) (a : Phase) → PhaseRecords m n k ticks a → KeepsOpen m n
+open_phased m n k ticks phases.Opened records t is = open_more m n k _ t records refl is
+open_phased m n k ticks phases.InPhase stays t is = open_same m n stays.opening stays.history t is
+open_phased m n k ticks phases.Over stays t is = open_same m n stays.opening stays.history t is
+
+pub open_asked : (l m n : Meaning) (by k r : ℕ) (a : BeginAnswer) → Stays l m → Begins m n by k r a → KeepsOpen l n
+open_asked l m n by k r (Got tick) same begins t is = open_more m n by _ t begins.3 refl (open_same l m same.opening same.history t is)
+open_asked l m n by k r (NotReady state) same begins t is = open_same m n begins.3.opening begins.3.history t (open_same l m same.opening same.history t is)
+open_asked l m n by k r NotOwing same begins t is = open_same m n begins.3.opening begins.3.history t (open_same l m same.opening same.history t is)
+open_asked l m n by k r Over same begins t is = open_same m n begins.1.opening begins.1.history t (open_same l m same.opening same.history t is)
+
+-- the End of a tick that has run
+pub open_others : (m n : Meaning) (t u : Tick) (xs : List HostCall) → Finishes t u xs → Records m n u.worker (end_event (world_of m) u.worker u.region u.log.ran)
+    → KeepsOthers m n t.region
+open_others m n t u xs done records v other is =
+    let own : Records m n u.worker (end_event (world_of m) u.worker t.region u.log.ran) = rw done.same.region at records in
+    open_more m n u.worker (end_event (world_of m) u.worker t.region u.log.ran) v own (ne_eqb t.region v.region (λ same. other (sym same))) is
+
+-- ---- a tick from its Begin to its End
+
+-- a Begin opens its tick
+pub opens : (m n : Meaning) (by k r : ℕ) (tick : Tick) → Begins m n by k r (Got tick) → IsOpen n tick
+opens m n by k r tick begins =
+    let given : IsTick (world_of m) (length m.history) k r tick = begins.2 in
+    let worker = given.worker in
+    let region = given.region in
+    let own : IsTick (world_of m) (length m.history) tick.worker tick.region tick = record {
+      worker = refl;
+      region = refl;
+      begun = given.begun;
+      of = given.of;
+      contents = given.contents;
+      ran = given.ran;
+      wishes = given.wishes;
+      next = given.next;
+      moved = given.moved;
+    } in
+    record {
+      before = m.history;
+      since = [];
+      by = by;
+      begin = rw (worker, region) begins.3.history;
+      runs_on = tt;
+      is = rw begins.3.opening own;
+    }
+
+-- an open tick may run
+pub may_run_open : (m : Meaning) (t : Tick) → IsGrid m.opening.grid → Run m.opening m.history → IsOpen m t → MayRun t
+may_run_open m t grid run is =
+    let e : Entry = record { by = is.by; event = Begin t.worker t.region } in
+    let split : m.history ≡ (is.before ++ e ∷ []) ++ is.since = is.begin ∙ sym (append_assoc is.before (e ∷ []) is.since) in
+    let whole : Run m.opening ((is.before ++ e ∷ []) ++ is.since) = rw split at run in
+    let behind : Good m.opening (world m.opening (is.before ++ e ∷ [])) = good_run m.opening (is.before ++ e ∷ []) is.since grid whole in
+    let good : Good m.opening (begun (world m.opening is.before) t.worker t.region) = rw (world_more (start m.opening) is.before e) at behind in
+    may_run m.opening (world m.opening is.before) t.worker t.region (length is.before) t good is.is
+
+-- and when it has run it is out
+pub out_when_run : (m : Meaning) (t u : Tick) (xs : List HostCall) → IsOpen m t → Finishes t u xs → IsOut m u
+out_when_run m t u xs is done =
+    out_since m.opening is.before t.worker t.region t u xs is.is done m is.by is.since refl is.begin is.runs_on
+
+-- ---- what a query tells
+
+-- an id that has a state was given out
+pub given_state : (w : World) (id : ℕ) (s : Option State) → s ≡ state_result w id → is_some s ≡ true → IsGiven w id
+given_state w id s told some = elim (cases_Bool (nat_lt 0 id && nat_lt id w.grid.next)) [
+  | inl given ↦
+      let both = and_parts (nat_lt 0 id) (nat_lt id w.grid.next) given in
+      record { above = ltb-true 0 id both.0; below = ltb-true id w.grid.next both.1 }
+  | inr never ↦
+      let none : s ≡ None = rw never at told in
+      let stateless : false ≡ true = rw none at some in
+      absurd (cc)
+]

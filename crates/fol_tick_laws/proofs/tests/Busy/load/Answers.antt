@@ -1,0 +1,7 @@
+use Rattle.fol_tick_laws.proofs.OpenTicks.{open_loaded}
+use Rattle.fol_tick_laws.proofs.tests.Busy.load.Goals as goal
+
+pub returns : goal.returns
+returns g c =
+    rw (← c.self.view_is)
+    (open_loaded c.self.inside.core c.load.new.self c.args.caller c.args.chunk c.in-Ok.answer c.in-Ok.ensures.recorded)

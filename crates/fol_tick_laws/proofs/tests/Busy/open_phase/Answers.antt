@@ -1,0 +1,7 @@
+use Rattle.fol_tick_laws.proofs.OpenTicks.{open_phased}
+use Rattle.fol_tick_laws.proofs.tests.Busy.open_phase.Goals as goal
+
+pub returns : goal.returns
+returns g c =
+    rw (← c.self.view_is)
+    (open_phased c.self.inside.core c.open_phase.new.self 0 1 c.in-Ok.answer c.in-Ok.ensures.recorded)

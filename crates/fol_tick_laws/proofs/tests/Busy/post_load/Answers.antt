@@ -1,0 +1,20 @@
+use Rattle.std.proofs.Common.{refl}
+use Rattle.fol_model.specs.Geometry.{is_chunk}
+use Rattle.fol_model.specs.Limits.{is_delay}
+use Rattle.fol_tick_laws.proofs.OpenTicks.{open_posted}
+use Rattle.fol_tick_laws.proofs.tests.Busy.post_load.Goals as goal
+
+pub post-requires-clause-in_range : goal.post-requires-clause-in_range
+unfolding is_chunk
+post-requires-clause-in_range g c = refl
+
+pub post-requires-clause-delay : goal.post-requires-clause-delay
+unfolding is_delay
+post-requires-clause-delay g c = refl
+
+pub post-requires-clause-action : goal.post-requires-clause-action
+unfolding is_chunk
+post-requires-clause-action g c = refl
+
+pub returns : goal.returns
+returns g c = rw (← c.self.view_is) (open_posted c.self.inside.core c.post.new.self _ _ _ _ c.post.result c.post.ensures.recorded c.post.ensures.refused)

@@ -1,0 +1,51 @@
+-- Ticks that are open at once.
+use Rattle.std.specs.Prelude.{ℕ, ◌≡◌, ◌≢◌, false, List, ◌∷◌, ◌++◌, length}
+use Rattle.fol_model.specs.declared.events.Event.TheVariants.{Begin}
+use Rattle.fol_model.specs.declared.events.Entry.{Entry}
+use Rattle.fol_model.specs.declared.events.Event.{Event}
+use Rattle.fol_model.specs.GridNumbers.{IsGrid}
+use Rattle.fol_model.specs.OpenTick.{NoEnd, is_end}
+use Rattle.fol_model.specs.Run.{Run, world}
+use Rattle.fol_data.specs.declared.tick.Tick.{Tick}
+use Rattle.fol_tick.specs.Calls.{HostCall}
+use Rattle.fol_tick.specs.Runs.{Finishes, MayRun}
+use Rattle.fol_core.specs.Answers.{Begins}
+use Rattle.fol_core.specs.declared.answers.BeginAnswer.TheVariants.{Got}
+use Rattle.fol_core.specs.Meaning.{Meaning, Records}
+use Rattle.fol_core.specs.Ticks.{IsOut, IsTick}
+
+-- the tick is that of a Begin in the history, which no End of its region follows, and none of its tasks has run
+pub record IsOpen (m : Meaning) (tick : Tick) : Type 0 where
+  pub before : List Entry
+  pub since : List Entry
+  pub by : ℕ
+  pub begin : m.history ≡ before ++ (record { by = by; event = Begin tick.worker tick.region }) ∷ since
+  pub runs_on : NoEnd tick.region since
+  pub is : IsTick (world m.opening before) (length before) tick.worker tick.region tick
+
+-- each open tick is still open
+abbrev pub KeepsOpen : Meaning → Meaning → Type 0
+KeepsOpen old new = (t : Tick) → IsOpen old t → IsOpen new t
+
+-- each open tick of another region is still open
+abbrev pub KeepsOthers : Meaning → Meaning → ℕ → Type 0
+KeepsOthers old new r = (t : Tick) → t.region ≢ r → IsOpen old t → IsOpen new t
+
+-- ---- laws
+
+-- the tick that a Begin gives out is open
+abbrev pub BegunTickIsOpen : Type 0
+BegunTickIsOpen = (old new : Meaning) (by worker region : ℕ) (tick : Tick) → Begins old new by worker region (Got tick) → IsOpen new tick
+
+-- an entry that is no End of its region leaves a tick open
+abbrev pub OnlyItsEndClosesATick : Type 0
+OnlyItsEndClosesATick = (old new : Meaning) (by : ℕ) (event : Event) (tick : Tick) → Records old new by event → is_end tick.region event ≡ false → IsOpen old tick
+    → IsOpen new tick
+
+-- in a run, an open tick is one that may be run
+abbrev pub OpenTickMayRun : Type 0
+OpenTickMayRun = (m : Meaning) (tick : Tick) → IsGrid m.opening.grid → Run m.opening m.history → IsOpen m tick → MayRun tick
+
+-- when all of its tasks have run, whatever its host answered, it is one that may be given back
+abbrev pub FinishedTickIsOut : Type 0
+FinishedTickIsOut = (m : Meaning) (tick finished : Tick) (calls : List HostCall) → IsOpen m tick → Finishes tick finished calls → IsOut m finished

@@ -1,0 +1,33 @@
+//! What holds of each tick that a core gives out, however many are open at once.
+//!
+//! `fol_core` gives out a tick at a Begin and takes it back at its End; `fol_tick` runs it in between. The laws here join the two: a tick
+//! that was given out, and whose End is not recorded, may be run, and when it has run it may be given back. Other entries may come in
+//! between, Begins and Ends of other regions among them.
+//!
+//! Each law is the contract of a function with an empty body. It serves whoever runs the ticks of a core.
+#![tactic(auto)]
+
+ghost use Rattle.fol_tick_laws.specs.OpenTicks.{BegunTickIsOpen, FinishedTickIsOut, OnlyItsEndClosesATick, OpenTickMayRun};
+
+#[cfg(test)]
+mod tests;
+
+/// The tick that a Begin gives out is open.
+pub fn begun_tick_is_open()
+    ensures { BegunTickIsOpen }
+{}
+
+/// It stays open at every entry but the End of its region.
+pub fn only_its_end_closes_a_tick()
+    ensures { OnlyItsEndClosesATick }
+{}
+
+/// While it is open it may be run.
+pub fn open_tick_may_run()
+    ensures { OpenTickMayRun }
+{}
+
+/// When it has run, and is still open, it may be given back.
+pub fn finished_tick_is_out()
+    ensures { FinishedTickIsOut }
+{}
