@@ -41,7 +41,9 @@ use Rattle.fol_core.specs.declared.answers.Posting.TheVariants as postings
 use Rattle.fol_core.specs.declared.answers.Close.TheVariants as closes
 use Rattle.fol_solo.specs.Calm.{Calm}
 use Rattle.fol_solo.specs.Progress.{Did, Executes, Finishes, IsCalm, NoneOwes, phase_after}
+use Rattle.fol_solo.specs.Prompt.{MayStandBehind}
 use Rattle.fol_solo.proofs.Phases.{phase_loaded, phase_posted, phase_unloaded}
+use Rattle.fol_solo.proofs.Promptness.{follows_both}
 use Rattle.fol_solo.proofs.Growth.{calm_more}
 
 -- ---- the rules after a calm history
@@ -67,19 +69,22 @@ orders_more h e = flat_map-append (λ (x : Entry). orders_of x.event) h (e ∷ [
 -- what an event has to be for the command that it carries out
 pub record Carries (w : World) (event : Event) (c : Command) : Type 0 where
   pub of_one : is_of 1 event ≡ true
-  pub other : nat_eq (worker_of event) 1 ≡ false
+  pub caller : worker_of event ≡ 0
   pub begins : (r : ℕ) → is_begin r event ≡ false
   pub stopped : (after w event).stopped ≡ w.stopped
   pub finished : (after w event).finished ≡ w.finished
   pub order : orders_of event ≡ order c ∷ []
   pub phase : (after w event).in_phase ≡ phase_after c w.in_phase
   pub sum : (after w event).sum ≡ w.sum + ticks_of c
+  -- behind an entry of a worker it is the close of a phase
+  pub prompt : (k : ℕ) → MayStandBehind k c → k ≢ 0 → event ≡ events.PhaseClose
 
 executes_more : (o : Opening) (h : List Entry) (e : Entry) (c : Command) → Carries (world o h) e.event c → Executes o h (h ++ e ∷ []) c
 executes_more o h e c carries = record {
   orders = orders_more h e ∙ ap (λ xs. orders h ++ xs) carries.order;
   phase = rw (world_more (start o) h e) carries.phase;
   sum = rw (world_more (start o) h e) carries.sum;
+  prompt = λ k stands follows. follows_both 0 k 0 h (e ∷ []) follows (λ worker own. carries.prompt k stands worker, carries.caller);
 }
 
 pub did_event : (old new : Meaning) (by : ℕ) (event : Event) (c : Command) → IsCalm old → Records old new by event → Run new.opening new.history
@@ -88,7 +93,7 @@ did_event old new by event c calm records run carries =
     let e : Entry = record { by = by; event = event } in
     let whole : Run old.opening (old.history ++ e ∷ []) = rw (records.opening, records.history) at run in
     let still : Calm old.opening (old.history ++ e ∷ [])
-    = calm_more old.opening old.history e calm whole carries.of_one carries.other carries.begins carries.stopped carries.finished in
+    = calm_more old.opening old.history e calm whole carries.of_one (rw carries.caller refl) carries.begins carries.stopped carries.finished in
     record {
       opening = records.opening;
       calm = rw (records.opening, records.history) still;
@@ -98,13 +103,14 @@ did_event old new by event c calm records run carries =
 carries_load : (w : World) (c : ChunkPos) (a : Loaded) → Carries w (events.Load 0 c a) (command.Load c)
 carries_load w c a = let same = phase_loaded w c in record {
   of_one = refl;
-  other = refl;
+  caller = refl;
   begins = λ r. refl;
   stopped = same.stopped;
   finished = same.finished;
   order = refl;
   phase = same.in_phase;
   sum = same.sum ∙ omega arith;
+  prompt = λ k zero worker. absurd (worker zero);
 }
 
 no_over : (w : World) (c : ChunkPos) → w.finished ≡ false → load_result w c ≢ loads.Over
@@ -127,13 +133,14 @@ did_load old new c a calm answer records run =
 carries_unload : (w : World) (c : ChunkPos) (a : Unloaded) → Carries w (events.Unload 0 c a) (command.Unload c)
 carries_unload w c a = let same = phase_unloaded w c in record {
   of_one = refl;
-  other = refl;
+  caller = refl;
   begins = λ r. refl;
   stopped = same.stopped;
   finished = same.finished;
   order = refl;
   phase = same.in_phase;
   sum = same.sum ∙ omega arith;
+  prompt = λ k zero worker. absurd (worker zero);
 }
 
 no_unload_over : (w : World) (c : ChunkPos) → w.finished ≡ false → unload_result w c ≢ unloads.Over
@@ -158,13 +165,14 @@ did_unload old new c a calm answer records run =
 carries_post : (w : World) (c : ChunkPos) (d : ℕ) (x : Action) (a : Accept) → Carries w (events.Post 0 c d x a) (command.Post c d x)
 carries_post w c d x a = let same = phase_posted w c d x in record {
   of_one = refl;
-  other = refl;
+  caller = refl;
   begins = λ r. refl;
   stopped = same.stopped;
   finished = same.finished;
   order = refl;
   phase = same.in_phase;
   sum = same.sum ∙ omega arith;
+  prompt = λ k zero worker. absurd (worker zero);
 }
 
 no_post_over : (w : World) (c : ChunkPos) (x y : Action) → w.finished ≡ false → postings.Over y ≢ post_result w c x
@@ -195,31 +203,33 @@ pub did_every : (old new : Meaning) (c : ChunkPos) (d p n : ℕ) (x : Action) �
 did_every old new c d p n x did = record {
   opening = did.opening;
   calm = did.calm;
-  executes = record { orders = did.executes.orders; phase = did.executes.phase; sum = did.executes.sum };
+  executes = record { orders = did.executes.orders; phase = did.executes.phase; sum = did.executes.sum; prompt = did.executes.prompt };
 }
 
 pub did_open : (old new : Meaning) (n : ℕ) → IsCalm old → Records old new 0 (events.PhaseOpen n) → Run new.opening new.history → Did old new (command.Run n)
 did_open old new n calm records run = did_event old new 0 (events.PhaseOpen n) (command.Run n) calm records run (record {
   of_one = refl;
-  other = refl;
+  caller = refl;
   begins = λ r. refl;
   stopped = refl;
   finished = refl;
   order = refl;
   phase = refl;
   sum = refl;
+  prompt = λ k zero worker. absurd (worker zero);
 })
 
 pub did_close : (old new : Meaning) → IsCalm old → Records old new 0 events.PhaseClose → Run new.opening new.history → Did old new command.End
 did_close old new calm records run = did_event old new 0 events.PhaseClose command.End calm records run (record {
   of_one = refl;
-  other = refl;
+  caller = refl;
   begins = λ r. refl;
   stopped = refl;
   finished = refl;
   order = refl;
   phase = refl;
   sum = omega arith;
+  prompt = λ k any worker. refl;
 })
 
 -- ---- the end of a phase

@@ -1,4 +1,5 @@
 -- histories that go on
+pub mod Promptness
 pub mod Turning
 pub mod Phases
 pub mod Growth
@@ -9,9 +10,7 @@ pub mod CoreCalls
 pub mod ServedCalls
 pub mod ToldAgain
 pub mod TickTurns
-pub mod FreshArrivals
-pub mod BegunTicks
-pub mod FinishedTicks
+pub mod CalmTicks
 pub mod TickRuns
 pub mod TickCalls
 -- scripts

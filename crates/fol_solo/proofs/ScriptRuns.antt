@@ -25,6 +25,8 @@ use Rattle.fol_core.specs.Meaning.{Meaning, world_of}
 use Rattle.fol_core.specs.Answers.{is_ticking_in}
 use Rattle.fol_solo.specs.Calm.{Calm}
 use Rattle.fol_solo.specs.Progress.{Closes, Did, Executes, Finishes, IsCalm, MayExecute, ToDo, phase_after}
+use Rattle.fol_solo.specs.Prompt.{Follows, IsPrompt}
+use Rattle.fol_solo.proofs.Promptness.{follows_both, follows_prompt, stands_behind_caller}
 use Rattle.fol_solo.proofs.Turning.{turns_past, turns_whole}
 use Rattle.fol_solo.proofs.Growth.{all_more}
 use Rattle.fol_solo.proofs.CoreCalls.{orders_more}
@@ -41,6 +43,7 @@ todo_start o all script = record {
   each = script.each;
   runs = script.runs;
   ticks = omega (arith, script.ticks);
+  prompt = refl;
 }
 
 -- ---- the next command
@@ -72,6 +75,7 @@ todo_more o h later c rest all todo done = record {
   each = (and_parts (is_command c) (list_all is_command rest) todo.each).1;
   runs = rw done.phase (runs_on (world o h).in_phase c rest todo.runs);
   ticks = omega (arith, sum_by-cons ticks_of c rest, todo.ticks, done.sum);
+  prompt = done.prompt 0 (stands_behind_caller c) todo.prompt;
 }
 
 -- ---- after the last command
@@ -100,6 +104,12 @@ legal_closing m all c calm todo closes =
     let run : Run m.opening (m.history ++ (record { by = 0; event = events.Finish }) ∷ []) = rw closes.history at closes.run in
     rw closes.history (legal_finish m.opening m.history all calm todo run)
 
+-- Finish comes behind the last line of the script
+prompt_finish : (h : List Entry) → Follows 0 h 0 → IsPrompt (h ++ (record { by = 0; event = events.Finish }) ∷ [])
+prompt_finish h follows =
+    let e : Entry = record { by = 0; event = events.Finish } in
+    follows_prompt 0 0 (h ++ e ∷ []) (follows_both 0 0 0 h (e ∷ []) follows (λ never own. absurd (never refl), refl))
+
 -- the closing of a history that was finished
 pub closes_finished : (m n : Meaning) (c : Closing) → Finishes m n → Outputs n.opening n.history c → Closes m c
 closes_finished m n c finishes outputs =
@@ -117,6 +127,11 @@ pub legal_answer : {E : Type 0} → (m : Meaning) (all : List Command) (r : Resu
     → IfOk r (λ c. Closes m c) → IfOk r (λ c. Legal m.opening all 1 c.history)
 legal_answer m all (Ok c) calm todo closes = legal_closing m all c calm todo closes
 legal_answer m all (Err e) calm todo closes = tt
+
+pub prompt_answer : {E : Type 0} → (m : Meaning) (all : List Command) (r : Result Closing E) → ToDo m.opening m.history [] all
+    → IfOk r (λ c. Closes m c) → IfOk r (λ c. IsPrompt c.history)
+prompt_answer m all (Ok c) todo closes = rw closes.history (prompt_finish m.history todo.prompt)
+prompt_answer m all (Err e) todo closes = tt
 
 pub outputs_answer : {E : Type 0} → (m : Meaning) (r : Result Closing E) → IfOk r (λ c. Closes m c) → IfOk r (λ c. Outputs m.opening c.history c)
 outputs_answer m (Ok c) closes = closes.rows

@@ -46,14 +46,14 @@ pub open_load : (m n : Meaning) (c : ChunkPos) (r : Result Loaded AllocError) �
     → (world_of m).finished ≡ false → (world_of n).finished ≡ false
 open_load m n c (Ok loads.Counted) records stays free = open_recorded m n 1 (Load 1 c loads.Counted) records (phase_loaded (world_of m) c).finished free
 open_load m n c (Ok (loads.Full present wanted)) records stays free = open_recorded m n 1 (Load 1 c (loads.Full present wanted)) records (phase_loaded (world_of m) c).finished free
-open_load m n c (Ok loads.Over) records stays free = open_stays m n records free
+open_load m n c (Ok loads.Over) same stays free = open_stays m n (record { opening = same.opening; history = same.history }) free
 open_load m n c (Err e) records stays free = open_stays m n stays free
 
 pub open_unload : (m n : Meaning) (c : ChunkPos) (r : Result Unloaded AllocError) → IfOk r (λ a. UnloadRecords m n 1 c a) → OnErr r (Stays m n)
     → (world_of m).finished ≡ false → (world_of n).finished ≡ false
 open_unload m n c (Ok unloads.Lowered) records stays free = open_recorded m n 1 (Unload 1 c unloads.Lowered) records (phase_unloaded (world_of m) c).finished free
 open_unload m n c (Ok unloads.NoTicket) records stays free = open_recorded m n 1 (Unload 1 c unloads.NoTicket) records (phase_unloaded (world_of m) c).finished free
-open_unload m n c (Ok unloads.Over) records stays free = open_stays m n records free
+open_unload m n c (Ok unloads.Over) same stays free = open_stays m n (record { opening = same.opening; history = same.history }) free
 open_unload m n c (Err e) records stays free = open_stays m n stays free
 
 -- ---- what calls leave as it was

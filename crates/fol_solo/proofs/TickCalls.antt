@@ -11,19 +11,16 @@ use Rattle.fol_data.specs.declared.tick.Tick.{Tick}
 use Rattle.fol_tick.specs.Calls.{HostCall}
 use Rattle.fol_tick.specs.Runs.{Finishes}
 use Rattle.fol_core.specs.Meaning.{Meaning, Records, Stays, world_of}
-use Rattle.fol_core.specs.Answers.{IsGiven, end_event, is_owing}
+use Rattle.fol_core.specs.Answers.{end_event, is_owing}
 use Rattle.fol_core.specs.Ticks.{IsTick}
 use Rattle.fol_solo.specs.HostEntries.{Serves, entries_of}
 use Rattle.fol_solo.specs.Progress.{IsCalm, Ticked}
-use Rattle.fol_solo.proofs.FinishedTicks.{region_is, worker_is}
+use Rattle.fol_tick_laws.proofs.FinishedTicks.{region_is, worker_is}
 use Rattle.fol_solo.proofs.Phases.{phase_begun, phase_ended}
 use Rattle.fol_solo.proofs.ServedCalls.{open_recorded, open_stays}
 use Rattle.fol_solo.proofs.TickRuns.{calm_ticked, continues_ticked, with_calls, with_tick, end_by}
 
 -- ---- the Begin
-
-pub given_stays : (m n : Meaning) (r : ℕ) → Stays m n → IsGiven (world_of m) r → IsGiven (world_of n) r
-given_stays m n r stays given = rw (stays.opening, stays.history) given
 
 -- a Begin leaves an open history open, and so does an End that found its memory
 pub open_begun : (m n : Meaning) (r : ℕ) → Records m n 1 (Begin 1 r) → (world_of m).finished ≡ false → (world_of n).finished ≡ false
@@ -54,7 +51,7 @@ module _ (m : Meaning) (r : ℕ) (a b : Tick) (xs : List HostCall) (calm : IsCal
   tick_done l k n begun serves ends run =
       let w : World = world_of k in
       let own : Records k n 1 (end_event w 1 r b.log.ran)
-      = rw (worker_is m.opening m.history r a b xs is done, region_is m.opening m.history r a b xs is done) at ends in
+      = rw (worker_is m.opening m.history 1 r a b xs is done, region_is m.opening m.history 1 r a b xs is done) at ends in
       let called : k.history ≡ with_calls m.history r xs = serves.history ∙ ap (λ h. h ++ entries_of xs) begun.history in
       let tick : ℕ = w.tick r + 1 in
       let accepts : List Accept = answers (run_down w r b.log.ran) (ticked w r b.log.ran).wishes in

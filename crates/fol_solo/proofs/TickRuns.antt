@@ -26,12 +26,14 @@ use Rattle.fol_core.specs.Ticks.{IsTick}
 use Rattle.fol_solo.specs.Calm.{Calm}
 use Rattle.fol_solo.specs.HostEntries.{entries_of}
 use Rattle.fol_solo.specs.Progress.{Continues}
+use Rattle.fol_solo.specs.Prompt.{Follows}
 use Rattle.fol_solo.specs.Turns.{Turns}
-use Rattle.fol_solo.proofs.BegunTicks.{due_is}
+use Rattle.fol_tick_laws.proofs.BegunTicks.{due_is}
 use Rattle.fol_solo.proofs.CoreCalls.{orders_more}
-use Rattle.fol_solo.proofs.FinishedTicks.{all_ran, all_served}
+use Rattle.fol_tick_laws.proofs.FinishedTicks.{all_ran, all_served}
 use Rattle.fol_solo.proofs.Growth.{all_more}
 use Rattle.fol_solo.proofs.Phases.{SamePhase, phase_begun, phase_ended, phase_then}
+use Rattle.fol_solo.proofs.Promptness.{follows_both, follows_calls, follows_worker}
 use Rattle.fol_solo.proofs.ServedCalls.{after_both, orders_served, phase_served, ticks_served, workers_served}
 use Rattle.fol_solo.proofs.TickTurns.{turns_both, turns_served}
 use Rattle.fol_solo.proofs.ToldAgain.{told_again}
@@ -78,8 +80,15 @@ module _ (o : Opening) (h : List Entry) (r : ℕ) (xs : List HostCall) (tick : �
       ∙ orders_served (h ++ begin_by r ∷ []) xs
       ∙ orders_more h (begin_by r) ∙ append-nil (orders h)
 
+  -- its entries, all of worker 1, may stand behind any
+  prompt_ticked : ((k : ℕ) × Follows 0 h k) → (f : ℕ) × Follows 0 (with_tick h r xs tick ran accepts) f
+  prompt_ticked before =
+      let begun = follows_both 0 before.0 1 h (begin_by r ∷ []) before.1 (follows_worker before.0 (begin_by r) refl) in
+      let called = follows_both 0 1 1 (h ++ begin_by r ∷ []) (entries_of xs) begun (follows_calls xs) in
+      (1, follows_both 0 1 1 (with_calls h r xs) (end_by r tick ran accepts ∷ []) called (follows_worker 1 (end_by r tick ran accepts) refl))
+
   pub continues_ticked : Continues o h (with_tick h r xs tick ran accepts)
-  continues_ticked = record { orders = orders_ticked; phase = phase_ticked.in_phase; sum = phase_ticked.sum }
+  continues_ticked = record { orders = orders_ticked; phase = phase_ticked.in_phase; sum = phase_ticked.sum; prompt = prompt_ticked }
 
   -- no region ticks behind the End
   rests_ticked : Calm o h → (q : ℕ) → (world o (with_tick h r xs tick ran accepts)).grid.state q ≢ Ticking
@@ -104,18 +113,18 @@ module _ (o : Opening) (h : List Entry) (r : ℕ) (a b : Tick) (xs : List HostCa
   answers = told (hosted a.due) xs
 
   same_due : a.due ≡ due v r
-  same_due = due_is o h r (length h) a calm owing is
+  same_due = due_is (world o h) 1 r (length h) a is
 
   turns_begun : Turns 1 (start o) idle (h ++ begin_by r ∷ []) (ticking r (hosted a.due) [])
   turns_begun = rw same_due (turns_more 1 (start o) idle idle h (begin_by r) calm.turns (λ mine. tt))
 
   turns_called : Turns 1 (start o) idle (with_calls h r xs) (ticking r [] answers)
   turns_called = turns_both 1 (start o) idle (ticking r (hosted a.due) []) (ticking r [] answers) (h ++ begin_by r ∷ []) (entries_of xs) turns_begun
-      (turns_served (world o (h ++ begin_by r ∷ [])) r (hosted a.due) xs [] (all_served o h r a b xs is done))
+      (turns_served (world o (h ++ begin_by r ∷ [])) r (hosted a.due) xs [] (all_served o h 1 r a b xs is done))
 
   outcomes_told : filter (λ (x : Ran). list_any (λ (y : Ran). nat_eq y.number x.number) answers) b.log.ran ≡ answers
-  outcomes_told = rw (all_ran o h r a b xs is done)
-      (told_again (is_recorded a.chunks) (flat_of a.body.chunks) a.due xs (rw same_due (due_tasks_rise v r)) (all_served o h r a b xs is done))
+  outcomes_told = rw (all_ran o h 1 r a b xs is done)
+      (told_again (is_recorded a.chunks) (flat_of a.body.chunks) a.due xs (rw same_due (due_tasks_rise v r)) (all_served o h 1 r a b xs is done))
 
   turns_ticked : Turns 1 (start o) idle (with_tick h r xs tick b.log.ran accepts) idle
   turns_ticked = turns_more 1 (start o) idle (ticking r [] answers) (with_calls h r xs) (end_by r tick b.log.ran accepts) turns_called (λ mine. (refl, outcomes_told))

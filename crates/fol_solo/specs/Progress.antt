@@ -16,6 +16,7 @@ use Rattle.fol_model.specs.declared.events.Event.TheVariants as events
 use Rattle.fol_core.specs.Meaning.{Meaning, Records, world_of}
 use Rattle.fol_core.specs.Answers.{is_owing}
 use Rattle.fol_solo.specs.Calm.{Calm}
+use Rattle.fol_solo.specs.Prompt.{Follows, MayStandBehind}
 
 -- whether a phase is open after the command
 abbrev pub phase_after : Command → Bool → Bool
@@ -34,12 +35,16 @@ pub record Continues (o : Opening) (h later : List Entry) : Type 0 where
   pub orders : orders later ≡ orders h
   pub phase : (world o later).in_phase ≡ (world o h).in_phase
   pub sum : (world o later).sum ≡ (world o h).sum
+  -- a prompt history stays prompt, whoever's its last entry is
+  pub prompt : ((k : ℕ) × Follows 0 h k) → (f : ℕ) × Follows 0 later f
 
 -- between two histories the command was carried out
 pub record Executes (o : Opening) (h later : List Entry) (c : Command) : Type 0 where
   pub orders : orders later ≡ orders h ++ order c ∷ []
   pub phase : (world o later).in_phase ≡ phase_after c (world o h).in_phase
   pub sum : (world o later).sum ≡ (world o h).sum + ticks_of c
+  -- a prompt history behind whose last entry the command may stand stays prompt, and its last entry is then caller 0's
+  pub prompt : (k : ℕ) → MayStandBehind k c → Follows 0 h k → Follows 0 later 0
 
 -- all commands were carried out but the rest, which can be carried out one after another
 pub record ToDo (o : Opening) (h : List Entry) (rest all : List Command) : Type 0 where
@@ -47,6 +52,8 @@ pub record ToDo (o : Opening) (h : List Entry) (rest all : List Command) : Type 
   pub each : IsTrue (list_all is_command rest)
   pub runs : IsTrue (alternates (world o h).in_phase rest)
   pub ticks : (world o h).sum + sum_by ticks_of rest ≤ 10000
+  -- the history is prompt, and its last entry, if it has one, is caller 0's
+  pub prompt : Follows 0 h 0
 
 -- worker 1 is at nothing, and no region ticks; the history is neither stopped nor finished
 abbrev pub IsCalm : Meaning → Type 0

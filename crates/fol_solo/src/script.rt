@@ -5,6 +5,7 @@ ghost use Rattle.fol_model.specs.Legal.{Legal};
 ghost use Rattle.fol_model.specs.Outputs.{Outputs};
 ghost use Rattle.fol_core.specs.Meaning.{world_of};
 ghost use Rattle.fol_solo.specs.Progress.{Closes, Finishes, IsCalm};
+ghost use Rattle.fol_solo.specs.Prompt.{IsPrompt};
 
 use crate::solo::{CALLER, Solo};
 use fol_core::{CloseFault, Core, Finish};
@@ -16,7 +17,8 @@ use std::sync::Wait;
 /// Runs a script on the world of an opening, with worker 1 alone, and passes the gate in each tick. The lines inside a run are issued
 /// straight after its phase is opened. Answers want of memory alone.
 ///
-/// The closing is that of one legal history.
+/// The closing is that of one legal history, in which no line of the script but the close of a phase stands straight behind an entry of
+/// the worker.
 pub fn run_script<R: Wait, G: Gate + Sync>(
     rt: &R,
     alloc: Global,
@@ -25,6 +27,7 @@ pub fn run_script<R: Wait, G: Gate + Sync>(
     gate: &G,
 ) -> Result<Closing, AllocError>
     ensures legal { IfOk result (λ c. Legal opening script 1 c.history) }
+    ensures prompt { IfOk result (λ c. IsPrompt c.history) }
     ensures outputs { IfOk result (λ c. Outputs opening c.history c) }
 {
     let mut solo = Solo::start(alloc, opening)?;

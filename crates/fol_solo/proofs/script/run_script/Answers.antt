@@ -2,7 +2,7 @@ use Rattle.std.proofs.Common.{◌≡◌, ◌∙◌, sym, ap, arith, List, length
 use Rattle.std.specs.Vec.Iter.{into_iter_items}
 use Rattle.fol_model.specs.declared.scripts.Command.{Command}
 use Rattle.fol_model.specs.IsScript.{IsScript}
-use Rattle.fol_solo.proofs.ScriptRuns.{legal_answer, may_next, outputs_answer, phase_closed, todo_end, todo_next, todo_start}
+use Rattle.fol_solo.proofs.ScriptRuns.{legal_answer, may_next, outputs_answer, phase_closed, prompt_answer, todo_end, todo_next, todo_start}
 use Rattle.fol_solo.proofs.script.run_script.Goals as goal
 
 pub loop-command-init : goal.loop-command-init
@@ -48,5 +48,6 @@ returns g c =
     let todo = todo_end c.loop-command.solo left c.args.script none c.loop-command.invariant.todo in
     record {
       legal = rw (← c.loop-command.invariant.opening) (legal_answer c.loop-command.solo c.args.script c.close.result c.loop-command.invariant.calm todo c.close.ensures);
+      prompt = prompt_answer c.loop-command.solo c.args.script c.close.result todo c.close.ensures;
       outputs = rw (← c.loop-command.invariant.opening) (outputs_answer c.loop-command.solo c.close.result c.close.ensures);
     }

@@ -1,17 +1,10 @@
-use Rattle.fol_core.specs.Answers.{IsGiven}
-use Rattle.fol_core.specs.Meaning.{world_of}
 use Rattle.fol_solo.proofs.CoreCalls.{owing_given}
 use Rattle.fol_solo.proofs.ServedCalls.{open_stays}
-use Rattle.fol_solo.proofs.TickCalls.{given_stays, open_begun}
+use Rattle.fol_solo.proofs.TickCalls.{open_begun}
 use Rattle.fol_solo.proofs.solo.Solo.begin.Goals as goal
 
 pub reserve-requires : goal.reserve-requires
 reserve-requires c = record { given = rw c.self.view_is (owing_given c.args.self.now c.args.region c.requires.calm c.requires.owing) }
-
-pub begin-requires-clause-given : goal.begin-requires-clause-given
-begin-requires-clause-given c =
-    let given : IsGiven (world_of c.self.inside.core) c.args.region = rw c.self.view_is (owing_given c.args.self.now c.args.region c.requires.calm c.requires.owing) in
-    given_stays c.self.inside.core c.reserve.new.self c.args.region c.in_ok-reserve.ensures.same given
 
 pub invariant_of-self-2 : goal.invariant_of-self-2
 invariant_of-self-2 c =

@@ -1,13 +1,16 @@
 use Rattle.std.proofs.Common.{length}
-use Rattle.fol_solo.proofs.BegunTicks.{may_run}
-use Rattle.fol_solo.proofs.FinishedTicks.{is_out}
+use Rattle.fol_core.specs.Meaning.{Meaning, world_of}
+use Rattle.fol_tick_laws.proofs.BegunTicks.{may_run}
+use Rattle.fol_solo.proofs.CalmTicks.{good_begun}
+use Rattle.fol_solo.proofs.CalmTicks.{is_out}
 use Rattle.fol_solo.proofs.TickCalls.{tick_done}
 use Rattle.fol_solo.proofs.solo.Solo.tick.Goals as goal
 
 pub run_tick-requires : goal.run_tick-requires
 run_tick-requires g c =
-    may_run c.args.self.now.opening c.args.self.now.history c.args.region (length c.args.self.now.history) c.in_ok-tick.tick
-    c.requires.calm c.requires.owing c.in_ok-tick.ensures.is
+    let m : Meaning = c.args.self.now in
+    may_run m.opening (world_of m) 1 c.args.region (length m.history) c.in_ok-tick.tick
+    (good_begun m.opening m.history c.args.region c.requires.calm c.requires.owing) c.in_ok-tick.ensures.is
 
 pub end-requires : goal.end-requires
 end-requires g c =
