@@ -1,20 +1,23 @@
 -- How the parts of a run end the whole.
 use Rattle.std.proofs.Common.{◌≡◌, ℕ, refl, List, true, false, inl, inr, arith}
-use Rattle.std.specs.Prelude.{Option, Some, ◌++◌}
+use Rattle.std.specs.Prelude.{Option, Some, ◌∷◌, ◌++◌}
 use Rattle.fol_model.specs.declared.openings.Opening.{Opening}
 use Rattle.fol_model.specs.declared.scripts.Command.{Command}
 use Rattle.fol_model.specs.declared.closings.Closing.{Closing}
+use Rattle.fol_model.specs.declared.events.Entry.{Entry}
 use Rattle.fol_model.specs.GridNumbers.{IsGrid}
-use Rattle.fol_model.specs.Run.{Run}
+use Rattle.fol_model.specs.Run.{Run, world}
 use Rattle.fol_model.specs.Legal.{Legal}
 use Rattle.fol_model.specs.Outputs.{Outputs}
 use Rattle.fol_model.specs.Texts.{IsScriptText, IsWorldText}
-use Rattle.fol_laws.proofs.RuleLaws.{rules_hold}
+use Rattle.fol_laws.proofs.DueLaws.{each_task_is_due, none_names_it_before}
+use Rattle.fol_laws.proofs.RuleLaws.{live_stay_few, none_waits_alone, ready_margin_holds, recorded_margin_holds, rules_hold, ticking_stay_apart}
 use Rattle.fol_gen.specs.MadeTexts as made
 use Rattle.fol_top.specs.Came.{Came}
 use Rattle.fol_top.specs.Command.{Request, make, request_in}
 use Rattle.fol_top.specs.Complaint.{IsTold}
 use Rattle.fol_top.specs.Inputs.{Inputs}
+use Rattle.fol_top.specs.Kept.{KeepsRules}
 use Rattle.fol_top.specs.Outcome.{Course}
 use Rattle.fol_top.specs.Report.{IsOutput, IsReport, IsSummary, Spelled, text_in}
 use Rattle.fol_top.specs.Spelling.{TextsEnd}
@@ -35,13 +38,24 @@ module _ (This That : List ℕ → Type 0) (each : (bytes : List ℕ) → This b
   ends_more endings.NoMemory h = h
   ends_more _ h = absurd h
 
+keeps_rules : (o : Opening) (es rest : List Entry) → IsGrid o.grid → Run o (es ++ rest) → KeepsRules (world o es)
+keeps_rules o es rest grid run = record {
+  rules = rules_hold o es rest grid run;
+  margin = ready_margin_holds o es rest grid run;
+  recorded = recorded_margin_holds o es rest grid run;
+  apart = ticking_stay_apart o es rest grid run;
+  none_waits = none_waits_alone o es rest grid run;
+  few = live_stay_few o es rest grid run;
+}
+
 pub is_report : (form : Form) (o : Opening) (cs : List Command) (c : Closing) → IsGrid o.grid → Legal o cs 1 c.history → Outputs o c.history c
     → (bytes : List ℕ) → bytes ≡ text_in form c → IsReport form o cs 1 bytes
 is_report form o cs c grid legal outputs bytes text = record {
   history = c.history;
   closing = c;
   legal = legal;
-  rules = λ es rest e. let run : Run o (es ++ rest) = rw e at legal.run in rules_hold o es rest grid run;
+  rules = λ es rest e. let run : Run o (es ++ rest) = rw e at legal.run in keeps_rules o es rest grid run;
+  tasks = λ es rest e n ch d a is accepts. let run : Run o (es ++ e ∷ rest) = rw is at legal.run in (each_task_is_due o es rest e n ch d a grid run accepts, none_names_it_before o es rest e n ch d a grid run accepts);
   outputs = outputs;
   text = text;
 }
@@ -58,6 +72,7 @@ is_summary clusters o cs world script bytes r = record {
     closing = r.closing;
     legal = legal_of_more o cs 1 4 r.history (omega arith) r.legal;
     rules = r.rules;
+    tasks = r.tasks;
     outputs = r.outputs;
     text = r.text;
   };

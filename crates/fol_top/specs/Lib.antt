@@ -1,6 +1,7 @@
 pub mod Command
 pub mod Asked
 pub mod Inputs
+pub mod Kept
 pub mod Report
 pub mod Ending
 pub mod Reading

@@ -13,12 +13,12 @@ use Rattle.fol_model.specs.Outputs.{Outputs}
 use Rattle.fol_model.specs.Report.{report_text}
 use Rattle.fol_model.specs.JsonReport.{json_text}
 use Rattle.fol_model.specs.Summary.{summary_text}
-use Rattle.fol_model.specs.Rules.{Rules}
 use Rattle.fol_model.specs.Run.{world}
 use Rattle.fol_gen.specs.MadeTexts as made
 use Rattle.fol_io.specs.Sink.{Received, ReceivedPrefix}
 use Rattle.fol_top.specs.Command.{make, request_in}
 use Rattle.fol_top.specs.Inputs.{Held, Inputs}
+use Rattle.fol_top.specs.Kept.{KeepsRules, KeepsTasks}
 use Rattle.fol_top.specs.declared.form.Form.{Form}
 use Rattle.fol_top.specs.declared.form.Form.TheVariants.{Text, Json, Summary}
 
@@ -28,12 +28,14 @@ text_in Text c = report_text c
 text_in Json c = json_text c
 text_in (Summary clusters) c = summary_text clusters c
 
--- the bytes are, in this form, the output of one legal history of the opening and the script, with so many workers; at each of its points the region rules hold
+-- the bytes are, in this form, the output of one legal history of the opening and the script, with so many workers; at each of its points
+-- the region rules hold, and each task that it accepts is queued or ran once, in its due tick
 pub record IsReport (form : Form) (o : Opening) (script : List Command) (workers : ℕ) (bytes : List ℕ) : Type 0 where
   pub history : List Entry
   pub closing : Closing
   pub legal : Legal o script workers history
-  pub rules : (es rest : List Entry) → history ≡ es ++ rest → Rules (world o es).grid
+  pub rules : (es rest : List Entry) → history ≡ es ++ rest → KeepsRules (world o es)
+  pub tasks : KeepsTasks o history
   pub outputs : Outputs o history closing
   pub text : bytes ≡ text_in form closing
 
