@@ -1,0 +1,11 @@
+pub mod NoArrivals
+pub mod Rows
+pub mod Numbers
+pub mod InkWords
+pub mod Actions
+pub mod Events
+pub mod ShortWords
+pub mod ShortTexts
+pub mod TellsEvents
+pub mod JsonPieces
+pub mod JsonTells
