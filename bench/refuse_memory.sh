@@ -4,23 +4,16 @@
 #
 #     bench/refuse_memory.sh [WORD ..]      a small library that the program is started with refuses
 #     FIRST=1 LAST=50 bench/refuse_memory.sh make 3      these numbers alone
-#     RUNNER=try LAST=50 bench/refuse_memory.sh WORD ..  the toolchain's own runner refuses; it compiles anew for each number, and does
-#                                                        not say how many there are
 #
+# It refuses in the program as users have it; bench/refuse_memory_checked.py does the same by the toolchain's own runner.
 # The words are the program's own; without words it takes examples/first and one worker. Status 0 means that each run was right.
 set -euo pipefail
 here=$(cd "$(dirname "${BASH_SOURCE[0]}")" && pwd)
 root=$(dirname "$here")
 words=("$@")
 [ "$#" -gt 0 ] || words=(run "$root/examples/first/world.txt" "$root/examples/first/script.txt" 1)
-data=()
-if [ "${words[0]}" = run ]; then
-    # The toolchain's runner copies the two files to where the program runs.
-    data=(--data "world.txt=$(readlink -f "${words[1]}")" --data "script.txt=$(readlink -f "${words[2]}")")
-fi
 first=${FIRST:-1}
 last=${LAST:-1000000}
-runner=${RUNNER:-library}
 work=$(mktemp -d)
 trap 'rm -rf "$work"' EXIT
 
@@ -88,31 +81,13 @@ C
 # run_with NUMBER: leaves the output in $work/out and the status in $status; 0 refuses nothing.
 run_with() {
     status=0
-    if [ "$runner" = try ]; then
-        local named=("${words[@]}")
-        [ "${words[0]}" != run ] || named=(run world.txt script.txt "${words[@]:3}")
-        (cd "$root/crates/fol_main" && rt try $([ "$1" = 0 ] || echo --fail-alloc "$1") "${data[@]}" -- "${named[@]}") \
-            >"$work/out" 2>"$work/err" || status=$?
-    else
-        REFUSE=$1 REFUSE_COUNT="$work/count" LD_PRELOAD="$work/refuse.so" \
-            "$root/crates/fol_main/out/fol_main" "${words[@]}" >"$work/out" 2>"$work/err" || status=$?
-    fi
+    REFUSE=$1 REFUSE_COUNT="$work/count" LD_PRELOAD="$work/refuse.so" \
+        "$root/crates/fol_main/out/fol_main" "${words[@]}" >"$work/out" 2>"$work/err" || status=$?
 }
 
-# How many allocations the whole run asks for; with more than one worker it may differ from run to run.
-count_all() {
-    if [ "$runner" = try ]; then
-        echo "$last"
-    else
-        cat "$work/count"
-    fi
-}
-
-if [ "$runner" != try ]; then
-    # With no words the program says that they are no command; this builds it where it is missing or old.
-    "$root/fol" >/dev/null 2>&1 || true
-    make_library
-fi
+# With no words the program says that they are no command; this builds it where it is missing or old.
+"$root/fol" >/dev/null 2>&1 || true
+make_library
 
 run_with 0
 if [ "$status" != 0 ]; then
@@ -120,7 +95,8 @@ if [ "$status" != 0 ]; then
     exit 1
 fi
 cp "$work/out" "$work/whole"
-all=$(count_all)
+# How many allocations the whole run asks for; with more than one worker it may differ from run to run.
+all=$(cat "$work/count")
 [ "$last" -le "$all" ] || last=$all
 refused=0 unneeded=0 wrong=0
 for ((number = first; number <= last; number++)); do
