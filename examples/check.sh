@@ -3,7 +3,7 @@
 #   report.txt, report.json   the whole output, as text and as JSON
 #   lines.txt                 lines of a report that is too long to store
 #   error.txt                 what is told of a bad line, with nothing written
-# made/N.txt is the summary of `make N`.
+# A folder without its two texts, or with none of these stored, fails. made/N.txt is the summary of `make N`.
 set -euo pipefail
 cd "$(dirname "$(readlink -f "${BASH_SOURCE[0]}")")/.."
 
@@ -12,15 +12,20 @@ trap 'rm -rf "$work"' EXIT
 checked=0
 failed=0
 
-# is NAME COMMAND..: counts an example, and says where the command does not hold
+# fails NAME WORDS..: counts a failure, and says what is wrong
+fails() {
+    local name=$1
+    shift
+    echo "examples: $name: $*" >&2
+    failed=$((failed + 1))
+}
+
+# is NAME COMMAND..: counts a comparison, and says where the command does not hold
 is() {
     local name=$1
     shift
     checked=$((checked + 1))
-    if ! "$@"; then
-        echo "examples: $name: not as stored" >&2
-        failed=$((failed + 1))
-    fi
+    "$@" || fails "$name" "not as stored"
 }
 
 # run OUTPUT WORDS..: the program's output and its complaint, and its exit code in `code`
@@ -45,18 +50,46 @@ same() {
 
 # each line of the second is one of the first
 has_lines() {
-    [ "$code" = 0 ] && ! grep -vxF -f "$1" "$2"
+    [ "$code" = 0 ] && [ -s "$2" ] && ! grep -vxF -f "$1" "$2"
 }
 
-for world in $(find examples -name world.txt | sort); do
-    example=$(dirname "$world")
-    run "$work/out" run "$world" "$example/script.txt" 1
-    [ ! -f "$example/error.txt" ] || is "$example" bad_line_told "$example"
-    [ ! -f "$example/report.txt" ] || is "$example" same "$work/out" "$example/report.txt"
-    [ ! -f "$example/lines.txt" ] || is "$example" has_lines "$work/out" "$example/lines.txt"
-    if [ -f "$example/report.json" ]; then
-        run "$work/out" run "$world" "$example/script.txt" 1 json
-        is "$example as JSON" same "$work/out" "$example/report.json"
+# has_one FOLDER NAME..: one of these files is in the folder
+has_one() {
+    local folder=$1 name
+    shift
+    for name in "$@"; do
+        [ ! -f "$folder/$name" ] || return 0
+    done
+    return 1
+}
+
+# compare FOLDER: runs the two texts of an example, and compares with all that is stored there
+compare() {
+    run "$work/out" run "$1/world.txt" "$1/script.txt" 1
+    [ ! -f "$1/error.txt" ] || is "$1" bad_line_told "$1"
+    [ ! -f "$1/report.txt" ] || is "$1" same "$work/out" "$1/report.txt"
+    [ ! -f "$1/lines.txt" ] || is "$1" has_lines "$work/out" "$1/lines.txt"
+    if [ -f "$1/report.json" ]; then
+        run "$work/out" run "$1/world.txt" "$1/script.txt" 1 json
+        is "$1 as JSON" same "$work/out" "$1/report.json"
+    fi
+}
+
+# The program is built here, where it has to be. With no words it only says that they are no command, and ends with 2.
+run "$work/out"
+if [ "$code" != 2 ]; then
+    cat "$work/err" >&2
+    exit 1
+fi
+
+# `bad` and `rules` hold folders, and `made` holds summaries
+for example in $(find examples -mindepth 1 -type d ! -path examples/bad ! -path examples/rules ! -path examples/made | sort); do
+    if ! [ -f "$example/world.txt" ] || ! [ -f "$example/script.txt" ]; then
+        fails "$example" "world.txt or script.txt is missing"
+    elif ! has_one "$example" report.txt report.json lines.txt error.txt; then
+        fails "$example" "nothing is stored to compare with"
+    else
+        compare "$example"
     fi
 done
 
@@ -71,5 +104,5 @@ is "make 500" grep -qx "ticks 4000" "$work/first"
 run "$work/second" make 500
 is "make 500 again" same "$work/first" "$work/second"
 
-echo "examples: $checked checked, $failed not as stored"
+echo "examples: $checked comparisons, $failed failures"
 [ "$failed" = 0 ]
