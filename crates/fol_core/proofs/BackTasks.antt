@@ -16,7 +16,7 @@ use Rattle.fol_model.specs.GridState.{GridState, is_loaded}
 use Rattle.fol_model.specs.Outputs.{is_chunk_of}
 use Rattle.fol_model.specs.ActionStep.{Flat, Recorded, Standing}
 use Rattle.fol_model.specs.Job.{Job}
-use Rattle.fol_model.specs.QueuedTask.{counted_down}
+use Rattle.fol_model.specs.QueuedTask.{counted_down, is_queued_in, queued_in}
 use Rattle.fol_model.specs.OpenTick.{NoEnd}
 use Rattle.fol_model.specs.World.{World}
 use Rattle.fol_model.specs.End.{all_accepted, dropped, run_down, ticked}
@@ -27,7 +27,6 @@ use Rattle.fol_laws.proofs.SoundState.{SoundWorld}
 use Rattle.fol_laws.proofs.TaskFates.{all_older}
 use Rattle.fol_laws.proofs.TickingKept.{Kept, kept_after}
 use Rattle.fol_laws.proofs.WholeRuns.{Good, good_after}
-use Rattle.fol_end_laws.specs.KeptQueue.{is_queued_in, queued_in}
 use Rattle.fol_end_laws.proofs.KeptQueues.{kept_left, kept_still}
 use Rattle.fol_chunks.specs.Contents.{Apart, outside, within, option_filter}
 use Rattle.fol_queues.specs.Waiting.{Waiting, dated, job_of, jobs_of}

@@ -15,7 +15,7 @@ use Rattle.fol_model.specs.ActionStep.{Flat, Recorded, at_id}
 use Rattle.fol_model.specs.FlatTick.{Rising}
 use Rattle.fol_model.specs.Job.{Job}
 use Rattle.fol_model.specs.Outputs.{is_chunk_of}
-use Rattle.fol_model.specs.QueuedTask.{begun, counted_down}
+use Rattle.fol_model.specs.QueuedTask.{begun, counted_down, queued_in}
 use Rattle.fol_model.specs.World.{World, due}
 use Rattle.fol_model.specs.Run.{world}
 use Rattle.fol_laws.proofs.FunctionsChanged.{at_here, at_other}
@@ -42,7 +42,6 @@ use Rattle.std.specs.Global.{Vec}
 use Rattle.std.specs.Prelude.{vec_len, vec_capacity}
 use Rattle.std.proofs.lemmas.Option.{same_Some}
 use Rattle.fol_core.specs.Stands.{Fits, IsCourse, Stands}
-use Rattle.fol_core.specs.Ticks.{queued_in}
 use Rattle.fol_core.proofs.BegunHands.{due_is, hands_after, left_is, not_in_hands, outside_outside, rest_is, within_outside}
 use Rattle.fol_core.proofs.ChunkLists.{kept_listed, loaded_within, owned}
 use Rattle.fol_core.proofs.DueLists.{due_is_list, due_number}

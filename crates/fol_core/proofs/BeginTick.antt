@@ -10,7 +10,7 @@ use Rattle.fol_model.specs.GridState.{is_ready}
 use Rattle.fol_model.specs.Begin.{begin}
 use Rattle.fol_model.specs.ActionStep.{at_id}
 use Rattle.fol_model.specs.FlatTick.{Rising}
-use Rattle.fol_model.specs.QueuedTask.{begun, counted_down}
+use Rattle.fol_model.specs.QueuedTask.{begun, counted_down, queued_in}
 use Rattle.fol_model.specs.World.{World}
 use Rattle.fol_model.specs.Run.{Allowed, world}
 use Rattle.fol_chunks.specs.Contents.{flat_of as contents_of, is_recorded, outside, within}
@@ -25,7 +25,7 @@ use Rattle.fol_core.specs.Agenda.{IsAgenda, owes}
 use Rattle.fol_core.specs.Answers.{is_over, is_owing}
 use Rattle.fol_core.specs.Begun.{due_task, left_job}
 use Rattle.fol_core.specs.Stands.{Stands}
-use Rattle.fol_core.specs.Ticks.{IsTick, queued_in}
+use Rattle.fol_core.specs.Ticks.{IsTick}
 use Rattle.fol_core.proofs.BeginKept.{begin_contents, begin_due, begin_fits, begin_left, begun_marks}
 use Rattle.fol_core.proofs.GatheredBags.{ready_here, ready_now}
 use Rattle.fol_core.proofs.LoadKept.{course_more}

@@ -11,12 +11,11 @@ use Rattle.fol_model.specs.Begin.{begin}
 use Rattle.fol_model.specs.ActionStep.{Flat, Recorded, Standing, at_id}
 use Rattle.fol_model.specs.Job.{Job, taken_task}
 use Rattle.fol_model.specs.Outputs.{is_chunk_of}
-use Rattle.fol_model.specs.QueuedTask.{counted_down}
+use Rattle.fol_model.specs.QueuedTask.{counted_down, queued_in}
 use Rattle.fol_chunks.specs.Contents.{option_filter as kept_standing, outside, within}
 use Rattle.fol_queues.specs.Waiting.{option_filter}
 use Rattle.fol_core.specs.Begun.{due_task, left_job}
 use Rattle.fol_core.specs.Hands.{at_rest, in_hands, owner_of, ticker, went}
-use Rattle.fol_core.specs.Ticks.{queued_in}
 use Rattle.fol_core.proofs.Flats.{flat_ext}
 
 -- one or no task as a list
@@ -127,6 +126,7 @@ module _ (g : GridState) (id : ℕ) (ready : g.state id ≡ Ready) (positive : 0
         let q = went_quiet f j.chunk n (eqb-true (owner_of g j.chunk) id p.1) in let z = p.0 in rw (z, q) refl
 
     pub left_is : (o : Option Job) → ((j : Job) → o ≡ Some j → is_loaded g j.chunk ≡ true) → left_job recorded (at_rest g f n o) ≡ queued_in g id (counted_down g id o)
+    unfolding queued_in
     left_is None h = refl
     left_is (Some j) h = let l = h j refl in elim (cases_Bool (here j)) [
       | inl k ↦ let a = rest_here j k in let r = is_here j k l in let p = and_parts (nat_eq j.taker 0) (nat_eq (owner_of g j.chunk) id) k in let own = p.1 in

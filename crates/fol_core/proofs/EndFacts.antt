@@ -15,22 +15,20 @@ use Rattle.fol_model.specs.ActionStep.{Flat, Recorded, at_id}
 use Rattle.fol_model.specs.FlatTick.{FlatEnd, flat_tick}
 use Rattle.fol_model.specs.Job.{Job}
 use Rattle.fol_model.specs.Begin.{begin}
-use Rattle.fol_model.specs.QueuedTask.{begun, counted_down}
+use Rattle.fol_model.specs.QueuedTask.{begun, counted_down, queued_in}
 use Rattle.fol_model.specs.World.{World, due, start}
 use Rattle.fol_model.specs.End.{run_down}
 use Rattle.fol_model.specs.Run.{Run, RunFrom, after_all, world}
 use Rattle.fol_laws.proofs.FunctionsChanged.{at_here}
 use Rattle.fol_laws.proofs.WholeRuns.{Good}
-use Rattle.fol_end_laws.specs.KeptQueue.{queued_in}
 use Rattle.fol_chunks.specs.Contents.{flat_of, is_recorded, within}
 use Rattle.fol_queues.specs.Waiting.{jobs_of}
 use Rattle.fol_data.specs.declared.tick.Tick.{Tick}
-use Rattle.fol_core.specs.Ticks.{IsOut}
-use Rattle.fol_core.specs.Ticks as ticks
 use Rattle.fol_core.specs.AtEnd.{AtEnd}
 use Rattle.fol_core.specs.Hands.{since, since_from}
 use Rattle.fol_core.proofs.BackTasks.{on_recorded, since_along, since_at}
 use Rattle.fol_core.proofs.FinishedRun as fr
+use Rattle.fol_core.proofs.OutAtBegin.{OutAtBegin}
 
 not_less : (n m : ℕ) → nat_lt n m ≡ false → m ≤ n
 not_less n m h = elim (cases_lt n m) [ inl l ↦ absurd (true≢false (sym (lt-ltb n m l) ∙ h)) | inr l ↦ l ]
@@ -39,13 +37,7 @@ none_queued : (g : GridState) (r : ℕ) → queued_in g r None ≡ None
 unfolding queued_in
 none_queued g r = refl
 
--- two ways to say that a task is queued on the region's sections
-same_queued : (g : _) (r : ℕ) (o : Option Job) → ticks.queued_in g r o ≡ queued_in g r o
-unfolding queued_in
-same_queued g r None = refl
-same_queued g r (Some j) = refl
-
-module _ (o : Opening) (ok : IsGrid o.grid) (h : List Entry) (run : Run o h) (room : Option ℕ) (tick : Tick) (out : IsOut (record { opening = o; history = h; room = room }) tick) where
+module _ (o : Opening) (ok : IsGrid o.grid) (h : List Entry) (run : Run o h) (tick : Tick) (out : OutAtBegin o h tick) where
   abbrev r : ℕ
   r = tick.region
 
@@ -116,7 +108,7 @@ module _ (o : Opening) (ok : IsGrid o.grid) (h : List Entry) (run : Run o h) (ro
 
   -- the tasks that were queued just after the Begin
   begun_queue : (n : ℕ) → jobs_of tick.body.queues (tick.body.tick + 1) n ≡ queued_in v.grid r (v.jobs n)
-  begun_queue n = ap (λ (f : ℕ → Option Job). f n) out.of.queued ∙ same_queued u.grid r (v.jobs n) ∙ begun_grid (v.jobs n)
+  begun_queue n = ap (λ (f : ℕ → Option Job). f n) out.of.queued ∙ begun_grid (v.jobs n)
 
   next_then : v.next_job ≡ u.next_job
   unfolding begun

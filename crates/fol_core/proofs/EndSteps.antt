@@ -33,7 +33,7 @@ use Rattle.fol_laws.proofs.UnseenEnds.{recorded_owner}
 use Rattle.fol_laws.proofs.WholeRuns.{Good}
 use Rattle.fol_laws.proofs.WishLimits.{WishOk}
 use Rattle.fol_end_laws.specs.DroppedHolds.{drop_each}
-use Rattle.fol_end_laws.specs.KeptQueue.{is_queued_in, queued_in}
+use Rattle.fol_model.specs.QueuedTask.{is_queued_in, queued_in}
 use Rattle.fol_end_laws.proofs.DropsInTurn.{drops_in_turn}
 use Rattle.fol_end_laws.proofs.SentNowhere.{sent_nowhere}
 use Rattle.fol_chunks.specs.Contents.{Apart, Contents, flat_of as contents_of, is_recorded, joined, option_filter, outside, within}
@@ -54,6 +54,7 @@ use Rattle.fol_core.specs.Ticks.{IsOut}
 use Rattle.fol_core.specs.Underway.{AreFit, Ends, HasRoomFor, MayAcceptAll, Midway, Underway}
 use Rattle.fol_core.proofs.BackTasks.{apart, end_queue, in_time, tasks_apart}
 use Rattle.fol_core.proofs.EndFacts.{at_end}
+use Rattle.fol_core.proofs.OutAtBegin.{out_at_begin}
 use Rattle.fol_core.proofs.Flats.{flat_ext}
 use Rattle.fol_core.proofs.Held.{ends_most}
 use Rattle.fol_core.proofs.Longer.{good_of}
@@ -108,7 +109,7 @@ module _ (t : Tables) (tick : Tick) (o : Opening) (h : List Entry) (m : Option â
   good = good_of o h t s
 
   pub at : AtEnd w (since o h) tick
-  at = at_end o s.grid h s.run m tick out
+  at = at_end o s.grid h s.run tick (out_at_begin o s.grid h s.run m tick out)
 
   run_nil : RunFrom (start o) (h ++ [])
   run_nil = rw (append-nil h) s.run

@@ -27,6 +27,7 @@ use Rattle.fol_laws.specs.OnePlace.{one}
 use Rattle.fol_laws.proofs.EntityCounts.{arrivals}
 use Rattle.fol_laws.proofs.EntityTotals.{due_total}
 use Rattle.fol_laws.proofs.FunctionsChanged.{at_here}
+use Rattle.fol_laws.proofs.LongerRuns.{world_both}
 use Rattle.fol_laws.proofs.UnseenTicks.{acted_outside, ticked_unseen}
 use Rattle.fol_laws.proofs.OwnedRuns.{began_ticks, owned, total_most}
 use Rattle.fol_laws.proofs.WholeRuns.{Good, good_after, good_run}
@@ -46,20 +47,19 @@ at_entry : (w : World) (es : List Entry) (e : Entry) (rest : List Entry) → Run
 at_entry w [] e rest run = (run.1, run.2)
 at_entry w (x ∷ es) e rest run = at_entry (after w x.event) es e rest run.2
 
-before_entry : (w : World) (es rest : List Entry) → RunFrom w (es ++ rest) → RunFrom w es
+pub before_entry : (w : World) (es rest : List Entry) → RunFrom w (es ++ rest) → RunFrom w es
 before_entry w [] rest run = tt
 before_entry w (x ∷ es) rest run = (run.0, run.1, before_entry (after w x.event) es rest run.2)
 
 pub world_at : (w : World) (es : List Entry) (e : Entry) (rest : List Entry) → after_all w (es ++ e ∷ rest) ≡ after_all (after (after_all w es) e.event) rest
-world_at w [] e rest = refl
-world_at w (x ∷ es) e rest = world_at (after w x.event) es e rest
+world_at w es e rest = world_both w es (e ∷ rest)
 
 -- ---- contents within some chunks
 seen_is : (rec : Recorded) (o : Option Standing) → seen rec o ≡ option_filter (λ (s : Standing). rec (chunk_of s.at)) o
 seen_is rec None = refl
 seen_is rec (Some s) = elim (cases_Bool (rec (chunk_of s.at))) [ inl e ↦ rw e refl | inr e ↦ rw e refl ]
 
-within_same : (rec : Recorded) (f h : Flat) → SameOn rec f h → within rec f ≡ within rec h
+pub within_same : (rec : Recorded) (f h : Flat) → SameOn rec f h → within rec f ≡ within rec h
 within_same rec f h same = flat_ext (within rec f) (within rec h)
     (λ b. elim (cases_Bool (rec (chunk_of b))) [ inl e ↦ let s = same.blocks b e in rw e s | inr e ↦ rw e refl ])
     (λ id. sym (seen_is rec (f.standing id)) ∙ same.standing id ∙ seen_is rec (h.standing id))

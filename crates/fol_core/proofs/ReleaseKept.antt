@@ -24,12 +24,17 @@ use Rattle.fol_core.proofs.Longer.{stands_more}
 -- a tick whose room for more changed is out as it was
 pub out_same : (m : Meaning) (room : Option ℕ) (old new : Tick) → SameTick old new → IsOut m old → IsOut (record { opening = m.opening; history = m.history; room = room }) new
 out_same m room old new same out = let w = same.worker in let r = same.region in record {
-  before = out.before;
-  since = out.since;
-  by = out.by;
-  begin = rw (w, r) out.begin;
+  made = record {
+    before = out.made.before;
+    between = out.made.between;
+    since = out.made.since;
+    by = out.made.by;
+    begin = rw (w, r) out.made.begin;
+    allowed = rw r out.made.allowed;
+    calm = rw r out.made.calm;
+    runs_on = rw r out.made.runs_on;
+  };
   place = same.begun ∙ out.place;
-  runs_on = rw r out.runs_on;
   of = let d = same.due in let c = same.chunks in let k = same.counter in let q = same.tasks in record {
     chunks = rw (c, r) out.of.chunks;
     due = rw (d, w, r) out.of.due;

@@ -17,7 +17,7 @@ use Rattle.fol_model.specs.Job.{Job}
 use Rattle.fol_laws.proofs.AddTarget.{is_ticking-true}
 use Rattle.fol_laws.proofs.GridFields.{ticking_release}
 use Rattle.fol_laws.proofs.ReleaseKeeps.{grid_release, release_ticking_sections}
-use Rattle.fol_end_laws.specs.KeptQueue.{queued_in}
+use Rattle.fol_model.specs.QueuedTask.{queued_in}
 use Rattle.fol_chunks.specs.Contents.{within, outside, joined, option_filter}
 use Rattle.fol_core.specs.Hands.{owner_of, ticker, in_hands, went, at_rest}
 use Rattle.fol_core.proofs.Flats.{flat_ext}

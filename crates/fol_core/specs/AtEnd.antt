@@ -5,7 +5,7 @@ use Rattle.fol_model.specs.Universe.{all_chunks}
 use Rattle.fol_model.specs.Job.{Job}
 use Rattle.fol_model.specs.World.{World, due}
 use Rattle.fol_model.specs.End.{run_down, ticked}
-use Rattle.fol_end_laws.specs.KeptQueue.{queued_in}
+use Rattle.fol_model.specs.QueuedTask.{queued_in}
 use Rattle.fol_chunks.specs.Contents.{flat_of, is_recorded, within}
 use Rattle.fol_queues.specs.Waiting.{jobs_of}
 use Rattle.fol_data.specs.declared.tick.Tick.{Tick}

@@ -2,27 +2,21 @@
 use Rattle.std.specs.Prelude.{ℕ, ◌≡◌, ◌+◌, ◌-◌, true, false, ◌&&◌, nat_eq, if◌then◌else◌, List, [], ◌∷◌, ◌++◌, filter, length, Option, Some, None}
 use Rattle.fol_model.specs.declared.events.Event.TheVariants.{Begin}
 use Rattle.fol_model.specs.declared.events.Entry.{Entry}
+use Rattle.fol_model.specs.declared.openings.Opening.{Opening}
 use Rattle.fol_model.specs.declared.tasks.Outcome.{Outcome}
 use Rattle.fol_model.specs.Universe.{all_chunks}
-use Rattle.fol_model.specs.Geometry.{section_of}
-use Rattle.fol_model.specs.GridState.{GridState}
-use Rattle.fol_model.specs.Job.{Job}
 use Rattle.fol_model.specs.ActionStep.{Flat}
 use Rattle.fol_model.specs.FlatTick.{flat_tick}
-use Rattle.fol_model.specs.QueuedTask.{begun}
+use Rattle.fol_model.specs.QueuedTask.{begun, queued_in}
 use Rattle.fol_model.specs.OpenTick.{NoEnd}
 use Rattle.fol_model.specs.Outputs.{is_chunk_of}
 use Rattle.fol_model.specs.World.{World, due}
-use Rattle.fol_model.specs.Run.{world}
+use Rattle.fol_model.specs.Run.{Allowed, world}
+use Rattle.fol_laws.specs.LateBegin.{NoneTouches}
 use Rattle.fol_queues.specs.Waiting.{jobs_of}
 use Rattle.fol_chunks.specs.Contents.{flat_of, within, is_recorded}
 use Rattle.fol_data.specs.declared.tick.Tick.{Tick}
 use Rattle.fol_core.specs.Meaning.{Meaning}
-
--- a task that is queued on a chunk of a section of r
-abbrev pub queued_in : GridState → ℕ → Option Job → Option Job
-queued_in g r None = None
-queued_in g r (Some j) = if (nat_eq j.taker 0 && nat_eq (g.owner (section_of g.grid j.chunk)) r) then Some j else None
 
 -- what a Begin in the world w, by the worker of the tick of its region, gives the tick to keep: the record of the Begin, the
 -- counter and the owed number after it, and the tasks that are queued after it, with their rests
@@ -52,18 +46,27 @@ pub record HasRun (given : ℕ → Outcome) (f : Flat) (tick : Tick) : Type 0 wh
   pub wishes : tick.log.wishes ≡ (flat_tick (is_recorded tick.chunks) given tick.due f).wishes
   pub moved : tick.moved ≡ true
 
--- the tick was begun in this history, has not ended in it, and is finished: it ran on the blocks and entities that the world had in
--- its recorded chunks at its Begin
-pub record IsOut (m : Meaning) (tick : Tick) : Type 0 where
+-- where the open tick of a region stands in a history: it was made at a place where its Begin was allowed; the Begin came there or later,
+-- with nothing between that touches the region; and no End of the region follows it
+pub record IsBegun (o : Opening) (h : List Entry) (worker region : ℕ) : Type 0 where
+  -- the history when the tick was made
   pub before : List Entry
+  pub between : List Entry
   pub since : List Entry
   pub by : ℕ
-  pub begin : m.history ≡ before ++ (record { by = by; event = Begin tick.worker tick.region }) ∷ since
-  pub place : tick.begun ≡ length before
-  pub runs_on : NoEnd tick.region since
-  pub of : IsTickOf (world m.opening before) tick
+  pub begin : h ≡ (before ++ between) ++ (record { by = by; event = Begin worker region }) ∷ since
+  pub allowed : Allowed (world o before) (Begin worker region)
+  pub calm : NoneTouches (world o before) region between
+  pub runs_on : NoEnd region since
+
+-- the tick is open in this history and is finished: it ran on the blocks and entities that the world had in its recorded chunks when it was
+-- made, which are those of its Begin
+pub record IsOut (m : Meaning) (tick : Tick) : Type 0 where
+  pub made : IsBegun m.opening m.history tick.worker tick.region
+  pub place : tick.begun ≡ length made.before
+  pub of : IsTickOf (world m.opening made.before) tick
   pub given : ℕ → Outcome
-  pub run : HasRun given (within (is_recorded tick.chunks) (world m.opening before).flat) tick
+  pub run : HasRun given (within (is_recorded tick.chunks) (world m.opening made.before).flat) tick
 
 -- the same tick; how much more its body can take in without taking memory is no part of it
 pub record SameTick (old new : Tick) : Type 0 where

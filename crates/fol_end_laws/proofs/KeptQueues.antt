@@ -9,7 +9,7 @@ use Rattle.fol_model.specs.GridState.{GridState}
 use Rattle.fol_model.specs.GridNumbers.{IsGrid}
 use Rattle.fol_model.specs.World.{World, start}
 use Rattle.fol_model.specs.Job.{Job}
-use Rattle.fol_model.specs.QueuedTask.{counted_down}
+use Rattle.fol_model.specs.QueuedTask.{counted_down, is_queued_in, queued_in}
 use Rattle.fol_model.specs.End.{left}
 use Rattle.fol_model.specs.Run.{after, after_all, Allowed, RunFrom}
 use Rattle.fol_model.specs.OpenTick.{is_begin, is_end, NoEnd}
@@ -24,7 +24,7 @@ use Rattle.fol_laws.proofs.TaskFates.{fated}
 use Rattle.fol_laws.proofs.TickingKept.{kept_after}
 use Rattle.fol_laws.proofs.OwnedRuns.{began_ticks}
 use Rattle.fol_laws.proofs.WholeRuns.{Good, good_after, good_start}
-use Rattle.fol_end_laws.specs.KeptQueue.{is_queued_in, queued_in, SameQueue}
+use Rattle.fol_end_laws.specs.KeptQueue.{SameQueue}
 
 -- ---- one task
 module _ (q : ℕ) (g h : GridState) (same : SameSections g h q) (grid : h.grid ≡ g.grid) where

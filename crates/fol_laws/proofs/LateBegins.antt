@@ -1,5 +1,5 @@
 -- A Begin of a region that nothing touched meanwhile.
-use Rattle.std.proofs.Common.{◌≡◌, ℕ, ◌-◌, ◌≤◌, refl, sym, ◌∙◌, ap, arith, Bool, true, false, inl, inr, List, [], ◌∷◌, ◌++◌, ◌&&◌}
+use Rattle.std.proofs.Common.{◌≡◌, ℕ, ◌-◌, ◌≤◌, ◌<◌, refl, sym, ◌∙◌, ap, arith, Bool, true, false, inl, inr, List, [], ◌∷◌, ◌++◌, ◌&&◌}
 use Rattle.std.specs.Prelude.{◌≢◌, nat_eq, nat_le, if◌then◌else◌, Option, Some, None}
 use Rattle.std.proofs.lemmas.Bool.{cases_Bool, and_parts, true≢false, eqb-false, ne_eqb, or_parts}
 use Rattle.fol_model.specs.declared.places.ChunkPos.{ChunkPos}
@@ -11,7 +11,7 @@ use Rattle.fol_model.specs.ActionStep.{Standing, Flat, Recorded}
 use Rattle.fol_model.specs.World.{World, start, due}
 use Rattle.fol_model.specs.Job.{Job, taken_task}
 use Rattle.fol_model.specs.Holds.{loaded, unloaded, posted}
-use Rattle.fol_model.specs.QueuedTask.{begun, counted_down}
+use Rattle.fol_model.specs.QueuedTask.{begun, counted_down, queued_in}
 use Rattle.fol_model.specs.End.{ticked, run_down}
 use Rattle.fol_model.specs.Run.{after, after_all, Allowed, RunFrom}
 use Rattle.fol_laws.proofs.SoundState.{SoundWorld}
@@ -120,6 +120,22 @@ down_is g r n (Some j) h = elim (cases_Bool (ground g r j.chunk)) [
   | inr e ↦ let z : nat_eq j.taker r ≡ false = ne_eqb _ _ (h j refl) in elim (cases_Bool (nat_eq j.taker 0)) [ inl k ↦ rw (e, k, z) refl | inr k ↦ rw (e, k, z) refl ]
 ]
 
+-- what a Begin of r leaves queued of a task on its chunks
+down_queue : Option Job → Option Job
+down_queue None = None
+down_queue (Some j) = if nat_eq j.taker 0 then (if nat_le j.rest 1 then None else Some (record j { rest = j.rest - 1; taker = 0 })) else None
+
+queue_is : (g : GridState) (r : ℕ) (x : Option Job) → 0 < r → queued_in g r (counted_down g r x) ≡ down_queue (rests g r x)
+unfolding down_queue queued_in
+queue_is g r None some = refl
+queue_is g r (Some j) some = let z : nat_eq r 0 ≡ false = ne_eqb _ _ (λ e. omega arith) in elim (cases_Bool (ground g r j.chunk)) [
+  | inl e ↦ elim (cases_Bool (nat_eq j.taker 0)) [
+    | inl k ↦ elim (cases_Bool (nat_le j.rest 1)) [ inl l ↦ rw (e, k, l, z) refl | inr l ↦ rw (e, k, l, e) refl ]
+    | inr k ↦ rw (e, k, k) refl
+  ]
+  | inr e ↦ elim (cases_Bool (nat_eq j.taker 0)) [ inl k ↦ rw (e, k, e, k) refl | inr k ↦ rw (e, k, k) refl ]
+]
+
 module _ (o : Opening) (r worker : ℕ) (w v : World) (g : Good o w) (m : MayBegin r w) (u : Unmoved o r w v) where
   begun_recorded : (x : World) → (begun x worker r).recorded r ≡ (λ c. is_loaded x.grid c && ground x.grid r c)
   unfolding begun
@@ -154,6 +170,13 @@ module _ (o : Opening) (r worker : ℕ) (w v : World) (g : Good o w) (m : MayBeg
       ∙ ap (down_rest r n) (rests_at n)
       ∙ sym (ap (taken_task r n) (begun_jobs w n) ∙ down_is w.grid r n (w.jobs n) (not_taken w g.sound m.ready n))
 
+  queue_at : (n : ℕ) → queued_in v.grid r ((begun v worker r).jobs n) ≡ queued_in w.grid r ((begun w worker r).jobs n)
+  queue_at n =
+      let some : 0 < r = g.sound.rules.given r (λ d. let e = m.ready in cc) in
+      ap (queued_in v.grid r) (begun_jobs v n) ∙ queue_is v.grid r (v.jobs n) some
+      ∙ ap down_queue (rests_at n)
+      ∙ sym (ap (queued_in w.grid r) (begun_jobs w n) ∙ queue_is w.grid r (w.jobs n) some)
+
   begun_next : (x : World) → (begun x worker r).next_job ≡ x.next_job
   unfolding begun
   begun_next x = refl
@@ -177,7 +200,7 @@ module _ (o : Opening) (r worker : ℕ) (w v : World) (g : Good o w) (m : MayBeg
   same_numbers = (u.rest.tick, at_here v.owed r (v.owed r - 1) ∙ ap (λ (k : ℕ). k - 1) u.rest.owed ∙ sym (at_here w.owed r (w.owed r - 1)))
 
   pub same_begin : SameBegin r worker w v
-  same_begin = record { recorded = same_recorded; due = same_due; flat = same_flat; tick = same_numbers.0; owed = same_numbers.1 }
+  same_begin = record { sections = u.rest.sections; recorded = same_recorded; due = same_due; flat = same_flat; tick = same_numbers.0; owed = same_numbers.1; queued = queue_at }
 
 -- along a run from the opening
 late_from : (o : Opening) (w : World) (es ms rest : List Entry) (r worker : ℕ) → Good o w → RunFrom w (es ++ (ms ++ rest)) → Allowed (after_all w es) (Begin worker r) → NoneTouches (after_all w es) r ms

@@ -21,7 +21,7 @@ use Rattle.fol_model.specs.Job.{taken_task}
 use Rattle.fol_model.specs.End.{dropped, ticked, put_back, accepted, all_accepted, run_down, answers}
 use Rattle.fol_model.specs.Holds.{posted, posting}
 use Rattle.fol_laws.proofs.SoundState.{SoundWorld}
-use Rattle.fol_model.specs.DueRule.{taken_by, IsRepeated}
+use Rattle.fol_model.specs.DueRule.{taken_by, asked_before, IsRepeated}
 use Rattle.fol_model.specs.declared.places.BlockPos.{BlockPos}
 use Rattle.fol_model.specs.declared.actions.Action.{Action}
 use Rattle.fol_model.specs.declared.actions.Action.TheVariants as action
@@ -58,24 +58,23 @@ asked_repeat rec f xs ys n c p left inner l =
     ∙ ap (λ (r : List Wish). asked rec f xs ++ ((plain_wishes rec g (plain_of (action.Every p left inner)) ++ r) ++ asked rec (act rec g (plain_of (action.Every p left inner))) ys)) one
     ∙ regroup (asked rec f xs) (plain_wishes rec g (plain_of (action.Every p left inner))) _ (repeat c p left inner)
 
-pub record Split (ts : List Task) (t : Task) : Type 0 where
-  pub before : List Task
+-- the due task n stands behind those with lower numbers
+pub record Split (w : World) (r n : ℕ) (ts : List Task) (t : Task) : Type 0 where
   pub later : List Task
-  pub is : ts ≡ before ++ t ∷ later
+  pub is : ts ≡ due_below w r n ++ t ∷ later
 
-due_split : (w : World) (r n m : ℕ) (c : ChunkPos) (a : Action) → n < m → w.jobs n ≡ Some (taken_by c a r) → Split (due_below w r m) (record { number = n; chunk = c; action = a })
+due_split : (w : World) (r n m : ℕ) (c : ChunkPos) (a : Action) → n < m → w.jobs n ≡ Some (taken_by c a r) → Split w r n (due_below w r m) (record { number = n; chunk = c; action = a })
 unfolding due_below
 due_split w r n zero c a l q = absurd (omega arith)
 due_split w r n (suc m) c a l q = elim (cases_eq n m) [
   | inl e ↦ let z : nat_eq r r ≡ true = eq-eqb _ _ refl in
       let t : taken_task r n (Some (taken_by c a r)) ≡ (record { number = n; chunk = c; action = a }) ∷ [] = rw z refl in
       let u : taken_task r m (w.jobs m) ≡ (record { number = n; chunk = c; action = a }) ∷ [] = rw (← e) (ap (taken_task r n) q ∙ t) in
-      record { before = due_below w r m; later = []; is = ap (λ (x : List Task). due_below w r m ++ x) u }
+      record { later = []; is = ap (λ (x : List Task). due_below w r m ++ x) u ∙ ap (λ (k : ℕ). due_below w r k ++ (record { number = n; chunk = c; action = a }) ∷ []) (sym e) }
   | inr e ↦ let i = due_split w r n m c a (omega arith) q in
       record {
-        before = i.before;
         later = i.later ++ taken_task r m (w.jobs m);
-        is = ap (λ (x : List Task). x ++ taken_task r m (w.jobs m)) i.is ∙ append_assoc i.before _ _;
+        is = ap (λ (x : List Task). x ++ taken_task r m (w.jobs m)) i.is ∙ append_assoc (due_below w r n) _ _;
       }
 ]
 
@@ -165,24 +164,23 @@ answers_append w [] x ys = refl
 answers_append w (z ∷ xs) x ys = ap (λ (l : List Accept). posting w z.chunk ∷ l) (answers_append (accepted w z) xs x ys)
 
 pub is_repeated : (w : World) (r : ℕ) (ran : List Ran) (n : ℕ) (c : ChunkPos) (p left : ℕ) (inner : Deed) → SoundWorld w → w.grid.state r ≡ Ticking → n < w.next_job
-    → w.jobs n ≡ Some (taken_by c (action.Every p left inner) r) → 2 ≤ left → IsRepeated w r ran c p (left - 1) inner
+    → w.jobs n ≡ Some (taken_by c (action.Every p left inner) r) → 2 ≤ left → IsRepeated w r ran n c p left inner
 is_repeated w r ran n c p left inner s t m q l =
     let ts = due_split w r n w.next_job c (action.Every p left inner) m q in
-    let g = acted (w.recorded r) w.flat ts.before in
-    let before = asked (w.recorded r) w.flat ts.before ++ plain_wishes (w.recorded r) g (plain_of (action.Every p left inner)) in
+    let g = acted (w.recorded r) w.flat (due_below w r n) in
+    let before = asked_before w r n (action.Every p left inner) in
     let later = asked (w.recorded r) (act (w.recorded r) g (plain_of (action.Every p left inner))) ts.later in
     let is : (ticked w r ran).wishes ≡ before ++ repeat c p left inner ∷ later =
-    wishes_asked w r ran ∙ ap (asked (w.recorded r) w.flat) ts.is ∙ asked_repeat (w.recorded r) w.flat ts.before ts.later n c p left inner l in
+    wishes_asked w r ran ∙ ap (asked (w.recorded r) w.flat) ts.is ∙ asked_repeat (w.recorded r) w.flat (due_below w r n) ts.later n c p left inner l in
     let ok : AllByRecursion (WishOk (w.recorded r)) (before ++ repeat c p left inner ∷ later) = rw is at (wishes_ok w r ran s) in
     let room = room_later w r ran before c s t (all_first (w.recorded r) before _ ok) (chunk_held w n (taken_by c (action.Every p left inner) r) s q) in
     let v = all_accepted (run_down w r ran) before in
     let x = repeat c p left inner in
     let one : posting v c ≡ accept.Posted v.next_job = rw room refl in
     record {
-      before = before;
       later = later;
       wishes = is;
       number = v.next_job;
-      after_it = answers (accepted v x) later;
+      later_answers = answers (accepted v x) later;
       answered = ap (answers (run_down w r ran)) is ∙ answers_append (run_down w r ran) before x later ∙ ap (λ (l : Accept). answers (run_down w r ran) before ++ l ∷ answers (accepted v x) later) one;
     }

@@ -12,10 +12,11 @@ use Rattle.fol_model.specs.GridState.{GridState, is_loaded}
 use Rattle.fol_model.specs.Add.{is_full, wanted, is_near}
 use Rattle.fol_model.specs.ActionStep.{Recorded}
 use Rattle.fol_model.specs.World.{World, due}
-use Rattle.fol_model.specs.QueuedTask.{begun}
+use Rattle.fol_model.specs.QueuedTask.{begun, queued_in}
 use Rattle.fol_model.specs.End.{ticked, run_down, accepted}
 use Rattle.fol_model.specs.Run.{after, after_all, Allowed, Run, world}
 use Rattle.fol_laws.specs.Contents.{SameOn}
+use Rattle.fol_laws.specs.Steps.{SameSections}
 
 -- the chunks in sections of r
 abbrev pub ground : GridState → ℕ → Recorded
@@ -60,13 +61,16 @@ abbrev pub NoneTouches : World → ℕ → List Entry → Type 0
 NoneTouches w r [] = Unit {0}
 NoneTouches w r (e ∷ es) = (touches w r e.event ≡ false) × (is_stop e.event ≡ false) × NoneTouches (after w e.event) r es
 
--- a Begin of r in v has the recorded chunks, the due tasks, the contents, the counter and the owed number of one in w
+-- r has in v the sections that it has in w, and a Begin of it there has the recorded chunks, the due tasks, the contents, the counter, the
+-- owed number and the queued tasks, with their rests, of one in w
 pub record SameBegin (r worker : ℕ) (w v : World) : Type 0 where
+  pub sections : SameSections w.grid v.grid r
   pub recorded : (begun v worker r).recorded r ≡ (begun w worker r).recorded r
   pub due : due (begun v worker r) r ≡ due (begun w worker r) r
   pub flat : SameOn ((begun w worker r).recorded r) (begun w worker r).flat (begun v worker r).flat
   pub tick : (begun v worker r).tick r ≡ (begun w worker r).tick r
   pub owed : (begun v worker r).owed r ≡ (begun w worker r).owed r
+  pub queued : (n : ℕ) → queued_in v.grid r ((begun v worker r).jobs n) ≡ queued_in w.grid r ((begun w worker r).jobs n)
 
 -- a Begin of r that is allowed after es is allowed after es and ms, of which none touches r, and is the same there
 abbrev pub LateBeginIsTheSame : Type 0

@@ -3,7 +3,9 @@ use Rattle.std.specs.Prelude.{ℕ, ◌≡◌, ◌+◌, ◌-◌, ◌≤◌, ◌<�
 use Rattle.fol_model.specs.declared.places.ChunkPos.{ChunkPos}
 use Rattle.fol_model.specs.Geometry.{section_of}
 use Rattle.fol_model.specs.Deed.{Deed}
-use Rattle.fol_model.specs.World.{World}
+use Rattle.fol_model.specs.ActionStep.{plain_of, plain_wishes}
+use Rattle.fol_model.specs.FlatTick.{acted, asked}
+use Rattle.fol_model.specs.World.{World, due_below}
 use Rattle.fol_model.specs.Job.{Job, queued}
 use Rattle.fol_model.specs.End.{ticked, run_down, answers}
 use Rattle.fol_model.specs.Run.{after, after_all}
@@ -53,14 +55,23 @@ named n (e ∷ es) = names n e.event + named n es
 abbrev pub taken_by : ChunkPos → Action → ℕ → Job
 taken_by c a r = record { chunk = c; rest = 0; action = a; taker = r }
 
--- the repeat of an `Every` is among the wishes of the tick, and its answer among the answers is Posted
-pub record IsRepeated (w : World) (r : ℕ) (ran : List Ran) (c : ChunkPos) (p left : ℕ) (inner : Deed) : Type 0 where
-  pub before : List Wish
+-- what the tick of r asks for before the repeat of its due task n: the wishes of the due tasks with lower numbers, and then the one of n's
+-- inner action, if there is one
+abbrev pub asked_before : World → ℕ → ℕ → Action → List Wish
+asked_before w r n a =
+    asked (w.recorded r) w.flat (due_below w r n)
+    ++ plain_wishes (w.recorded r) (acted (w.recorded r) w.flat (due_below w r n)) (plain_of a)
+
+-- the End of the tick of r accepts the repeat of its due task n once: it is the wish straight behind those, the same `Every` with one time
+-- fewer left, on n's chunk and with the period as delay; and the answer to this wish is Posted
+pub record IsRepeated (w : World) (r : ℕ) (ran : List Ran) (n : ℕ) (c : ChunkPos) (p left : ℕ) (inner : Deed) : Type 0 where
   pub later : List Wish
-  pub wishes : (ticked w r ran).wishes ≡ before ++ (record { chunk = c; delay = p; action = action.Every p left inner; back = None }) ∷ later
+  pub wishes : (ticked w r ran).wishes
+      ≡ asked_before w r n (action.Every p left inner) ++ (record { chunk = c; delay = p; action = action.Every p (left - 1) inner; back = None }) ∷ later
   pub number : ℕ
-  pub after_it : List Accept
-  pub answered : answers (run_down w r ran) (ticked w r ran).wishes ≡ answers (run_down w r ran) before ++ accept.Posted number ∷ after_it
+  pub later_answers : List Accept
+  pub answered : answers (run_down w r ran) (ticked w r ran).wishes
+      ≡ answers (run_down w r ran) (asked_before w r n (action.Every p left inner)) ++ accept.Posted number ∷ later_answers
 
 -- what becomes of task n, which w has queued with rest d, along the entries of a run from w
 pub record DueRule (w : World) (es : List Entry) (n : ℕ) (c : ChunkPos) (d : ℕ) (a : Action) : Type 0 where
@@ -76,4 +87,4 @@ pub record DueRule (w : World) (es : List Entry) (n : ℕ) (c : ChunkPos) (d : �
       → es ≡ xs ++ (record { by = by; event = Begin worker r }) ∷ (ms ++ f ∷ zs) → begins w c xs + 1 ≡ d
       → (after_all w xs).grid.owner (section_of (after_all w xs).grid.grid c) ≡ r → NoEnd r ms → f.event ≡ End k r tick ran given
       → (names n f.event ≡ 1) × (named n zs ≡ 0)
-      × ((p left : ℕ) (inner : Deed) → a ≡ action.Every p left inner → 2 ≤ left → IsRepeated (after_all (after (after_all w xs) (Begin worker r)) ms) r ran c p (left - 1) inner)
+      × ((p left : ℕ) (inner : Deed) → a ≡ action.Every p left inner → 2 ≤ left → IsRepeated (after_all (after (after_all w xs) (Begin worker r)) ms) r ran n c p left inner)

@@ -24,6 +24,7 @@ pub mod End
 pub mod Run
 pub mod OpenTick
 pub mod Legal
+pub mod SoFar
 pub mod DueRule
 pub mod Outputs
 pub mod TextLines

@@ -1,5 +1,5 @@
 -- A tick of worker 1: that it may begin, and that it is out behind the calls that it made.
-use Rattle.std.proofs.Common.{◌≡◌, ℕ, ◌<◌, refl, ◌∙◌, ap, arith, true, false, List, [], ◌∷◌, ◌++◌, append_assoc, length}
+use Rattle.std.proofs.Common.{◌≡◌, ℕ, ◌<◌, refl, sym, ◌∙◌, ap, arith, true, false, List, [], ◌∷◌, ◌++◌, append_assoc, length}
 use Rattle.std.specs.Prelude.{nat_lt}
 use Rattle.std.proofs.lemmas.Bool.{and_parts, ltb-true}
 use Rattle.std.proofs.lemmas.List.{append-nil}
@@ -17,7 +17,7 @@ use Rattle.fol_data.specs.declared.tick.Tick.{Tick}
 use Rattle.fol_tick.specs.Calls.{HostCall}
 use Rattle.fol_tick.specs.Runs.{Finishes}
 use Rattle.fol_core.specs.Answers.{is_owing}
-use Rattle.fol_core.specs.Meaning.{Meaning, Records}
+use Rattle.fol_core.specs.Meaning.{Meaning, Records, world_of}
 use Rattle.fol_core.specs.Ticks.{IsOut, IsTick}
 use Rattle.fol_tick_laws.proofs.FinishedTicks.{out_since}
 use Rattle.fol_solo.specs.Calm.{Calm}
@@ -45,9 +45,9 @@ good_begun o h r calm owing = good_after o (world o h) (Begin 1 r) (good_calm o 
 
 -- behind its Begin and the entries of its calls a finished tick of worker 1 is out
 pub is_out : (m n k : Meaning) (r : ℕ) (a b : Tick) (xs : List HostCall) → IsTick (world m.opening m.history) (length m.history) 1 r a → Finishes a b xs
-    → Records m n 1 (Begin 1 r) → Serves n xs k → IsOut k b
-is_out m n k r a b xs is done begins serves =
+    → Records m n 1 (Begin 1 r) → Allowed (world_of m) (Begin 1 r) → Serves n xs k → IsOut k b
+is_out m n k r a b xs is done begins allowed serves =
     let e : Entry = record { by = 1; event = Begin 1 r } in
     let called : k.history ≡ (m.history ++ e ∷ []) ++ entries_of xs = serves.history ∙ ap (λ h. h ++ entries_of xs) begins.history in
-    out_since m.opening m.history 1 r a b xs is done k 1 (entries_of xs) (serves.opening ∙ begins.opening)
-    (called ∙ append_assoc m.history (e ∷ []) (entries_of xs)) (ends_none r xs)
+    out_since m.opening m.history 1 r a b xs is done k [] (entries_of xs) 1 (serves.opening ∙ begins.opening)
+    (called ∙ append_assoc m.history (e ∷ []) (entries_of xs) ∙ ap (λ (h : List Entry). h ++ e ∷ entries_of xs) (sym (append-nil m.history))) allowed tt (ends_none r xs)

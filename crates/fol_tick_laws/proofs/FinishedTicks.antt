@@ -7,7 +7,8 @@ use Rattle.fol_model.specs.ActionStep.{Flat}
 use Rattle.fol_model.specs.FlatTick.{FlatEnd, flat_tick, outcomes}
 use Rattle.fol_model.specs.OpenTick.{NoEnd}
 use Rattle.fol_model.specs.World.{World}
-use Rattle.fol_model.specs.Run.{world}
+use Rattle.fol_model.specs.Run.{Allowed, world}
+use Rattle.fol_laws.specs.LateBegin.{NoneTouches}
 use Rattle.fol_chunks.specs.Contents.{flat_of, is_recorded, within}
 use Rattle.fol_data.specs.declared.tick.Tick.{Tick}
 use Rattle.fol_tick.specs.Calls.{HostCall, AreCallsOf, given}
@@ -67,16 +68,21 @@ module _ (o : Opening) (h : List Entry) (k r : ℕ) (a b : Tick) (xs : List Host
     moved = done.moved;
   }
 
-  -- it is out in each history that has its Begin and no End of its region since
-  pub out_since : (m : Meaning) (by : ℕ) (since : List Entry) → m.opening ≡ o → m.history ≡ h ++ (record { by = by; event = Begin k r }) ∷ since → NoEnd r since
-      → IsOut m b
-  out_since m by since opening history runs_on = record {
-    before = h;
-    since = since;
-    by = by;
-    begin = rw (worker_is, region_is) history;
+  -- it is out in each history in which it is open
+  pub out_since : (m : Meaning) (between since : List Entry) (by : ℕ) → m.opening ≡ o → m.history ≡ (h ++ between) ++ (record { by = by; event = Begin k r }) ∷ since
+      → Allowed (world o h) (Begin k r) → NoneTouches (world o h) r between → NoEnd r since → IsOut m b
+  out_since m between since by opening history allowed calm runs_on = record {
+    made = record {
+      before = h;
+      between = between;
+      since = since;
+      by = by;
+      begin = rw (worker_is, region_is) history;
+      allowed = rw (opening, region_is) allowed;
+      calm = rw (opening, region_is) calm;
+      runs_on = rw region_is runs_on;
+    };
     place = done.same.begun ∙ is.begun;
-    runs_on = rw region_is runs_on;
     of = rw opening of_begin;
     given = given a.due xs;
     run = rw opening has_run;

@@ -1,10 +1,13 @@
 -- What open ticks may do, and what leaves them open.
-use Rattle.std.proofs.Common.{◌≡◌, ℕ, refl, ◌∙◌, ap, sym, true, false, inl, inr, List, [], ◌∷◌, ◌++◌, append_assoc, length}
+use Rattle.std.proofs.Common.{◌≡◌, ℕ, refl, ◌∙◌, ap, sym, arith, true, false, inl, inr, List, [], ◌∷◌, ◌++◌, append_assoc, length}
 use Rattle.std.specs.Prelude.{◌&&◌, Option, None, is_some, nat_lt, Result, Ok, Err, IfOk, OnErr}
-use Rattle.std.proofs.lemmas.Bool.{and_parts, cases_Bool, ltb-true, ne_eqb}
+use Rattle.std.proofs.lemmas.Bool.{and_parts, cases_Bool, ltb-true, ne_eqb, or_parts}
+use Rattle.std.proofs.lemmas.List.{append-nil}
 use Rattle.fol_model.specs.declared.places.ChunkPos.{ChunkPos}
 use Rattle.fol_model.specs.declared.actions.Action.{Action}
 use Rattle.fol_model.specs.declared.regions.State.{State}
+use Rattle.fol_model.specs.declared.regions.State.TheVariants.{Ready, Ticking, Transient, Dead}
+use Rattle.fol_model.specs.GridState.{is_ready}
 use Rattle.fol_model.specs.declared.events.Entry.{Entry}
 use Rattle.fol_model.specs.declared.events.Event.{Event}
 use Rattle.fol_model.specs.declared.events.Event.TheVariants.{Begin}
@@ -13,14 +16,13 @@ use Rattle.fol_model.specs.declared.events.Loaded.TheVariants as loads
 use Rattle.fol_model.specs.GridNumbers.{IsGrid}
 use Rattle.fol_model.specs.OpenTick.{NoEnd, is_end}
 use Rattle.fol_model.specs.QueuedTask.{begun}
-use Rattle.fol_model.specs.Run.{Run, world}
-use Rattle.fol_model.specs.World.{World, start}
-use Rattle.fol_laws.proofs.LongerRuns.{world_more}
-use Rattle.fol_laws.proofs.WholeRuns.{Good, good_run}
+use Rattle.fol_model.specs.Run.{Allowed, Run, world}
+use Rattle.fol_model.specs.World.{World}
+use Rattle.fol_laws.proofs.WholeRuns.{Good, good_after, good_run}
 use Rattle.fol_data.specs.declared.tick.Tick.{Tick}
 use Rattle.fol_tick.specs.Calls.{HostCall}
 use Rattle.fol_tick.specs.Runs.{Finishes, MayRun}
-use Rattle.fol_core.specs.Answers.{Begins, IsGiven, LoadRecords, PhaseRecords, PostRecords, end_event, state_result}
+use Rattle.fol_core.specs.Answers.{Begins, IsGiven, LoadRecords, PhaseRecords, PostRecords, end_event, is_over, is_owing, state_result}
 use Rattle.fol_core.specs.Meaning.{Meaning, Records, Stays, world_of}
 use Rattle.fol_core.specs.Ticks.{IsOut, IsTick}
 use Rattle.fol_core.specs.declared.answers.BeginAnswer.{BeginAnswer}
@@ -43,24 +45,34 @@ no_end_more r (x ∷ es) e none other = (none.0, no_end_more r es e none.1 other
 pub open_more : (m n : Meaning) (by : ℕ) (event : Event) (t : Tick) → Records m n by event → is_end t.region event ≡ false → IsOpen m t → IsOpen n t
 open_more m n by event t records other is =
     let e : Entry = record { by = by; event = event } in
-    let b : Entry = record { by = is.by; event = Begin t.worker t.region } in
+    let b : Entry = record { by = is.made.by; event = Begin t.worker t.region } in
     record {
-      before = is.before;
-      since = is.since ++ e ∷ [];
-      by = is.by;
-      begin = records.history ∙ ap (λ h. h ++ e ∷ []) is.begin ∙ append_assoc is.before (b ∷ is.since) (e ∷ []);
-      runs_on = no_end_more t.region is.since e is.runs_on other;
+      made = record {
+        before = is.made.before;
+        between = is.made.between;
+        since = is.made.since ++ e ∷ [];
+        by = is.made.by;
+        begin = records.history ∙ ap (λ h. h ++ e ∷ []) is.made.begin ∙ append_assoc (is.made.before ++ is.made.between) (b ∷ is.made.since) (e ∷ []);
+        allowed = rw records.opening is.made.allowed;
+        calm = rw records.opening is.made.calm;
+        runs_on = no_end_more t.region is.made.since e is.made.runs_on other;
+      };
       is = rw records.opening is.is;
     }
 
 -- no entry more
 open_same : (m n : Meaning) → n.opening ≡ m.opening → n.history ≡ m.history → KeepsOpen m n
 open_same m n opening history t is = record {
-  before = is.before;
-  since = is.since;
-  by = is.by;
-  begin = history ∙ is.begin;
-  runs_on = is.runs_on;
+  made = record {
+    before = is.made.before;
+    between = is.made.between;
+    since = is.made.since;
+    by = is.made.by;
+    begin = history ∙ is.made.begin;
+    allowed = rw opening is.made.allowed;
+    calm = rw opening is.made.calm;
+    runs_on = is.made.runs_on;
+  };
   is = rw opening is.is;
 }
 
@@ -104,6 +116,19 @@ open_others m n t u xs done records v other is =
 
 -- ---- a tick from its Begin to its End
 
+ready_is : (s : State) → is_ready s ≡ true → s ≡ Ready
+ready_is Ready h = refl
+ready_is Ticking h = absurd (cc)
+ready_is Transient h = absurd (cc)
+ready_is Dead h = absurd (cc)
+
+-- a region that owes a tick may begin it
+pub may_begin : (w : World) (k r : ℕ) → is_owing w r ≡ true → is_over w ≡ false → Allowed w (Begin k r)
+may_begin w k r owing on =
+    let both = and_parts (is_ready (w.grid.state r)) (nat_lt 0 (w.owed r)) owing in
+    let some = ltb-true 0 (w.owed r) both.1 in
+    (ready_is (w.grid.state r) both.0, (omega arith), (or_parts w.finished w.stopped on).1)
+
 -- a Begin opens its tick
 pub opens : (m n : Meaning) (by k r : ℕ) (tick : Tick) → Begins m n by k r (Got tick) → IsOpen n tick
 opens m n by k r tick begins =
@@ -121,29 +146,36 @@ opens m n by k r tick begins =
       next = given.next;
       moved = given.moved;
     } in
+    let e : Entry = record { by = by; event = Begin tick.worker tick.region } in
+    let ended : n.history ≡ m.history ++ e ∷ [] = rw (worker, region) begins.3.history in
     record {
-      before = m.history;
-      since = [];
-      by = by;
-      begin = rw (worker, region) begins.3.history;
-      runs_on = tt;
+      made = record {
+        before = m.history;
+        between = [];
+        since = [];
+        by = by;
+        begin = ended ∙ ap (λ h. h ++ e ∷ []) (sym (append-nil m.history));
+        allowed = rw (begins.3.opening, region) (may_begin (world_of m) k r begins.1 begins.0);
+        calm = tt;
+        runs_on = tt;
+      };
       is = rw begins.3.opening own;
     }
 
 -- an open tick may run
 pub may_run_open : (m : Meaning) (t : Tick) → IsGrid m.opening.grid → Run m.opening m.history → IsOpen m t → MayRun t
 may_run_open m t grid run is =
-    let e : Entry = record { by = is.by; event = Begin t.worker t.region } in
-    let split : m.history ≡ (is.before ++ e ∷ []) ++ is.since = is.begin ∙ sym (append_assoc is.before (e ∷ []) is.since) in
-    let whole : Run m.opening ((is.before ++ e ∷ []) ++ is.since) = rw split at run in
-    let behind : Good m.opening (world m.opening (is.before ++ e ∷ [])) = good_run m.opening (is.before ++ e ∷ []) is.since grid whole in
-    let good : Good m.opening (begun (world m.opening is.before) t.worker t.region) = rw (world_more (start m.opening) is.before e) at behind in
-    may_run m.opening (world m.opening is.before) t.worker t.region (length is.before) t good is.is
+    let e : Entry = record { by = is.made.by; event = Begin t.worker t.region } in
+    let rest = is.made.between ++ e ∷ is.made.since in
+    let whole : Run m.opening (is.made.before ++ rest) = rw (is.made.begin, append_assoc) at run in
+    let there : Good m.opening (world m.opening is.made.before) = good_run m.opening is.made.before rest grid whole in
+    let behind : Good m.opening (begun (world m.opening is.made.before) t.worker t.region) = good_after m.opening (world m.opening is.made.before) (Begin t.worker t.region) there is.made.allowed in
+    may_run m.opening (world m.opening is.made.before) t.worker t.region (length is.made.before) t behind is.is
 
 -- and when it has run it is out
 pub out_when_run : (m : Meaning) (t u : Tick) (xs : List HostCall) → IsOpen m t → Finishes t u xs → IsOut m u
 out_when_run m t u xs is done =
-    out_since m.opening is.before t.worker t.region t u xs is.is done m is.by is.since refl is.begin is.runs_on
+    out_since m.opening is.made.before t.worker t.region t u xs is.is done m is.made.between is.made.since is.made.by refl is.made.begin is.made.allowed is.made.calm is.made.runs_on
 
 -- ---- what a query tells
 

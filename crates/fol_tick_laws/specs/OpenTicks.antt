@@ -12,16 +12,12 @@ use Rattle.fol_tick.specs.Runs.{Finishes, MayRun}
 use Rattle.fol_core.specs.Answers.{Begins}
 use Rattle.fol_core.specs.declared.answers.BeginAnswer.TheVariants.{Got}
 use Rattle.fol_core.specs.Meaning.{Meaning, Records}
-use Rattle.fol_core.specs.Ticks.{IsOut, IsTick}
+use Rattle.fol_core.specs.Ticks.{IsBegun, IsOut, IsTick}
 
--- the tick is that of a Begin in the history, which no End of its region follows, and none of its tasks has run
+-- the tick is open in the history, and none of its tasks has run
 pub record IsOpen (m : Meaning) (tick : Tick) : Type 0 where
-  pub before : List Entry
-  pub since : List Entry
-  pub by : ℕ
-  pub begin : m.history ≡ before ++ (record { by = by; event = Begin tick.worker tick.region }) ∷ since
-  pub runs_on : NoEnd tick.region since
-  pub is : IsTick (world m.opening before) (length before) tick.worker tick.region tick
+  pub made : IsBegun m.opening m.history tick.worker tick.region
+  pub is : IsTick (world m.opening made.before) (length made.before) tick.worker tick.region tick
 
 -- each open tick is still open
 abbrev pub KeepsOpen : Meaning → Meaning → Type 0

@@ -1,8 +1,7 @@
 use Rattle.std.proofs.Common.{length}
 use Rattle.fol_core.specs.Meaning.{Meaning, world_of}
 use Rattle.fol_tick_laws.proofs.BegunTicks.{may_run}
-use Rattle.fol_solo.proofs.CalmTicks.{good_begun}
-use Rattle.fol_solo.proofs.CalmTicks.{is_out}
+use Rattle.fol_solo.proofs.CalmTicks.{good_begun, is_out, may_begin}
 use Rattle.fol_solo.proofs.TickCalls.{tick_done}
 use Rattle.fol_solo.proofs.solo.Solo.tick.Goals as goal
 
@@ -18,7 +17,7 @@ end-requires g c =
     let run = c.in_ok-run_tick.ensures.ok in
     record {
       out = is_out c.args.self.now c.begin.new.self c.run_tick.new.host c.args.region c.in_ok-tick.tick c.run_tick.new.tick run.0
-          begun.is run.2 begun.recorded run.1;
+          begun.is run.2 begun.recorded (may_begin (world_of c.args.self.now) c.args.region c.requires.owing c.requires.calm.stopped) run.1;
     }
 
 pub returns : goal.returns
