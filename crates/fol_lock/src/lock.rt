@@ -97,6 +97,14 @@ impl<S: Kept> Lock<S> {
         seats
     }
 
+    /// How many seats have their turn or wait for it. Other threads go on meanwhile, so this is a hint for a caller that can as well do
+    /// something else first, and nothing is promised of it. It takes no memory and doesn't wait.
+    pub fn crowd(&self) -> u64 {
+        let shared = &self.table.shared;
+        let serving = shared.peek(SERVING);
+        shared.peek(NEXT).wrapping_sub(serving)
+    }
+
     /// Waits for the seat's turn. What the seat knows holds of the state, and the seat has then seen the whole log.
     /// It takes no memory. Nothing is promised of when it returns.
     pub fn take<R: Wait>(&self, rt: &R, seat: &mut Seat<S>) -> Turn<S>
