@@ -1,3 +1,4 @@
 pub mod Parted
 pub mod Joined
 pub mod OneTask
+pub mod Crossing

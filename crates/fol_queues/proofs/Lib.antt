@@ -5,3 +5,4 @@ pub mod Parting
 pub mod Queued
 pub mod Raised
 pub mod OneTask
+pub mod Crossing

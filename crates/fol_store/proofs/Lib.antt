@@ -23,3 +23,4 @@ pub mod Ordered
 pub mod Listing
 pub mod RowLists
 pub mod Returning
+pub mod Crossing

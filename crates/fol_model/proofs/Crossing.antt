@@ -1,0 +1,68 @@
+-- The types of the model with an action inside may go to another thread.
+use denote.RattleType.{RattleType}
+use denote.Hole.{as_row}
+use denote.Param.Send.{IsSend, sendable}
+use denote.Param.SendFields.{as_row_send}
+use Rattle.std.proofs.Crossing.{Box-send}
+use Rattle.fol_model.proofs.actions.Nested.TheLaws.TheKnot as knot
+use Rattle.fol_model.proofs.lists.Sequence.TheSendSync as sequences
+use Rattle.fol_model.specs.contracts.actions.Action as action
+use Rattle.fol_model.specs.contracts.actions.Nested as nested
+use Rattle.fol_model.specs.contracts.entities.Entity as entity
+use Rattle.fol_model.specs.contracts.events.Accept as accept
+use Rattle.fol_model.specs.contracts.events.Entry as entry
+use Rattle.fol_model.specs.contracts.events.Event as event
+use Rattle.fol_model.specs.contracts.events.Loaded as loaded
+use Rattle.fol_model.specs.contracts.events.Unloaded as unloaded
+use Rattle.fol_model.specs.contracts.lists.Sequence as sequence
+use Rattle.fol_model.specs.contracts.places.BlockPos as block
+use Rattle.fol_model.specs.contracts.places.ChunkPos as chunk
+use Rattle.fol_model.specs.contracts.tasks.Ran as ran
+use Rattle.fol_model.specs.contracts.tasks.Task as task
+use Rattle.fol_model.specs.contracts.tasks.TickLog as log
+use Rattle.fol_model.specs.contracts.tasks.Wish as wish
+
+pub BlockPos-send : IsSend (block.the_field).row
+BlockPos-send = search sendable
+
+pub ChunkPos-send : IsSend (chunk.the_field).row
+ChunkPos-send = search sendable
+
+pub Entity-send : IsSend (entity.the_field).row
+Entity-send = search (sendable, BlockPos-send) depth 14
+
+pub Nested-send : IsSend (nested.the_field).row
+Nested-send = knot.send-Nested Box-send (search (sendable, BlockPos-send)) (search sendable) (search (sendable, ChunkPos-send)) (search sendable) (search (sendable, Entity-send))
+
+pub Action-send : IsSend (action.the_field).row
+Action-send = knot.send-Action BlockPos-send (search sendable) ChunkPos-send (search sendable) Nested-send Entity-send
+
+pub Sequence-send : (T : RattleType) → IsSend T → IsSend (sequence.the_field T).row
+Sequence-send T s = sequences.the_send T s
+
+pub Task-send : IsSend (task.the_field).row
+Task-send = search (sendable, Action-send, ChunkPos-send) depth 14
+
+Loaded-send : IsSend (loaded.the_field).row
+Loaded-send = search sendable depth 14
+
+Unloaded-send : IsSend (unloaded.the_field).row
+Unloaded-send = search sendable depth 14
+
+Accept-send : IsSend (accept.the_field).row
+Accept-send = search sendable depth 14
+
+Ran-send : IsSend (ran.the_field).row
+Ran-send = search sendable depth 14
+
+Wish-send : IsSend (wish.the_field).row
+Wish-send = search (sendable, Action-send, ChunkPos-send, BlockPos-send) depth 14
+
+pub TickLog-send : IsSend (log.the_field).row
+TickLog-send = search (sendable, Ran-send, Wish-send, Sequence-send) depth 14
+
+Event-send : IsSend (event.the_field).row
+Event-send = search (sendable, Action-send, ChunkPos-send, Loaded-send, Unloaded-send, Accept-send, Ran-send, Sequence-send) depth 20
+
+pub Entry-send : IsSend (entry.the_field).row
+Entry-send = search (sendable, Event-send) depth 14
