@@ -1,7 +1,10 @@
 //! Places of chunks, sections and blocks.
 
-ghost use Rattle.std.specs.Prelude.{◌≡◌, pos, nat_abs, nat_le, int_le, ◌&&◌};
+ghost use Rattle.std.specs.Prelude.{◌≡◌, ◌≤◌, pos, ◌+ℤ◌, ◌-ℤ◌, nat_abs, nat_le, int_le, ◌&&◌};
 ghost use Rattle.fol_model.specs.Geometry.{distance as distance_between, is_block, is_chunk, is_section, chunk_of as chunk_around};
+
+/// The most sections that may be present.
+pub const MOST_SECTIONS: usize = 16_384;
 
 /// The place of a chunk: a column of 16 by 16 blocks.
 ///
@@ -78,6 +81,31 @@ pub fn distance(a: SectionPos, b: SectionPos) -> u32
     ensures { result ≡ distance_between a b }
 {
     a.x.abs_diff(b.x).max(a.z.abs_diff(b.z))
+}
+
+/// The section with the least coordinates of those within a radius.
+pub fn corner(s: SectionPos, radius: u8) -> SectionPos
+    requires near { (nat_abs s.x ≤ 1000008) × (nat_abs s.z ≤ 1000008) }
+    requires few { radius ≤ 12 }
+    ensures { result ≡ record { x = s.x -ℤ pos radius; z = s.z -ℤ pos radius } }
+{
+    let reach = radius as i32;
+    SectionPos {
+        x: s.x - reach,
+        z: s.z - reach,
+    }
+}
+
+/// The section that many columns and rows behind another one.
+pub fn beside(first: SectionPos, columns: u32, rows: u32) -> SectionPos
+    requires near { (nat_abs first.x ≤ 1000020) × (nat_abs first.z ≤ 1000020) }
+    requires few { (columns ≤ 25) × (rows ≤ 25) }
+    ensures { result ≡ record { x = first.x +ℤ pos columns; z = first.z +ℤ pos rows } }
+{
+    SectionPos {
+        x: first.x + columns as i32,
+        z: first.z + rows as i32,
+    }
 }
 
 /// Whether a coordinate is at most `limit` away from 0.

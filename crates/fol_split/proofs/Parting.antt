@@ -13,10 +13,10 @@ use Rattle.std.proofs.lemmas.List.Folds.{list_any-append}
 use Rattle.std.proofs.lemmas.Map.Keys.{Less-from_sorted, sorted_head}
 use Rattle.std.proofs.Math.Seq.{take-append_seam, drop-append_seam}
 use Rattle.fol_model.specs.declared.places.SectionPos.{SectionPos}
-use Rattle.fol_model.specs.Geometry.{same_section}
+use Rattle.fol_model.specs.Geometry.{same_section, is_among}
 use Rattle.fol_model.specs.Universe.{section_cmp}
 use Rattle.fol_split.specs.declared.spans.Span.{Span}
-use Rattle.fol_split.specs.Parts.{is_among, least_of, IsJoined, IsPart, ArePartsOf}
+use Rattle.fol_split.specs.Parts.{least_of, IsJoined, IsPart, ArePartsOf}
 use Rattle.fol_split.specs.Pool.{Taken, TakesClass, SortsFrom, IsApart, is_left}
 use Rattle.fol_split.specs.Spans.{IsSpan, IsSplit, piece_of, pieces_of}
 use Rattle.fol_split.proofs.Places.{same_section-true, same_section-self, section_order}
