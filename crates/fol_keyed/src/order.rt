@@ -1,8 +1,7 @@
 //! The orders of places.
 
 ghost use Rattle.std.specs.Prelude.{◌≡◌};
-ghost use Rattle.fol_model.specs.Universe.{block_cmp};
-ghost use Rattle.fol_keyed.specs.Order.{chunk_cmp, section_cmp};
+ghost use Rattle.fol_model.specs.Universe.{block_cmp, chunk_cmp, section_cmp};
 
 use fol_model::{BlockPos, ChunkPos, SectionPos};
 use std::cmp::Ordering;
@@ -16,6 +15,7 @@ pub fn compare_blocks(a: BlockPos, b: BlockPos) -> Ordering
 }
 
 /// By z, then by x.
+#[tactic(auto, unfolding(fol_model::specs::Universe::chunk_cmp))]
 pub fn compare_chunks(a: ChunkPos, b: ChunkPos) -> Ordering
     ensures { result ≡ chunk_cmp a b }
 {
@@ -23,6 +23,7 @@ pub fn compare_chunks(a: ChunkPos, b: ChunkPos) -> Ordering
 }
 
 /// By z, then by x.
+#[tactic(auto, unfolding(fol_model::specs::Universe::section_cmp))]
 pub fn compare_sections(a: SectionPos, b: SectionPos) -> Ordering
     ensures { result ≡ section_cmp a b }
 {
