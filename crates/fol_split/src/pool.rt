@@ -1,6 +1,6 @@
 //! The sections that are to be split, and which of them were taken.
 
-ghost use Rattle.std.specs.Prelude.{◌≡◌, not, ◌&&◌, ℕ, ◌+◌, ◌<◌, ◌≤◌, Bool, IsTrue, IfOk, List, [], ◌∷◌, ◌++◌, length, take, drop, pos, ◌+ℤ◌, ◌-ℤ◌, nat_abs};
+ghost use Rattle.std.specs.Prelude.{◌≡◌, not, ◌&&◌, ◌+◌, ◌<◌, ◌≤◌, IsTrue, IfOk, [], length, take, drop, nat_abs};
 ghost use Rattle.std.specs.List.{All, IsDistinct, slice_index_or};
 ghost use Rattle.std.specs.List.Sorted.{IsStrictlySortedBy, IsPermutation};
 ghost use Rattle.std.specs.HashMap.{hash_map_len, spare};
