@@ -1,2 +1,2 @@
 -- The orders of chunks and of sections.
-pub use Rattle.fol_model.specs.Universe.{chunk_cmp, section_cmp}
+unfoldable pub use Rattle.fol_model.specs.Universe.{chunk_cmp, section_cmp}

@@ -1,2 +1,2 @@
 -- The order of the list of all chunks.
-pub use Rattle.fol_model.specs.Universe.{chunk_cmp}
+unfoldable pub use Rattle.fol_model.specs.Universe.{chunk_cmp}
