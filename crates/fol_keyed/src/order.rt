@@ -11,7 +11,7 @@ use std::cmp::Ordering;
 pub fn compare_blocks(a: BlockPos, b: BlockPos) -> Ordering
     ensures { result ≡ block_cmp a b }
 {
-    a.x.cmp(&b.x).then(a.y.cmp(&b.y).then(a.z.cmp(&b.z)))
+    a.cmp(&b)
 }
 
 /// By z, then by x.
@@ -19,7 +19,7 @@ pub fn compare_blocks(a: BlockPos, b: BlockPos) -> Ordering
 pub fn compare_chunks(a: ChunkPos, b: ChunkPos) -> Ordering
     ensures { result ≡ chunk_cmp a b }
 {
-    a.z.cmp(&b.z).then(a.x.cmp(&b.x))
+    a.cmp(&b)
 }
 
 /// By z, then by x.
@@ -27,5 +27,5 @@ pub fn compare_chunks(a: ChunkPos, b: ChunkPos) -> Ordering
 pub fn compare_sections(a: SectionPos, b: SectionPos) -> Ordering
     ensures { result ≡ section_cmp a b }
 {
-    a.z.cmp(&b.z).then(a.x.cmp(&b.x))
+    a.cmp(&b)
 }
