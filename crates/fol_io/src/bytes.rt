@@ -24,6 +24,7 @@ impl Bytes {
         Bytes { elements }
     }
 
+    /// The bytes, in order.
     pub fn as_slice(&self) -> &[u8]
         ensures { result.now ≡ self.now }
     {

@@ -18,8 +18,11 @@ use std::marker::Model;
 /// A file of a shelf in memory: its name, its bytes, and how many faults its name met.
 #[derive(Drop)]
 pub struct NamedBytes {
+    /// The name.
     pub name: Text,
+    /// What the file holds.
     pub bytes: Bytes,
+    /// How many reads of the name failed, at most 2^64 - 1.
     pub faults: u64,
 }
 

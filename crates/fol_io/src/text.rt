@@ -24,6 +24,7 @@ impl Text {
         Text { string }
     }
 
+    /// The text itself.
     pub fn as_str(&self) -> &str
         ensures { result.now ≡ self.now }
     {

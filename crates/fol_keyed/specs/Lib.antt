@@ -4,4 +4,3 @@ pub mod Order
 pub mod Members
 pub mod Areas
 pub mod Apart
-pub mod Total

@@ -1,8 +1,7 @@
 //! The orders of places.
 
 ghost use Rattle.std.specs.Prelude.{◌≡◌};
-ghost use Rattle.fol_model.specs.Universe.{block_cmp};
-ghost use Rattle.fol_keyed.specs.Order.{chunk_cmp, section_cmp};
+ghost use Rattle.fol_model.specs.Universe.{block_cmp, chunk_cmp, section_cmp};
 
 use fol_model::{BlockPos, ChunkPos, SectionPos};
 use std::cmp::Ordering;
@@ -12,19 +11,21 @@ use std::cmp::Ordering;
 pub fn compare_blocks(a: BlockPos, b: BlockPos) -> Ordering
     ensures { result ≡ block_cmp a b }
 {
-    a.x.cmp(&b.x).then(a.y.cmp(&b.y).then(a.z.cmp(&b.z)))
+    a.cmp(&b)
 }
 
 /// By z, then by x.
+#[tactic(auto, unfolding(fol_model::specs::Universe::chunk_cmp))]
 pub fn compare_chunks(a: ChunkPos, b: ChunkPos) -> Ordering
     ensures { result ≡ chunk_cmp a b }
 {
-    a.z.cmp(&b.z).then(a.x.cmp(&b.x))
+    a.cmp(&b)
 }
 
 /// By z, then by x.
+#[tactic(auto, unfolding(fol_model::specs::Universe::section_cmp))]
 pub fn compare_sections(a: SectionPos, b: SectionPos) -> Ordering
     ensures { result ≡ section_cmp a b }
 {
-    a.z.cmp(&b.z).then(a.x.cmp(&b.x))
+    a.cmp(&b)
 }

@@ -33,7 +33,7 @@ impl Row for BlockAt {
     ghost use Rattle.fol_model.specs.Geometry.{chunk_of};
     ghost use Rattle.fol_model.specs.Universe.{block_cmp};
     ghost use Rattle.std.proofs.lemmas.Cmp.{on_total};
-    ghost use Rattle.fol_keyed.specs.Total.{block_cmp_total};
+    ghost use Rattle.fol_model.proofs.PlaceKeys.{block_cmp_total};
 
     ghost order = { λ a b. block_cmp a.at b.at };
 

@@ -4,7 +4,8 @@ ghost use Rattle.std.specs.Prelude.{◌≡◌, true};
 ghost use Rattle.std.specs.List.Sorted.{IsStrictlySortedBy};
 ghost use Rattle.std.proofs.Props.{props};
 ghost use Rattle.fol_keyed.specs.Order.{section_cmp};
-ghost use Rattle.fol_keyed.specs.Members.{is_in, is_one_of};
+ghost use Rattle.fol_model.specs.Geometry.{is_among};
+ghost use Rattle.fol_keyed.specs.Members.{is_in};
 
 use crate::compare_sections;
 use fol_model::{ChunkPos, Grid, SectionPos, section_of};
@@ -63,7 +64,7 @@ fn are_in_order(sections: &[SectionPos]) -> bool
 /// Whether the section is one of these, which stand in order.
 fn is_found(sections: &[SectionPos], section: SectionPos) -> bool
     requires { IsStrictlySortedBy section_cmp sections.now }
-    ensures { result ≡ is_one_of sections.now section }
+    ensures { result ≡ is_among sections.now section }
 {
     sections
         .binary_search_by(|place| compare_sections(*place, section))
@@ -73,7 +74,7 @@ fn is_found(sections: &[SectionPos], section: SectionPos) -> bool
 /// Whether the section is one of these.
 #[tactic(auto, unfolding(fol_model::specs::Geometry::same_section))]
 fn is_met(sections: &[SectionPos], section: SectionPos) -> bool
-    ensures { result ≡ is_one_of sections.now section }
+    ensures { result ≡ is_among sections.now section }
 {
     sections.iter().any(|place| section == *place)
 }

@@ -4,10 +4,9 @@ use Rattle.std.specs.Prelude.{ℤ, pos, neg_ℤ, ◌+ℤ◌, negsuc, ◌<ℤ◌,
 use Rattle.std.specs.List.{AllByRecursion, count_by, list_any}
 use Rattle.std.specs.List.Sorted.{IsStrictlySortedBy}
 use Rattle.std.specs.Int.{int_div_euclid}
-use Rattle.std.specs.Ordering.{int_cmp, eq_by_cmp}
+use Rattle.std.specs.Ordering.{eq_by_cmp}
 use Rattle.std.specs.declared.cmp.Ordering.TheVariants.{Less}
 use Rattle.std.proofs.Math.Path.{fun_ext}
-use Rattle.std.proofs.lemmas.Cmp.{int_cmp_total, on_total, then_total}
 use Rattle.std.proofs.lemmas.Bool.{and_parts, and_from, leb-true, le-leb}
 use borrow.Author.Differences.{ints}
 use Rattle.fol_model.specs.declared.places.BlockPos.{BlockPos}
@@ -18,18 +17,12 @@ use Rattle.fol_laws.proofs.Listed as listed
 use Rattle.fol_laws.proofs.Listed.{Tells}
 use Rattle.fol_laws.proofs.SortedRows.{all_in_rows, all_mapped, in_row, in_rows, plane_sorted, rows_sorted, in_row_gives, in_rows_gives}
 use Rattle.fol_laws.proofs.FloorDivision.{block_range, range_block}
-use Rattle.fol_laws.proofs.OrderSteps.{less, equal_self, int_same, then_same}
+use Rattle.fol_laws.proofs.OrderSteps.{less, equal_self}
 use Rattle.fol_laws.proofs.Tests.{same_answer}
-use Rattle.fol_laws.proofs.SamePlaces.{same_block-self, same_block-true}
+use Rattle.fol_model.proofs.PlaceKeys.{block_cmp_total, block_cmp_tells, same_block-self, same_block-true}
 
 pub blocks_tell : Tells block_cmp
-unfolding block_cmp
-blocks_tell = record {
-  order = then_total (on_total (λ (b : BlockPos). b.x) int_cmp_total) (then_total (on_total (λ (b : BlockPos). b.y) int_cmp_total) (on_total (λ (b : BlockPos). b.z) int_cmp_total));
-  same = λ a b e. let p = then_same (int_cmp a.x b.x) _ e in let q = then_same (int_cmp a.y b.y) _ p.1 in
-      let x = int_same a.x b.x p.0 in let y = int_same a.y b.y q.0 in let z = int_same a.z b.z q.1 in
-      λ i. record { x = x i; y = y i; z = z i };
-}
+blocks_tell = record { order = block_cmp_total; same = block_cmp_tells }
 
 less_x : (x a y b z d : ℤ) → x <ℤ a → block_cmp (record { x = x; y = y; z = z }) (record { x = a; y = b; z = d }) ≡ Less
 unfolding block_cmp

@@ -3,30 +3,23 @@ use Rattle.std.proofs.Common.{◌≡◌, ◌+◌, refl, sym, ◌∙◌, ap, Bool
 use Rattle.std.specs.Prelude.{ℤ, ◌<ℤ◌, filter}
 use Rattle.std.specs.List.{count_by, list_any}
 use Rattle.std.specs.List.Sorted.{IsStrictlySortedBy}
-use Rattle.std.specs.Ordering.{int_cmp, eq_by_cmp}
+use Rattle.std.specs.Ordering.{eq_by_cmp}
 use Rattle.std.specs.declared.cmp.Ordering.TheVariants.{Less}
 use Rattle.std.proofs.Math.Path.{fun_ext}
-use Rattle.std.proofs.lemmas.Cmp.{int_cmp_total, on_total, then_total}
 use Rattle.fol_model.specs.declared.places.ChunkPos.{ChunkPos}
 use Rattle.fol_model.specs.Geometry.{same_chunk, is_chunk}
-use Rattle.fol_model.specs.Universe.{coordinates, all_chunks}
-use Rattle.fol_laws.specs.ChunkOrder.{chunk_cmp}
+use Rattle.fol_model.specs.Universe.{coordinates, all_chunks, chunk_cmp}
 use Rattle.fol_laws.specs.Orders.{Lists}
-use Rattle.fol_laws.proofs.SamePlaces.{same_chunk-true, same_chunk-self}
+use Rattle.fol_model.proofs.PlaceKeys.{chunk_cmp_total, chunk_cmp_tells, same_chunk-true, same_chunk-self}
 use Rattle.fol_laws.proofs.AllSections.{some_chunk-is, some_chunk-gives}
 use Rattle.fol_laws.proofs.Listed as listed
 use Rattle.fol_laws.proofs.Listed.{Tells}
 use Rattle.fol_laws.proofs.Tests.{same_answer}
-use Rattle.fol_laws.proofs.OrderSteps.{less, equal_self, int_same, then_same}
+use Rattle.fol_laws.proofs.OrderSteps.{less, equal_self}
 use Rattle.fol_laws.proofs.SortedRows.{plane_sorted}
 
 pub chunks_tell : Tells chunk_cmp
-unfolding chunk_cmp
-chunks_tell = record {
-  order = then_total (on_total (λ (s : ChunkPos). s.z) int_cmp_total) (on_total (λ (s : ChunkPos). s.x) int_cmp_total);
-  same = λ a b e. let p = then_same (int_cmp a.z b.z) _ e in let z = int_same a.z b.z p.0 in let x = int_same a.x b.x p.1 in
-      λ i. record { x = x i; z = z i };
-}
+chunks_tell = record { order = chunk_cmp_total; same = chunk_cmp_tells }
 
 in_row : (z x y : ℤ) → x <ℤ y → chunk_cmp (record { x = x; z = z }) (record { x = y; z = z }) ≡ Less
 unfolding chunk_cmp

@@ -83,4 +83,5 @@ pub mod GrowthLaws
 pub mod PhaseLaws
 pub mod LateLaws
 pub mod OutcomeLaws
+pub mod MoreWorkers
 pub mod HistoryLaws

@@ -3,10 +3,9 @@ use Rattle.std.proofs.Common.{◌≡◌, ℕ, ◌+◌, ◌<◌, ◌≤◌, refl,
 use Rattle.std.specs.Prelude.{ℤ, pos, neg_ℤ, ◌+ℤ◌, ◌-ℤ◌, ◌<ℤ◌, nat_abs, map, filter}
 use Rattle.std.specs.List.{count_by, list_any}
 use Rattle.std.specs.List.Sorted.{IsStrictlySortedBy}
-use Rattle.std.specs.Ordering.{int_cmp, eq_by_cmp}
+use Rattle.std.specs.Ordering.{eq_by_cmp}
 use Rattle.std.specs.declared.cmp.Ordering.TheVariants.{Less}
 use Rattle.std.proofs.Math.Path.{fun_ext}
-use Rattle.std.proofs.lemmas.Cmp.{int_cmp_total, on_total, then_total}
 use Rattle.std.proofs.lemmas.List.Kept.{IsStrictlySortedBy-filter}
 use Rattle.std.proofs.lemmas.List.Sums.{length-filter}
 use Rattle.std.proofs.lemmas.Bool.{and_parts, leb-true, le-leb}
@@ -15,22 +14,17 @@ use Rattle.fol_model.specs.declared.places.SectionPos.{SectionPos}
 use Rattle.fol_model.specs.Geometry.{same_section, is_section, is_within, distance}
 use Rattle.fol_model.specs.Universe.{from, coordinates, all_sections, section_cmp, count_sections, square}
 use Rattle.fol_laws.specs.Orders.{Lists}
-use Rattle.fol_laws.proofs.SamePlaces.{same_section-true, same_section-self}
+use Rattle.fol_model.proofs.PlaceKeys.{section_cmp_total, section_cmp_tells, same_section-true, same_section-self}
 use Rattle.fol_laws.proofs.AllSections.{some_section-is, some_section-gives}
 use Rattle.fol_laws.proofs.Coordinates.{list_any-from, list_any-from_gives, list_any-map, list_any-flat_map}
 use Rattle.fol_laws.proofs.Listed as listed
 use Rattle.fol_laws.proofs.Listed.{Tells}
 use Rattle.fol_laws.proofs.Tests.{same_answer}
-use Rattle.fol_laws.proofs.OrderSteps.{less, equal_self, int_same, then_same}
+use Rattle.fol_laws.proofs.OrderSteps.{less, equal_self}
 use Rattle.fol_laws.proofs.SortedRows.{plane_sorted}
 
 pub sections_tell : Tells section_cmp
-unfolding section_cmp
-sections_tell = record {
-  order = then_total (on_total (λ (s : SectionPos). s.z) int_cmp_total) (on_total (λ (s : SectionPos). s.x) int_cmp_total);
-  same = λ a b e. let p = then_same (int_cmp a.z b.z) _ e in let z = int_same a.z b.z p.0 in let x = int_same a.x b.x p.1 in
-      λ i. record { x = x i; z = z i };
-}
+sections_tell = record { order = section_cmp_total; same = section_cmp_tells }
 
 in_row : (z x y : ℤ) → x <ℤ y → section_cmp (record { x = x; z = z }) (record { x = y; z = z }) ≡ Less
 unfolding section_cmp

@@ -1,8 +1,2 @@
 -- The order of the list of all chunks.
-use Rattle.std.specs.Ordering.{int_cmp, on, then_cmp}
-use Rattle.std.specs.declared.cmp.Ordering.{Ordering}
-use Rattle.fol_model.specs.declared.places.ChunkPos.{ChunkPos}
-
--- by z, and then by x
-unfoldable pub chunk_cmp : ChunkPos → ChunkPos → Ordering
-chunk_cmp = then_cmp (on (λ c. c.z) int_cmp) (on (λ c. c.x) int_cmp)
+unfoldable pub use Rattle.fol_model.specs.Universe.{chunk_cmp}

@@ -17,4 +17,5 @@ pub mod ChunkOrder
 pub mod Phases
 pub mod LateBegin
 pub mod ByUnread
+pub mod MoreWorkers
 pub mod Orders

@@ -5,8 +5,7 @@ use Rattle.std.specs.List.Sorted.{IsStrictlySortedBy}
 use Rattle.std.specs.Ordering.{nat_cmp, eq_by_cmp}
 use Rattle.std.specs.declared.cmp.Ordering.{Ordering}
 use Rattle.fol_model.specs.Geometry.{is_section, is_chunk, is_block}
-use Rattle.fol_model.specs.Universe.{all_sections, all_chunks, all_blocks, section_cmp, block_cmp, numbers_below}
-use Rattle.fol_laws.specs.ChunkOrder.{chunk_cmp}
+use Rattle.fol_model.specs.Universe.{all_sections, all_chunks, all_blocks, section_cmp, block_cmp, numbers_below, chunk_cmp}
 
 pub record Lists {X : Type 0} (c : X → X → Ordering) (within : X → Bool) (all : List X) : Type 0 where
   -- in strict order, so that none is there twice

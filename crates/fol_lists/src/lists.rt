@@ -163,7 +163,7 @@ impl<T: Copy> Lists<T> {
         Ok(())
     }
 
-    /// The same lists with the same room, in memory of their own. Answers want of memory alone.
+    /// The same lists with the same room, in memory of their own. The only error is out of memory.
     pub fn copy(&self, alloc: Global) -> Result<Lists<T>, AllocError>
         ensures { IfOk result (λ v. v ≡ self.now) }
     {

@@ -5,7 +5,9 @@ ghost use Rattle.std.specs.Prelude.{◌≡◌, ◌-◌, ◌≤◌};
 /// From a place on, up to but not including another.
 #[derive(Clone, Copy)]
 pub struct Span {
+    /// The first place.
     pub from: usize,
+    /// The place behind the last one.
     pub to: usize,
 }
 

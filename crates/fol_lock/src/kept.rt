@@ -1,3 +1,5 @@
+//! What a lock can keep.
+
 ghost use Rattle.std.specs.Prelude.{ℕ, List};
 
 /// A state that a lock can keep. A program calls nothing of this trait: only contracts read it.

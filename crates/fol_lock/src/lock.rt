@@ -1,3 +1,5 @@
+//! A lock that serves its seats in the order in which they drew a ticket.
+
 ghost use Rattle.std.specs.Prelude.{◌≡◌, ℕ, ◌<◌, ◌≤◌, false, true, [], List, ◌++◌, All, Contains, Some, IfOk, vec_len, vec_capacity};
 ghost use Rattle.fol_lock.specs.Log.{Extends};
 ghost use Rattle.fol_lock.specs.Seat.{AreNew, AreAll, IsIdle, Continues, at_turn, numbers_of};
@@ -42,6 +44,7 @@ pub struct Lock<S: Kept> {
 
 /// What `Lock::new` makes.
 pub struct LockAndSeats<S: Kept> {
+    /// The lock.
     pub lock: Lock<S>,
 
     /// Numbered from 0, in order.
@@ -52,7 +55,7 @@ impl<S: Kept> Lock<S> {
     ghost use Rattle.fol_lock.specs.Lock.{lock_id, seat_count, lock_origin};
 
     /// A lock over the state, with 1 to 65,535 seats numbered from 0. The state's log is empty.
-    /// The only error is want of memory; the state is then dropped.
+    /// The only error is out of memory; the state is then dropped.
     pub fn new(alloc: Global, state: S, seats: u32) -> Result<LockAndSeats<S>, AllocError>
         requires count { (0 < seats) × (seats < 65536) }
         requires empty { S.log state ≡ [] }

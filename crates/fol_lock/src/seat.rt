@@ -1,3 +1,5 @@
+//! The seats of a lock.
+
 ghost use Rattle.std.specs.Prelude.{◌≡◌, List};
 ghost use Rattle.fol_lock.specs.Seat.{Shown};
 

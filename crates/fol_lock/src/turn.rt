@@ -1,3 +1,5 @@
+//! The turn at a lock.
+
 ghost use Rattle.std.specs.Prelude.{◌≡◌};
 
 /// The right to change the state. It can't be dropped: only `Lock::give` spends it.

@@ -3,6 +3,7 @@ use std::collections::LinkedList;
 
 /// What is known of one seat number.
 pub struct Claim<O, E> {
+    /// The number of the seat.
     pub number: u32,
 
     /// The origin of the state; a spent view has none.
@@ -32,6 +33,7 @@ pub struct View<O, E> {
     /// The ticket that was drawn last, counted without end.
     pub ticket: u64,
 
+    /// The claim under its own number.
     pub own: Claim<O, E>,
 
     /// The claims of the seats that were joined into this one.

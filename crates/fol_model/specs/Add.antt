@@ -1,5 +1,6 @@
 -- A hold more of a chunk: the sections that it needs come, and the near regions that do not tick become one.
 use Rattle.std.specs.Prelude.{ℕ, ◌+◌, Bool, not, ◌&&◌, ◌||◌, nat_eq, nat_lt, if◌then◌else◌}
+use Rattle.fol_model.specs.declared.places.TheConstants.{MOST_SECTIONS}
 use Rattle.fol_model.specs.Counting.{some_below, least}
 use Rattle.fol_model.specs.declared.places.ChunkPos.{ChunkPos}
 use Rattle.fol_model.specs.declared.places.SectionPos.{SectionPos}
@@ -57,7 +58,7 @@ extended g c = record {
 }
 
 unfoldable pub is_full : GridState → ChunkPos → Bool
-is_full g c = nat_lt 16384 (present_count g + wanted g c)
+is_full g c = nat_lt MOST_SECTIONS (present_count g + wanted g c)
 
 unfoldable pub add : GridState → ChunkPos → GridState
 add g c = if is_full g c then g else (if nat_eq (wanted g c) 0 then counted g c else extended g c)

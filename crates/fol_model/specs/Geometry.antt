@@ -1,6 +1,7 @@
 -- Chunks, sections and blocks: which is in which, their limits, and the distance of two sections.
-use Rattle.std.specs.Prelude.{ℕ, ℤ, pos, ◌-ℤ◌, ◌^◌, Bool, ◌&&◌, nat_le, int_le, max, nat_abs}
+use Rattle.std.specs.Prelude.{ℕ, pos, ◌-ℤ◌, ◌^◌, Bool, ◌&&◌, List, nat_le, int_le, max, nat_abs}
 use Rattle.std.specs.Int.{int_div_euclid}
+use Rattle.std.specs.List.{list_any}
 use Rattle.std.specs.Ordering.{int_eq}
 use Rattle.fol_model.specs.declared.places.ChunkPos.{ChunkPos}
 use Rattle.fol_model.specs.declared.places.SectionPos.{SectionPos}
@@ -37,6 +38,10 @@ is_block b = is_chunk (chunk_of b) && (int_le (pos 0) b.y && int_le b.y (pos 255
 
 unfoldable pub same_section : SectionPos → SectionPos → Bool
 same_section a b = int_eq a.x b.x && int_eq a.z b.z
+
+-- the section is one of the list
+abbrev pub is_among : List SectionPos → SectionPos → Bool
+is_among sections s = list_any (same_section s) sections
 
 unfoldable pub same_chunk : ChunkPos → ChunkPos → Bool
 same_chunk a b = int_eq a.x b.x && int_eq a.z b.z

@@ -1,10 +1,10 @@
 -- The state of the grid: which chunks are held, who owns each section, what each region may do and which region waits for which.
-use Rattle.std.specs.Prelude.{ℕ, Bool, true, false, not, ◌&&◌, nat_eq, nat_lt, if◌then◌else◌}
+use Rattle.std.specs.Prelude.{ℕ, Bool, true, false, ◌&&◌, nat_eq, nat_lt, if◌then◌else◌}
 use Rattle.fol_model.specs.declared.places.ChunkPos.{ChunkPos}
 use Rattle.fol_model.specs.declared.places.SectionPos.{SectionPos}
 use Rattle.fol_model.specs.declared.grids.Grid.{Grid}
 use Rattle.fol_model.specs.declared.regions.State.{State}
-use Rattle.fol_model.specs.declared.regions.State.TheVariants.{Transient, Ready, Ticking, Dead}
+use Rattle.fol_model.specs.declared.regions.State.TheVariants.{Ready, Ticking, Dead}
 use Rattle.fol_model.specs.Geometry.{is_within, section_of, same_chunk}
 use Rattle.fol_model.specs.Universe.{some_chunk, count_sections}
 
@@ -20,10 +20,6 @@ pub record GridState : Type 0 where
   pub waits : ℕ → ℕ → Bool
   -- the next id
   pub next : ℕ
-
-abbrev pub is_transient : State → Bool
-is_transient Transient = true
-is_transient _ = false
 
 abbrev pub is_ready : State → Bool
 is_ready Ready = true
@@ -49,9 +45,6 @@ is_present g s = nat_lt 0 (g.owner s)
 -- the section is within the create radius of a section that holds a loaded chunk
 unfoldable pub in_margin : GridState → SectionPos → Bool
 in_margin g s = some_chunk (λ c. is_loaded g c && is_within (section_of g.grid c) g.grid.create s)
-
-abbrev pub is_dead_section : GridState → SectionPos → Bool
-is_dead_section g s = is_present g s && not (in_margin g s)
 
 -- the number of sections of a region
 abbrev pub size : GridState → ℕ → ℕ

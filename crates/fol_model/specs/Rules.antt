@@ -1,5 +1,6 @@
 -- The rules that every state of the grid keeps.
 use Rattle.std.specs.Prelude.{ℕ, ◌≡◌, ◌≢◌, ◌≤◌, ◌<◌, IsTrue, ◌||◌, nat_eq}
+use Rattle.fol_model.specs.declared.places.TheConstants.{MOST_SECTIONS}
 use Rattle.fol_model.specs.declared.places.ChunkPos.{ChunkPos}
 use Rattle.fol_model.specs.declared.places.SectionPos.{SectionPos}
 use Rattle.fol_model.specs.declared.regions.State.TheVariants.{Transient, Ready, Ticking, Dead}
@@ -15,7 +16,7 @@ pub record Rules (g : GridState) : Type 0 where
   -- the region of a present section is not Dead, and a region that is not Dead has a section
   pub owner_lives : (s : SectionPos) → 0 < g.owner s → g.state (g.owner s) ≢ Dead
   pub has_section : (r : ℕ) → g.state r ≢ Dead → IsTrue (some_section (λ s. nat_eq (g.owner s) r))
-  pub count : present_count g ≤ 16384
+  pub count : present_count g ≤ MOST_SECTIONS
   -- every section of the margin is present
   pub margin : (c : ChunkPos) (s : SectionPos) → 0 < g.holds c → distance (section_of g.grid c) s ≤ g.grid.create → 0 < g.owner s
   -- sections within the merge radius are in one region, or their regions are a pair

@@ -1,5 +1,5 @@
 -- The rows that may stand in a text, and the spelling of each.
-use Rattle.std.specs.Prelude.{◌≡◌, ℕ, ℤ, ◌≤ℤ◌, ◌≤◌, ◌+◌, Bool, true, false, cond, ◌||◌, List, [], ◌∷◌, ◌++◌, map, Some, is_none}
+use Rattle.std.specs.Prelude.{◌≡◌, ℕ, ◌≤ℤ◌, ◌≤◌, ◌+◌, Bool, true, false, cond, ◌||◌, List, [], ◌∷◌, ◌++◌, map, Some, is_none}
 use Rattle.std.specs.List.{count_by}
 use Rattle.fol_model.specs.declared.words.TextKind.{TextKind}
 use Rattle.fol_model.specs.declared.words.Field.{Field}

@@ -36,6 +36,10 @@ some_chunk p = list_any p all_chunks
 unfoldable pub section_cmp : SectionPos → SectionPos → Ordering
 section_cmp a b = ordering_then (int_cmp a.z b.z) (int_cmp a.x b.x)
 
+-- the order by z, and then by x
+unfoldable pub chunk_cmp : ChunkPos → ChunkPos → Ordering
+chunk_cmp = then_cmp (on (λ c. c.z) int_cmp) (on (λ c. c.x) int_cmp)
+
 -- the sections at most r away, in order
 unfoldable pub square : SectionPos → ℕ → List SectionPos
 square n r = flat_map (λ z. map (λ x. record { x = x; z = z }) (from (n.x +ℤ neg_ℤ (pos r)) (r + r + 1))) (from (n.z +ℤ neg_ℤ (pos r)) (r + r + 1))

@@ -88,18 +88,10 @@ impl Nested {
     {
         &*self.boxed
     }
-
-    /// The action, taken out.
-    pub fn into_action(self) -> Action
-        ensures { deed_of result ≡ self }
-    {
-        let Nested { boxed } = self;
-        Box::into_inner(boxed)
-    }
 }
 
 impl Action {
-    /// An equal action. Answers want of memory alone.
+    /// An equal action. The only error is out of memory.
     pub fn copy(&self, alloc: Global) -> Result<Action, AllocError>
         ensures { IfOk result (λ a. a ≡ self.now) }
     {

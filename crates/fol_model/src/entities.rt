@@ -7,9 +7,13 @@ use crate::BlockPos;
 /// Within the limits `id` is 1 to 1,000,000,000 and each speed is -16 to 16.
 #[derive(Clone, Copy, Debug, PartialEq, Eq)]
 pub struct Entity {
+    /// The id: no other entity has it.
     pub id: u32,
+    /// The block where it stands.
     pub at: BlockPos,
+    /// By how much `x` grows in a tick.
     pub vx: i32,
+    /// By how much `z` grows in a tick.
     pub vz: i32,
 }
 

@@ -84,6 +84,8 @@ pub enum Event {
 /// One entry of a history: an event, and the seat that recorded it.
 #[derive(Drop)]
 pub struct Entry {
+    /// The number of the seat.
     pub by: u32,
+    /// The event.
     pub event: Event,
 }

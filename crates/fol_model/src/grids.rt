@@ -23,6 +23,7 @@ pub struct Grid {
     pub min: u32,
     /// A region is cleaned where at least `num / den` of its sections are dead.
     pub num: u32,
+    /// The denominator of that share.
     pub den: u32,
 }
 

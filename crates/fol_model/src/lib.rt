@@ -29,7 +29,9 @@ pub use events::{Accept, Entry, Event, Loaded, Unloaded};
 pub use grids::{Grid, section_of};
 pub use lists::Sequence;
 pub use openings::{BlockAt, Opening};
-pub use places::{BlockPos, ChunkPos, SectionPos, chunk_of, distance};
+pub use places::{
+    BlockPos, ChunkPos, MOST_SECTIONS, SectionPos, beside, chunk_of, corner, distance,
+};
 pub use regions::State;
 pub use scripts::{Command, Script};
 pub use tasks::{Outcome, Ran, Task, TickLog, Wish};

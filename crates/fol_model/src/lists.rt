@@ -65,7 +65,7 @@ impl<T: Drop> Sequence<T> {
         self.elements.is_empty()
     }
 
-    /// Adds an element at the end. After want of memory nothing has changed and the element is dropped.
+    /// Adds an element at the end. When out of memory, nothing has changed and the element is dropped.
     pub fn push(&mut self, element: T) -> Result<(), AllocError>
         ensures ok { IfOk result (λ _. self.new ≡ self.old ++ element ∷ []) }
         ensures err { OnErr result (self.new ≡ self.old) }

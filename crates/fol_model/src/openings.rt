@@ -6,7 +6,9 @@ use std::marker::Model;
 /// A block with a number.
 #[derive(Clone, Copy, Debug, PartialEq, Eq)]
 pub struct BlockAt {
+    /// Where the block is.
     pub at: BlockPos,
+    /// Its number.
     pub id: u16,
 }
 
@@ -16,9 +18,13 @@ pub struct BlockAt {
 /// within the limits, and no block with number 0.
 #[derive(Drop)]
 pub struct Opening {
+    /// The version of the language of its texts.
     pub version: u8,
+    /// How chunks and sections are grouped.
     pub grid: Grid,
+    /// The blocks with a number.
     pub blocks: Sequence<BlockAt>,
+    /// The entities.
     pub entities: Sequence<Entity>,
 }
 

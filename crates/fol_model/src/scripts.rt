@@ -36,6 +36,7 @@ pub enum Command {
 /// runs together have at most 10,000 ticks, and all counts of `Every` together are at most 1,000,000.
 #[derive(Drop)]
 pub struct Script {
+    /// One for each line, in order.
     pub commands: Sequence<Command>,
 }
 

@@ -1,3 +1,5 @@
+//! The state behind the lock: the keeper of the slots, and what it knows of each.
+
 ghost use Rattle.std.specs.Prelude.{◌≡◌, ℕ, ◌<◌, Some, None, IsSome, IfSome, IfOk, IsSomeAnd, [], length, slice_get};
 ghost use Rattle.fol_lock.specs.Log.{Extends};
 ghost use Rattle.fol_slots.specs.Table.{slots_id, slot_count};
@@ -17,7 +19,9 @@ use std::alloc::{AllocError, Global};
 /// A slot was offered by this seat of the lock.
 #[derive(Clone, Copy)]
 pub struct Note {
+    /// The number of the seat.
     pub by: u32,
+    /// The slot.
     pub slot: u32,
 }
 

@@ -1,3 +1,5 @@
+//! What a thread works with: its seat of the lock and its worker's seat.
+
 ghost use Rattle.std.specs.Prelude.{◌≡◌, ℕ, ◌<◌, Some, None, IsSome, IfSome, false};
 ghost use Rattle.fol_lock.specs.Lock.{lock_id};
 ghost use Rattle.fol_lock.specs.Seat.{IsIdle};

@@ -1,3 +1,5 @@
+//! What lies in a slot.
+
 ghost use Rattle.fol_nest.specs.Job.{IsSmall};
 
 use fol_slots::Body;

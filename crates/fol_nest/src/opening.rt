@@ -1,3 +1,5 @@
+//! A slot and two hands, to begin with.
+
 ghost use Rattle.std.specs.Prelude.{◌≡◌, ◌<◌, Some, None, IfOk, vec_len, slice_get};
 ghost use Rattle.fol_slots.specs.Table.{slots_id, slot_count};
 ghost use Rattle.fol_nest.specs.Hands.{IsOf};
@@ -11,8 +13,11 @@ use std::alloc::{AllocError, Global};
 
 /// One slot with a small job, and two hands.
 pub struct Opened {
+    /// What both hands share.
     pub shared: Shared,
+    /// The hand of worker 1.
     pub first: Hand,
+    /// The hand of worker 2.
     pub second: Hand,
 }
 
@@ -28,6 +33,7 @@ fn both<X: Drop>(mut pair: Vec<X>) -> (X, X)
 }
 
 impl Opened {
+    /// A slot with the job, which is below 100, and two hands that hold nothing. The only error is out of memory.
     pub fn new(alloc: Global, job: Job) -> Result<Opened, AllocError>
         requires { job.0 < 100 }
         ensures one { IfOk result (λ o. slot_count o.shared.slots ≡ 1) }

@@ -1,3 +1,5 @@
+//! What a board keeps from its beginning on.
+
 ghost use Rattle.atomic_table.specs.Seated.{TableId, table_id_coded};
 ghost use base.Fml.{ftrue};
 

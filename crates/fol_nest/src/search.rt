@@ -1,3 +1,5 @@
+//! A search over all slots, with no lock.
+
 ghost use Rattle.std.specs.Prelude.{◌≡◌, ◌<◌, None, IfSome, IfNone};
 ghost use Rattle.fol_slots.specs.Table.{slots_id, slot_count};
 ghost use Rattle.fol_slots.specs.Shown.{holding};
@@ -10,7 +12,9 @@ use fol_slots::{Claim, Slots, WorkerSeat};
 /// A slot and the job that was claimed there.
 #[derive(Drop)]
 pub struct Found {
+    /// The slot.
     pub slot: u32,
+    /// The job.
     pub job: Job,
 }
 

@@ -1,3 +1,5 @@
+//! Two hands and one slot.
+
 ghost use Rattle.std.specs.Prelude.{◌≡◌, None};
 ghost use Rattle.fol_slots.specs.Table.{slot_count};
 ghost use Rattle.fol_nest.specs.Hands.{IsOf};

@@ -1,3 +1,5 @@
+//! What is known of a slot.
+
 /// What the board knows of a slot.
 #[derive(Clone, Copy)]
 pub enum Use {

@@ -13,7 +13,7 @@ use Rattle.fol_model.specs.declared.regions.State.{State}
 use Rattle.fol_model.specs.declared.regions.State.TheVariants.{Transient, Ready, Ticking, Dead}
 use Rattle.fol_model.specs.Add.{is_wanted, is_near, is_near_calm, is_near_ticking, target, target_waits, target_state, extended}
 use Rattle.fol_model.specs.Counting.{some_below}
-use Rattle.fol_model.specs.Geometry.{is_chunk, is_section, is_within, section_of}
+use Rattle.fol_model.specs.Geometry.{is_chunk, is_section, is_within, section_of, is_among}
 use Rattle.fol_model.specs.GridNumbers.{IsGrid}
 use Rattle.fol_model.specs.GridState.{is_ticking, size}
 use Rattle.fol_model.specs.Rules.{Rules}
@@ -30,7 +30,6 @@ use Rattle.fol_regions.specs.Added.{Grows, IsChoice, Waits, bare, calm_size, ext
 use Rattle.fol_regions.specs.Book.{Book, IsBook, SetsState, owner_of, state_of, waits_of, is_live, rows_of, ahead_of}
 use Rattle.fol_regions.specs.Changes.{drawn_in, into}
 use Rattle.fol_regions.specs.Near.{is_close}
-use Rattle.fol_regions.specs.Rows.{is_among}
 use Rattle.fol_regions.proofs.BookFacts.{owner_live}
 use Rattle.fol_regions.proofs.Chosen.{chosen, chosen_below, chosen_numbers, filter_like, filter_twice, none_kept}
 use Rattle.fol_regions.proofs.GrowSteps.{gives_any, takes_any}

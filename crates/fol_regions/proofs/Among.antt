@@ -4,9 +4,8 @@ use Rattle.std.specs.Cmp.{both_ways}
 use Rattle.std.proofs.lemmas.Bool.{or_left, or_right}
 use Rattle.std.proofs.lemmas.List.Folds.{list_any_more}
 use Rattle.fol_model.specs.declared.places.SectionPos.{SectionPos}
-use Rattle.fol_model.specs.Geometry.{same_section}
+use Rattle.fol_model.specs.Geometry.{same_section, is_among}
 use Rattle.fol_laws.proofs.SamePlaces.{same_section-true, same_section-self}
-use Rattle.fol_regions.specs.Rows.{is_among}
 
 pub same_section-swap : (a b : SectionPos) → same_section a b ≡ same_section b a
 same_section-swap a b = both_ways (same_section a b) (same_section b a)

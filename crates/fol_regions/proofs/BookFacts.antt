@@ -13,7 +13,7 @@ use Rattle.fol_regions.specs.Book.{Book, IsBook, is_live, owner_of, rows_of, ahe
 use Rattle.fol_regions.proofs.SlotSteps.{slot-le, slot_tells}
 use Rattle.fol_regions.proofs.Chosen.{chosen, chosen_numbers}
 use Rattle.fol_model.specs.declared.places.SectionPos.{SectionPos}
-use Rattle.fol_regions.specs.Rows.{is_among}
+use Rattle.fol_model.specs.Geometry.{is_among}
 
 -- a list that is put in a slot
 module _ {T : Type 0} (slots : SlotTable) (v : Numbered T) (numbers : length v.lists ≡ slots.room) (t : ℕ) (live : slot_of slots t < slots.room) (xs : List T) where

@@ -12,7 +12,7 @@ use Rattle.std.proofs.lemmas.Bool.{cases_Bool, cases_eq, and_parts, or_cases, tr
 use Rattle.std.proofs.lemmas.List.Folds.{list_any-append}
 use Rattle.std.proofs.lemmas.List.Kept.{IsStrictlySortedBy-filter}
 use Rattle.fol_model.specs.declared.places.SectionPos.{SectionPos}
-use Rattle.fol_model.specs.Geometry.{is_section, same_section}
+use Rattle.fol_model.specs.Geometry.{is_section, same_section, is_among}
 use Rattle.fol_model.specs.Universe.{all_sections, numbers_below, section_cmp}
 use Rattle.fol_laws.proofs.ListCounts.{count_by-cons}
 use Rattle.fol_laws.proofs.NumberOrder.{numbers_tell, numbers_sorted, number_rows_are, in_numbers}
@@ -22,7 +22,7 @@ use Rattle.fol_laws.proofs.SamePlaces.{same_section-true, same_section-self}
 use Rattle.fol_laws.proofs.SortedRows.{AllBefore, sorted_append}
 use Rattle.fol_laws.proofs.Tests.{same_answer}
 use Rattle.fol_regions.specs.Links.{with_id, without_id}
-use Rattle.fol_regions.specs.Rows.{IsRow, is_among, united}
+use Rattle.fol_regions.specs.Rows.{IsRow, united}
 
 module _ {X : Type 0} where
   pub filter_like : (p q : X → Bool) → ((x : X) → p x ≡ q x) → (xs : List X) → filter p xs ≡ filter q xs

@@ -13,10 +13,9 @@ use Rattle.std.proofs.lemmas.Map.Keys.{Less-from_sorted}
 use Rattle.std.proofs.Math.Path.{fun_ext}
 use Rattle.fol_model.specs.declared.places.ChunkPos.{ChunkPos}
 use Rattle.fol_model.specs.declared.places.SectionPos.{SectionPos}
-use Rattle.fol_model.specs.Geometry.{same_section, section_of}
+use Rattle.fol_model.specs.Geometry.{same_section, section_of, is_among}
 use Rattle.fol_model.specs.Outputs.{is_chunk_of, chunk_count}
-use Rattle.fol_model.specs.Universe.{all_chunks, all_sections, section_cmp}
-use Rattle.fol_laws.specs.ChunkOrder.{chunk_cmp}
+use Rattle.fol_model.specs.Universe.{all_chunks, all_sections, section_cmp, chunk_cmp}
 use Rattle.fol_laws.proofs.ChunkOrder.{chunks_tell, chunks_sorted}
 use Rattle.fol_laws.proofs.ListCounts.{count_by-mono}
 use Rattle.fol_laws.proofs.SamePlaces.{same_section-true}
@@ -26,7 +25,6 @@ use Rattle.fol_sections.specs.Table as sections
 use Rattle.fol_split.proofs.Places.{same_section-swap}
 use Rattle.fol_regions.specs.Book.{Book, IsBook, owner_of, rows_of}
 use Rattle.fol_regions.specs.Released.{grid_of}
-use Rattle.fol_regions.specs.Rows.{is_among}
 use Rattle.fol_regions.proofs.Among.{among_more}
 use Rattle.fol_regions.proofs.Chosen.{filter_like, none_kept}
 use Rattle.fol_regions.proofs.InOrder.{filter_either, sorted_is}

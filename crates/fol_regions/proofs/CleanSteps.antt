@@ -6,7 +6,7 @@ use Rattle.std.proofs.lemmas.Bool.{cases_Bool, cases_eq, eq-eqb, ne_eqb, true≢
 use Rattle.std.proofs.lemmas.List.{get_or_past}
 use Rattle.fol_model.specs.declared.places.SectionPos.{SectionPos}
 use Rattle.fol_model.specs.declared.regions.State.TheVariants.{Ready, Ticking, Dead}
-use Rattle.fol_model.specs.Geometry.{same_section}
+use Rattle.fol_model.specs.Geometry.{same_section, is_among}
 use Rattle.fol_model.specs.Universe.{all_sections}
 use Rattle.fol_model.specs.GridState.{GridState, in_margin}
 use Rattle.fol_model.specs.Release.{joined_owner, joined_waits, remains, parts, part_of, cleaned}
@@ -19,7 +19,6 @@ use Rattle.fol_laws.proofs.Joins.{remains_in, t_pos}
 use Rattle.fol_split.specs.Parts.{ArePartsOf}
 use Rattle.fol_regions.specs.Book.{Book, owner_of, state_of, waits_of, SetsState}
 use Rattle.fol_regions.specs.Released.{Keeps, Ends, Splits, id_in}
-use Rattle.fol_regions.specs.Rows.{is_among}
 use Rattle.fol_regions.proofs.PartNumbers.{parts_found, part_found, found_by_number}
 
 -- the number by which a section is found, where it is in one part alone

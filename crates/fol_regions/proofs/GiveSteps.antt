@@ -7,10 +7,10 @@ use Rattle.std.proofs.lemmas.List.{length-set}
 use Rattle.std.proofs.lemmas.List.Sums.{length-filter}
 use Rattle.fol_lists.specs.Numbered.{total, with_list}
 use Rattle.fol_model.specs.declared.places.SectionPos.{SectionPos}
-use Rattle.fol_model.specs.Geometry.{is_section}
+use Rattle.fol_model.specs.Geometry.{is_section, is_among}
 use Rattle.fol_model.specs.Universe.{all_sections, count_sections}
 use Rattle.fol_regions.specs.Owners.{owner_in}
-use Rattle.fol_regions.specs.Rows.{is_among, united}
+use Rattle.fol_regions.specs.Rows.{united}
 use Rattle.fol_regions.specs.Slots.{slot_of}
 use Rattle.fol_regions.specs.Book.{Book, IsBook, Gives, owner_of, state_of, is_live, rows_of, ahead_of, behind_of, waits_of}
 use Rattle.fol_regions.proofs.BookFacts.{put_at, put_other, put_unused, live_slot}

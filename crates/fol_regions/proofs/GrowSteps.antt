@@ -13,7 +13,7 @@ use Rattle.fol_model.specs.GridState.{is_ticking}
 use Rattle.fol_laws.proofs.Tests.{same_answer}
 use Rattle.fol_regions.specs.Added.{Gathers, Grows, IsChoice, calm_size, is_calm, is_drawn, is_id}
 use Rattle.fol_regions.specs.Book.{Book, IsBook, Gives, Makes, owner_of, state_of, waits_of, is_live, rows_of}
-use Rattle.fol_regions.specs.Rows.{is_among}
+use Rattle.fol_model.specs.Geometry.{is_among}
 use Rattle.fol_regions.proofs.BookFacts.{live_next, waiter_lives}
 
 -- a list with an id that passes a test

@@ -14,7 +14,7 @@ use Rattle.fol_model.specs.Universe.{all_sections, numbers_below}
 use Rattle.fol_laws.proofs.ListCounts.{count_by-cons, count_by-none}
 use Rattle.fol_regions.specs.declared.slots.Region.{Region}
 use Rattle.fol_regions.specs.Owners.{entry_of, owner_in}
-use Rattle.fol_regions.specs.Rows.{is_among}
+use Rattle.fol_model.specs.Geometry.{is_among}
 use Rattle.fol_regions.specs.Slots.{SlotTable, region_at, slot_of, slot_state}
 use Rattle.fol_regions.specs.Book.{Book, IsBook, Makes, owner_of, state_of, is_live, rows_of, ahead_of, behind_of, waits_of}
 use Rattle.fol_regions.proofs.BookFacts.{slot_live, not_live, no_list, owner_live, live_next, waits_next, waiter_lives}

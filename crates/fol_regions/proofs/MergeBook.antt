@@ -9,10 +9,10 @@ use Rattle.std.proofs.lemmas.List.{length-set, get_or-set_same, get_or-set_other
 use Rattle.std.proofs.lemmas.List.Sums.{length-filter}
 use Rattle.fol_lists.specs.Numbered.{list_at, total, with_list}
 use Rattle.fol_model.specs.declared.places.SectionPos.{SectionPos}
-use Rattle.fol_model.specs.Geometry.{is_section}
+use Rattle.fol_model.specs.Geometry.{is_section, is_among}
 use Rattle.fol_model.specs.Universe.{all_sections, count_sections, numbers_below}
 use Rattle.fol_regions.specs.Owners.{owner_in}
-use Rattle.fol_regions.specs.Rows.{is_among, united}
+use Rattle.fol_regions.specs.Rows.{united}
 use Rattle.fol_regions.specs.Slots.{SlotTable, slot_of}
 use Rattle.fol_regions.specs.Book.{Book, IsBook, owner_of, is_live, rows_of, ahead_of, behind_of, waits_of}
 use Rattle.fol_regions.proofs.BookFacts.{live_slot, no_list}

@@ -9,10 +9,10 @@ use Rattle.std.proofs.lemmas.List.{take-append-drop, drop_more, drop_all}
 use Rattle.std.proofs.lemmas.List.Folds.{list_any-append}
 use Rattle.std.proofs.lemmas.Bool.{or_cases}
 use Rattle.fol_model.specs.declared.places.SectionPos.{SectionPos}
-use Rattle.fol_model.specs.Geometry.{same_section}
+use Rattle.fol_model.specs.Geometry.{same_section, is_among}
 use Rattle.fol_model.specs.Universe.{section_cmp}
 use Rattle.fol_laws.proofs.SectionOrder.{sections_tell, section_rows_are}
-use Rattle.fol_regions.specs.Rows.{IsRow, is_among, united}
+use Rattle.fol_regions.specs.Rows.{IsRow, united}
 use Rattle.fol_regions.proofs.Among.{among_more, same_section-swap}
 
 abbrev pub Sorted : List SectionPos → Type 0

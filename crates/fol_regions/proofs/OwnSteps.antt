@@ -5,9 +5,8 @@ use Rattle.std.proofs.Math.Bool.{or-false, or-true}
 use Rattle.std.proofs.lemmas.Bool.{cases_Bool, eq-eqb, ne_eqb, lt-ltb, ltb-true}
 use Rattle.std.proofs.lemmas.List.Sums.{length-filter}
 use Rattle.fol_model.specs.declared.places.SectionPos.{SectionPos}
-use Rattle.fol_model.specs.Geometry.{is_section}
+use Rattle.fol_model.specs.Geometry.{is_section, is_among}
 use Rattle.fol_model.specs.Universe.{all_sections, count_sections}
-use Rattle.fol_regions.specs.Rows.{is_among}
 use Rattle.fol_regions.proofs.Chosen.{chosen_limits, count_either}
 
 module _ (f g : SectionPos → ℕ) (xs : List SectionPos) (t : ℕ) (pos : 0 < t) (set : (q : SectionPos) → g q ≡ cond (is_among xs q) t (f q)) (absent : (s : SectionPos) → is_among xs s ≡ true → f s ≡ 0)

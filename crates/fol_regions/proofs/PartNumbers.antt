@@ -11,7 +11,7 @@ use Rattle.std.proofs.lemmas.List.{get_or_default}
 use Rattle.std.proofs.lemmas.List.Sums.{passes_at_first, fails_before_first}
 use Rattle.fol_model.specs.declared.places.SectionPos.{SectionPos}
 use Rattle.fol_model.specs.declared.regions.State.TheVariants.{Ticking}
-use Rattle.fol_model.specs.Geometry.{is_section, is_within, same_section}
+use Rattle.fol_model.specs.Geometry.{is_section, is_within, same_section, is_among}
 use Rattle.fol_model.specs.Universe.{all_sections, section_cmp}
 use Rattle.fol_model.specs.GridState.{GridState}
 use Rattle.fol_model.specs.Counting.{count_below}
@@ -25,9 +25,9 @@ use Rattle.fol_laws.proofs.SectionOrder.{sections_sorted}
 use Rattle.fol_laws.proofs.AllSections.{some_section-is}
 use Rattle.fol_laws.proofs.PartClasses.{parts_are_classes}
 use Rattle.fol_laws.proofs.Joins.{remains_in}
-use Rattle.fol_split.specs.Parts.{is_among, least_of, ArePartsOf, IsPart, IsChain}
+use Rattle.fol_split.specs.Parts.{least_of, ArePartsOf, IsPart, IsChain}
 use Rattle.fol_split.proofs.Search.{at_index}
-use Rattle.fol_split.proofs.Places.{section_order}
+use Rattle.fol_model.proofs.PlaceKeys.{section_cmp_total}
 
 abbrev origin : SectionPos
 origin = record { x = pos 0; z = pos 0 }
@@ -87,7 +87,7 @@ first_least xs s up h =
     ]
 
 pub not_both : (a b : SectionPos) → section_cmp a b ≡ Less → section_cmp b a ≡ Less → ⊥
-not_both a b h k = let t = section_order.antisymm a b in let f : Less ≡ ordering_reverse Less = rw (h, k) at t in cc
+not_both a b h k = let t = section_cmp_total.antisymm a b in let f : Less ≡ ordering_reverse Less = rw (h, k) at t in cc
 
 module _ (g : GridState) (t : ℕ) (rules : Rules g) (ticks : g.state t ≡ Ticking) where
   stays_in : (s : SectionPos) → remains g t s ≡ true → is_section s ≡ true

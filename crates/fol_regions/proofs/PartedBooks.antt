@@ -7,7 +7,7 @@ use Rattle.fol_lists.specs.Numbered.{with_list, list_at, total}
 use Rattle.fol_regions.proofs.Totals.{total_with}
 use Rattle.fol_model.specs.declared.places.SectionPos.{SectionPos}
 use Rattle.fol_model.specs.declared.regions.State.TheVariants.{Dead}
-use Rattle.fol_model.specs.Geometry.{same_section}
+use Rattle.fol_model.specs.Geometry.{same_section, is_among}
 use Rattle.fol_model.specs.Universe.{all_sections, count_sections}
 use Rattle.fol_model.specs.GridState.{with_state}
 use Rattle.fol_laws.proofs.AllSections.{some_section-is}
@@ -15,7 +15,6 @@ use Rattle.fol_laws.proofs.SamePlaces.{same_section-self}
 use Rattle.fol_laws.proofs.SectionOrder.{section_members}
 use Rattle.fol_regions.specs.Book.{Book, IsBook, owner_of, state_of, waits_of, is_live, rows_of, ahead_of, behind_of}
 use Rattle.fol_regions.specs.Slots.{slot_of, slot_state}
-use Rattle.fol_regions.specs.Rows.{is_among}
 use Rattle.fol_regions.specs.Released.{Keeps, Ends}
 use Rattle.fol_regions.proofs.PartingSteps.{IsBookBut, but_from, but_to, filter_same, live_is, dropped, dropped_waits, row_put, put_here, put_waits, put_live, slot_removed, gone_waits, gone_live, row_gone}
 

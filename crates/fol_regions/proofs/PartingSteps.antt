@@ -9,7 +9,7 @@ use Rattle.std.proofs.lemmas.List.Elements.{filter-append}
 use Rattle.std.proofs.lemmas.List.Sums.{length-filter}
 use Rattle.fol_lists.specs.Numbered.{list_at, total, with_list}
 use Rattle.fol_model.specs.declared.places.SectionPos.{SectionPos}
-use Rattle.fol_model.specs.Geometry.{is_section, same_section}
+use Rattle.fol_model.specs.Geometry.{is_section, same_section, is_among}
 use Rattle.fol_model.specs.Universe.{all_sections, count_sections, numbers_below}
 use Rattle.fol_laws.proofs.AllSections.{some_section-is}
 use Rattle.fol_laws.proofs.SamePlaces.{same_section-self}
@@ -18,7 +18,6 @@ use Rattle.fol_laws.proofs.ListCounts.{count_by-cons}
 use Rattle.fol_laws.proofs.NumbersBelow.{some_below-gives}
 use Rattle.fol_regions.specs.Book.{Book, IsBook, owner_of, waits_of, is_live, rows_of, ahead_of, behind_of}
 use Rattle.fol_regions.specs.Slots.{slot_of}
-use Rattle.fol_regions.specs.Rows.{is_among}
 use Rattle.fol_regions.proofs.SlotSteps.{slot_tells, slot-le}
 use Rattle.fol_regions.proofs.Totals.{total_with}
 use Rattle.fol_regions.proofs.JoinTest.{filter_some}

@@ -7,7 +7,7 @@ use Rattle.std.proofs.lemmas.Bool.{cases_Bool, eq-eqb, ne_eqb, eqb-true, true≢
 use Rattle.std.proofs.lemmas.List.{append-nil}
 use Rattle.fol_model.specs.declared.places.SectionPos.{SectionPos}
 use Rattle.fol_model.specs.declared.regions.State.TheVariants.{Transient, Ready, Ticking, Dead}
-use Rattle.fol_model.specs.Geometry.{same_section}
+use Rattle.fol_model.specs.Geometry.{same_section, is_among}
 use Rattle.fol_model.specs.GridNumbers.{IsGrid}
 use Rattle.fol_model.specs.Counting.{some_below}
 use Rattle.fol_model.specs.Universe.{all_sections, count_sections, numbers_below}
@@ -25,7 +25,6 @@ use Rattle.fol_regions.specs.Book.{Book, IsBook, SetsState, owner_of, state_of, 
 use Rattle.fol_regions.specs.Changes.{into, release_change, waiting_for, part_ids}
 use Rattle.fol_regions.specs.Added.{is_id}
 use Rattle.fol_regions.specs.Released.{Joins, Cleans, Keeps, Ends, Splits, IsPresence, grid_of, with_parts}
-use Rattle.fol_regions.specs.Rows.{is_among}
 use Rattle.fol_regions.specs.Slots.{slot_state, region_at, state_in}
 use Rattle.fol_regions.proofs.BookFacts as facts
 use Rattle.fol_regions.proofs.ChangeLists.{numbers_from}

@@ -10,16 +10,16 @@ use Rattle.std.proofs.lemmas.List.Kept.{IsStrictlySortedBy-filter}
 use Rattle.std.proofs.lemmas.Map.Keys.{Less-from_sorted, sorted_from_all_adjacent}
 use Rattle.std.proofs.lemmas.List.{get_or-map, length-map}
 use Rattle.fol_model.specs.declared.places.SectionPos.{SectionPos}
-use Rattle.fol_model.specs.Geometry.{is_section, same_section}
+use Rattle.fol_model.specs.Geometry.{is_section, same_section, is_among}
 use Rattle.fol_model.specs.Universe.{all_sections, count_sections, section_cmp}
 use Rattle.fol_laws.proofs.ListCounts.{count_by-mono}
 use Rattle.fol_laws.proofs.SectionOrder.{section_members, section_rows_are, sections_sorted}
 use Rattle.fol_split.specs.Parts.{ArePartsOf, IsPart, least_of}
-use Rattle.fol_split.proofs.Places.{rising-distinct, section_order}
+use Rattle.fol_split.proofs.Places.{rising-distinct}
+use Rattle.fol_model.proofs.PlaceKeys.{section_cmp_total}
 use Rattle.fol_split.proofs.Search.{among_at, at_index}
 use Rattle.fol_regions.specs.Book.{Book, IsBook, owner_of, is_live, rows_of}
 use Rattle.fol_regions.specs.Released.{AreRows, Keeps}
-use Rattle.fol_regions.specs.Rows.{is_among}
 use Rattle.fol_regions.proofs.BookFacts.{row_most}
 use Rattle.fol_regions.proofs.PartNumbers.{first_among, first_least, not_both}
 use Rattle.fol_regions.proofs.PartedBooks.{row_members, length-filter_le}
@@ -143,7 +143,7 @@ module _ (b : Book) (t : ℕ) (h : IsBook b) (live : is_live b t ≡ true) (p : 
 
     leasts_sorted : IsStrictlySortedBy section_cmp leasts
     unfolding leasts
-    leasts_sorted = sorted_from_all_adjacent section_order (map least_of found) origin (λ k l.
+    leasts_sorted = sorted_from_all_adjacent section_cmp_total (map least_of found) origin (λ k l.
         let n = length-map found least_of in
         rw (get_or-map least_of found k [] origin (omega arith), get_or-map least_of found (k + 1) [] origin (omega arith))
         (Less-from_sorted (on least_of section_cmp) found k (k + 1) [] are.by_least (omega arith) (omega arith)))

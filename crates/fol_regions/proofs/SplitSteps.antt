@@ -13,7 +13,7 @@ use Rattle.fol_model.specs.Universe.{all_sections, count_sections}
 use Rattle.fol_model.specs.GridState.{with_state}
 use Rattle.fol_regions.specs.Book.{Book, IsBook, KeepsRoom, owner_of, state_of, waits_of, is_live, rows_of}
 use Rattle.fol_regions.specs.Slots.{slot_of, slot_state, region_at}
-use Rattle.fol_regions.specs.Rows.{is_among}
+use Rattle.fol_model.specs.Geometry.{is_among}
 use Rattle.fol_regions.specs.Released.{Splits, AreRows, id_in}
 use Rattle.fol_regions.specs.declared.slots.Region.{Region}
 use Rattle.fol_laws.proofs.ListCounts.{count_by-cons, count_by-mono}

@@ -2,15 +2,15 @@
 use Rattle.std.specs.Prelude.{◌≡◌, ◌≢◌, [], ℕ, ℤ, ◌+◌, ◌<◌, ◌≤◌, Bool, true, not, ◌&&◌, ◌||◌, nat_eq, nat_lt, if◌then◌else◌, List, filter, length}
 use Rattle.std.specs.List.{list_any}
 use Rattle.fol_lists.specs.Numbered.{Numbered, list_at, total}
+use Rattle.fol_model.specs.declared.places.TheConstants.{MOST_SECTIONS}
 use Rattle.fol_model.specs.declared.places.SectionPos.{SectionPos}
 use Rattle.fol_model.specs.declared.regions.State.{State}
 use Rattle.fol_model.specs.declared.regions.State.TheVariants.{Dead}
-use Rattle.fol_model.specs.Geometry.{is_section}
+use Rattle.fol_model.specs.Geometry.{is_section, is_among}
 use Rattle.fol_model.specs.GridState.{with_state}
 use Rattle.fol_model.specs.Universe.{all_sections, count_sections, numbers_below}
 use Rattle.fol_regions.specs.Slots.{SlotTable, slot_of, slot_state}
 use Rattle.fol_regions.specs.Owners.{owner_in}
-use Rattle.fol_regions.specs.Rows.{is_among}
 
 pub record Book : Type 0 where
   -- the region of each present section, by place
@@ -75,8 +75,8 @@ pub record IsBook (b : Book) : Type 0 where
   pub behind_fits : total b.behind ≤ b.behind.room
   -- as many sections as have an owner
   pub total : total b.rows ≡ count_sections (λ s. nat_lt 0 (owner_of b s))
-  pub row_room : b.rows.room ≡ 16384
-  pub room : 16384 ≤ b.slots.room
+  pub row_room : b.rows.room ≡ MOST_SECTIONS
+  pub room : MOST_SECTIONS ≤ b.slots.room
 
 -- ---- what the steps of the tables change
 -- the same sections, states and pairs

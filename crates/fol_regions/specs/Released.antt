@@ -10,7 +10,7 @@ use Rattle.fol_regions.specs.Book.{Book, owner_of, state_of, waits_of, is_live, 
 use Rattle.fol_regions.specs.Changes.{Changes}
 use Rattle.fol_sections.specs.Table.{holds_of, presence_of}
 use Rattle.fol_sections.specs.Table as sections
-use Rattle.fol_regions.specs.Rows.{is_among}
+use Rattle.fol_model.specs.Geometry.{is_among}
 
 -- the regions of a list become part of t, which waits for whom they waited, but not for itself
 pub record Joins (old new : Book) (t : ℕ) (ids : List ℕ) : Type 0 where

@@ -1,14 +1,10 @@
 -- Lists of sections, each in order, by number.
-use Rattle.std.specs.Prelude.{◌≡◌, ℕ, ◌≤◌, Bool, true, ◌||◌, List, filter}
-use Rattle.std.specs.List.{list_any}
+use Rattle.std.specs.Prelude.{◌≡◌, ℕ, ◌≤◌, true, ◌||◌, List, filter}
 use Rattle.std.specs.List.Sorted.{IsStrictlySortedBy}
+use Rattle.fol_model.specs.declared.places.TheConstants.{MOST_SECTIONS}
 use Rattle.fol_model.specs.declared.places.SectionPos.{SectionPos}
-use Rattle.fol_model.specs.Geometry.{is_section, same_section}
+use Rattle.fol_model.specs.Geometry.{is_section, is_among}
 use Rattle.fol_model.specs.Universe.{all_sections, section_cmp}
-
--- the section is one of the list
-abbrev pub is_among : List SectionPos → SectionPos → Bool
-is_among sections s = list_any (same_section s) sections
 
 -- the sections of both lists, in order
 unfoldable pub united : List SectionPos → List SectionPos → List SectionPos
@@ -21,6 +17,6 @@ pub record IsRow (xs : List SectionPos) : Type 0 where
 
 -- there is room for all present sections
 pub record AreRows (total room in_made : ℕ) : Type 0 where
-  pub fits : total ≤ 16384
-  pub most : room ≡ 16384
-  pub made : 16384 ≤ in_made
+  pub fits : total ≤ MOST_SECTIONS
+  pub most : room ≡ MOST_SECTIONS
+  pub made : MOST_SECTIONS ≤ in_made

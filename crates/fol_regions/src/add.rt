@@ -10,7 +10,7 @@ ghost use Rattle.fol_model.specs.declared.places.SectionPos.{SectionPos};
 ghost use Rattle.fol_model.specs.declared.regions.State.TheVariants.{Ready, Ticking, Transient};
 ghost use Rattle.fol_model.specs.GridState.{is_ticking};
 ghost use Rattle.fol_model.specs.Add.{add, extended, is_wanted, target};
-ghost use Rattle.fol_model.specs.Geometry.{is_chunk};
+ghost use Rattle.fol_model.specs.Geometry.{is_chunk, is_among};
 ghost use Rattle.fol_model.specs.GridNumbers.{IsGrid};
 ghost use Rattle.fol_model.specs.Rules.{Rules};
 ghost use Rattle.fol_model.specs.Universe.{all_sections, count_sections, numbers_below};
@@ -18,14 +18,13 @@ ghost use Rattle.fol_regions.specs.Added.{IsChoice, Gathers, Grows, Waits, bare,
 ghost use Rattle.fol_regions.specs.Answers.{add_answer};
 ghost use Rattle.fol_regions.specs.Changes.{add_change, into, nothing};
 ghost use Rattle.fol_regions.specs.Released.{IsPresence, grid_of};
-ghost use Rattle.fol_regions.specs.Rows.{is_among};
 ghost use Rattle.fol_regions.specs.Book.{owner_of, ahead_of, HasRoomFor, SetsState};
 ghost use Rattle.fol_regions.specs.Book.{is_live, state_of, waits_of};
 
 use crate::near::find_near;
 use crate::tables::Tables;
 use crate::{AddAnswer, Change};
-use fol_model::{ChunkPos, Grid, SectionPos, State, section_of};
+use fol_model::{ChunkPos, Grid, MOST_SECTIONS, SectionPos, State, section_of};
 use fol_sections::{Added, Sections};
 
 /// How many sections a region has that does not tick; 0 where it ticks.
@@ -126,7 +125,7 @@ fn grow(tables: &mut Tables, near: &[u64], change: &mut Change, sections: &[Sect
     requires some { 0 < length sections.now }
     requires absent { (s : SectionPos) → is_among sections.now s ≡ true → owner_of tables.old s ≡ 0 }
     requires row { sections.now ≡ filter (is_among sections.now) all_sections }
-    requires few { count_sections (λ s. nat_lt 0 (owner_of tables.old s)) + length sections.now ≤ 16384 }
+    requires few { count_sections (λ s. nat_lt 0 (owner_of tables.old s)) + length sections.now ≤ MOST_SECTIONS }
     requires room { length sections.now ≤ tables.old.free }
     requires few_ids { tables.old.next < 2 ^ 63 }
     requires none { change.old ≡ nothing }
@@ -183,7 +182,7 @@ pub fn extend(
     requires in_range { IsTrue (is_chunk c) }
     requires wanted { wanted.now ≡ filter (is_wanted (bare grid.now tables.old) c) all_sections }
     requires some { 0 < length wanted.now }
-    requires few { count_sections (λ s. nat_lt 0 (owner_of tables.old s)) + length wanted.now ≤ 16384 }
+    requires few { count_sections (λ s. nat_lt 0 (owner_of tables.old s)) + length wanted.now ≤ MOST_SECTIONS }
     requires few_ids { tables.old.next < 2 ^ 63 }
     requires free { length wanted.now ≤ tables.old.free }
     requires ahead { total tables.old.ahead + 625 ≤ tables.old.ahead.room }

@@ -12,7 +12,9 @@ const MOST: usize = 16_385;
 /// A region became part of another.
 #[derive(Clone, Copy, Debug, PartialEq, Eq)]
 pub struct MergePair {
+    /// The region that is Dead since.
     pub from: u64,
+    /// The region that has its sections.
     pub into: u64,
 }
 

@@ -3,10 +3,9 @@
 ghost use Rattle.std.specs.Prelude.{◌≡◌, ◌≤◌, ◌&&◌, nat_lt, count_by, filter, []};
 ghost use Rattle.std.specs.List.Sorted.{IsStrictlySortedBy};
 ghost use Rattle.std.specs.Vec.{vec_capacity};
-ghost use Rattle.fol_model.specs.Geometry.{section_of};
+ghost use Rattle.fol_model.specs.Geometry.{section_of, is_among};
 ghost use Rattle.fol_model.specs.Universe.{all_chunks, section_cmp};
 ghost use Rattle.fol_sections.specs.Table.{holds_of};
-ghost use Rattle.fol_regions.specs.Rows.{is_among};
 
 use fol_model::{ChunkPos, SectionPos};
 use fol_sections::Sections;

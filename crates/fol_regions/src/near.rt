@@ -1,6 +1,6 @@
 //! The regions near a section.
 
-ghost use Rattle.std.specs.Prelude.{◌≡◌, ◌+◌, ◌<◌, ◌≤◌, ◌++◌, [], length, List, filter, pos, ◌+ℤ◌, ◌-ℤ◌, nat_abs};
+ghost use Rattle.std.specs.Prelude.{◌≡◌, ◌+◌, ◌<◌, ◌≤◌, ◌++◌, length, List, filter, nat_abs};
 ghost use Rattle.std.specs.Vec.{vec_capacity};
 ghost use Rattle.fol_model.specs.declared.places.SectionPos.{SectionPos};
 ghost use Rattle.fol_model.specs.Universe.{numbers_below};
@@ -9,7 +9,7 @@ ghost use Rattle.fol_regions.specs.Near.{row_of, regions_of, is_close, noted};
 
 use crate::links::add_id;
 use crate::tables::Tables;
-use fol_model::SectionPos;
+use fol_model::{SectionPos, beside, corner};
 use std::mem;
 
 /// Finds the regions with a section within a radius, in order of id.
@@ -73,29 +73,4 @@ fn note(near: &mut Vec<u64>, made: &mut Vec<u64>, id: u64)
     made.clear();
     add_id(near, id, made);
     mem::swap(near, made);
-}
-
-/// The section with the least coordinates of those within a radius.
-fn corner(s: SectionPos, reach: u8) -> SectionPos
-    requires near { (nat_abs s.x ≤ 1000008) × (nat_abs s.z ≤ 1000008) }
-    requires few { reach ≤ 12 }
-    ensures { result ≡ record { x = s.x -ℤ pos reach; z = s.z -ℤ pos reach } }
-{
-    let reach = reach as i32;
-    SectionPos {
-        x: s.x - reach,
-        z: s.z - reach,
-    }
-}
-
-/// The section that many columns and rows behind another one.
-fn beside(first: SectionPos, columns: u32, rows: u32) -> SectionPos
-    requires near { (nat_abs first.x ≤ 1000020) × (nat_abs first.z ≤ 1000020) }
-    requires few { (columns ≤ 25) × (rows ≤ 25) }
-    ensures { result ≡ record { x = first.x +ℤ pos columns; z = first.z +ℤ pos rows } }
-{
-    SectionPos {
-        x: first.x + columns as i32,
-        z: first.z + rows as i32,
-    }
 }

@@ -4,9 +4,8 @@ ghost use Rattle.std.specs.Prelude.{◌≡◌, ◌≢◌, ℕ, ◌+◌, ◌<◌,
 ghost use Rattle.std.specs.List.{All};
 ghost use Rattle.std.specs.HashMap.{spare};
 ghost use Rattle.fol_model.specs.declared.places.SectionPos.{SectionPos};
-ghost use Rattle.fol_model.specs.Geometry.{same_section};
+ghost use Rattle.fol_model.specs.Geometry.{same_section, is_among};
 ghost use Rattle.fol_regions.specs.Owners.{entry_of, owner_in};
-ghost use Rattle.fol_regions.specs.Rows.{is_among};
 
 use fol_model::SectionPos;
 use std::collections::HashMap;

@@ -5,11 +5,11 @@ ghost use Rattle.fol_lists.specs.Numbered.{total};
 ghost use Rattle.fol_model.specs.declared.places.SectionPos.{SectionPos};
 ghost use Rattle.fol_model.specs.declared.regions.State.TheVariants.{Dead};
 ghost use Rattle.fol_model.specs.Universe.{count_sections};
-ghost use Rattle.fol_regions.specs.Rows.{is_among};
+ghost use Rattle.fol_model.specs.Geometry.{is_among};
 
 use crate::owners::{change_all, take_all_out};
 use crate::tables::Tables;
-use fol_model::{SectionPos, State};
+use fol_model::{MOST_SECTIONS, SectionPos, State};
 use fol_split::Splitter;
 use std::alloc::AllocError;
 
@@ -55,7 +55,7 @@ impl Tables {
     pub fn keep(&mut self, id: u64, living: &[SectionPos], dead: &[SectionPos])
         requires region { is_live self.old id ≡ true }
         requires some { 0 < length living.now }
-        requires few { count_sections (λ s. nat_lt 0 (owner_of self.old s)) ≤ 16384 }
+        requires few { count_sections (λ s. nat_lt 0 (owner_of self.old s)) ≤ MOST_SECTIONS }
         requires dead { (s : SectionPos) → is_among dead.now s ≡ true → owner_of self.old s ≡ id }
         requires living { living.now ≡ filter (λ s. not (is_among dead.now s)) (rows_of self.old id) }
         ensures { Keeps self.old self.new id living.now }
@@ -84,7 +84,7 @@ impl Tables {
         requires first { ahead_of self.old id ≡ [] }
         requires last { behind_of self.old id ≡ [] }
         requires parts { AreRows (rows_of self.old id) parts.now }
-        requires few { count_sections (λ s. nat_lt 0 (owner_of self.old s)) ≤ 16384 }
+        requires few { count_sections (λ s. nat_lt 0 (owner_of self.old s)) ≤ MOST_SECTIONS }
         requires few_ids { self.old.next < 2 ^ 62 }
         ensures { Splits self.old self.new id parts.now }
     {

@@ -5,7 +5,7 @@ ghost use Rattle.std.specs.List.{All, IsDistinct, range_with_len};
 ghost use Rattle.std.specs.Vec.{vec_capacity};
 ghost use Rattle.fol_model.specs.declared.places.SectionPos.{SectionPos};
 ghost use Rattle.fol_model.specs.declared.regions.State.TheVariants.{Ticking};
-ghost use Rattle.fol_model.specs.Geometry.{same_section};
+ghost use Rattle.fol_model.specs.Geometry.{same_section, is_among};
 ghost use Rattle.fol_model.specs.GridNumbers.{IsGrid};
 ghost use Rattle.fol_model.specs.Release.{release};
 ghost use Rattle.fol_model.specs.Rules.{Rules};
@@ -15,18 +15,14 @@ ghost use Rattle.fol_regions.specs.Book.{owner_of, waits_of, is_live, rows_of, a
 ghost use Rattle.fol_regions.specs.Changes.{into, nothing, release_change};
 ghost use Rattle.fol_regions.specs.Released.{Cleans, Joins, with_parts};
 ghost use Rattle.fol_split.specs.Parts.{ArePartsOf};
-ghost use Rattle.fol_regions.specs.Rows.{is_among};
 
 use crate::change::Change;
 use crate::tables::Tables;
-use fol_model::{Grid, SectionPos, State};
+use fol_model::{Grid, MOST_SECTIONS, SectionPos, State};
 use fol_sections::Sections;
 use fol_split::Splitter;
 use std::alloc::{AllocError, Global};
 use std::marker::Model;
-
-/// The most sections that are present at once.
-const MOST: usize = 16_384;
 
 /// The memory in which a release works.
 #[derive(Drop)]
@@ -37,6 +33,7 @@ pub struct Releaser {
 }
 
 impl Model for Releaser {
+    ghost use Rattle.fol_model.specs.declared.places.TheConstants.{MOST_SECTIONS};
     ghost use Rattle.std.specs.Prelude.{ℕ, ◌≤◌};
     ghost use Rattle.std.specs.Vec.{vec_capacity};
 
@@ -44,7 +41,7 @@ impl Model for Releaser {
 
     ghost view = { λ r. 0 };
 
-    ghost invariant = { λ r. (16384 ≤ vec_capacity r.ids) × (16384 ≤ vec_capacity r.cleaner.living) × (16384 ≤ vec_capacity r.cleaner.dead) };
+    ghost invariant = { λ r. (MOST_SECTIONS ≤ vec_capacity r.ids) × (MOST_SECTIONS ≤ vec_capacity r.cleaner.living) × (MOST_SECTIONS ≤ vec_capacity r.cleaner.dead) };
 }
 
 impl Releaser {
@@ -53,9 +50,9 @@ impl Releaser {
     /// Takes the memory for 16,384 sections.
     pub fn new(alloc: Global) -> Result<Releaser, AllocError> {
         let splitter = Splitter::new(alloc)?;
-        let ids = Vec::with_capacity(alloc, MOST)?;
-        let living = Vec::with_capacity(alloc, MOST)?;
-        let dead = Vec::with_capacity(alloc, MOST)?;
+        let ids = Vec::with_capacity(alloc, MOST_SECTIONS)?;
+        let living = Vec::with_capacity(alloc, MOST_SECTIONS)?;
+        let dead = Vec::with_capacity(alloc, MOST_SECTIONS)?;
         Ok(Releaser {
             ids,
             cleaner: Cleaner {
@@ -125,7 +122,7 @@ fn join_all(tables: &mut Tables, change: &mut Change, ids: &[u64], id: u64)
     requires ids { ids.now ≡ behind_of tables.old id }
     requires alone { (r : ℕ) → waits_of tables.old id r ≡ false }
     requires last { (u r : ℕ) → waits_of tables.old u id ≡ true → waits_of tables.old r u ≡ false }
-    requires few { count_sections (λ s. nat_lt 0 (owner_of tables.old s)) ≤ 16384 }
+    requires few { count_sections (λ s. nat_lt 0 (owner_of tables.old s)) ≤ MOST_SECTIONS }
     requires nothing { change.old ≡ nothing }
     ensures joins { Joins tables.old tables.new id ids.now }
     ensures change { change.new ≡ record { created = []; dead = ids.now; merges = into id ids.now; parts = [] } }
@@ -183,7 +180,7 @@ impl Cleaner {
         requires last { behind_of tables.old id ≡ [] }
         requires dead { (s : SectionPos) → is_among self.old.dead.items s ≡ true → owner_of tables.old s ≡ id }
         requires living { self.old.living.items ≡ filter (λ s. not (is_among self.old.dead.items s)) (rows_of tables.old id) }
-        requires few { count_sections (λ s. nat_lt 0 (owner_of tables.old s)) ≤ 16384 }
+        requires few { count_sections (λ s. nat_lt 0 (owner_of tables.old s)) ≤ MOST_SECTIONS }
         requires few_ids { tables.old.next < 2 ^ 62 }
         requires merge { (1 ≤ merge) × (merge ≤ 4) }
         requires room { (change.old.created ≡ []) × (change.old.parts ≡ []) × (length change.old.dead < 16385) }
@@ -215,8 +212,8 @@ impl Cleaner {
 
 /// Whether a region is cleaned that so many regions joined, and that has so many sections, of which so many are dead.
 fn must_clean(grid: Grid, joined: usize, size: usize, dead: usize) -> bool
-    requires size { size ≤ 16384 }
-    requires dead { dead ≤ 16384 }
+    requires size { size ≤ MOST_SECTIONS }
+    requires dead { dead ≤ MOST_SECTIONS }
     ensures { result ≡ (not (nat_eq joined 0) || (nat_eq dead size || (nat_le grid.min size && nat_le (size * grid.num) (dead * grid.den)))) }
 {
     joined != 0
@@ -251,7 +248,7 @@ fn settle(
     requires last { behind_of tables.old id ≡ [] }
     requires dead { (s : SectionPos) → is_among dead.now s ≡ true → owner_of tables.old s ≡ id }
     requires living { living.now ≡ filter (λ s. not (is_among dead.now s)) (rows_of tables.old id) }
-    requires few { count_sections (λ s. nat_lt 0 (owner_of tables.old s)) ≤ 16384 }
+    requires few { count_sections (λ s. nat_lt 0 (owner_of tables.old s)) ≤ MOST_SECTIONS }
     requires few_ids { tables.old.next < 2 ^ 62 }
     requires merge { (1 ≤ merge) × (merge ≤ 4) }
     requires room { (change.old.created ≡ []) × (change.old.parts ≡ []) × (length change.old.dead < 16385) }

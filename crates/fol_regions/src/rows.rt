@@ -10,13 +10,10 @@ ghost use Rattle.fol_model.specs.Universe.{section_cmp};
 ghost use Rattle.fol_regions.specs.Rows.{united, IsRow};
 
 use fol_lists::Lists;
-use fol_model::SectionPos;
+use fol_model::{MOST_SECTIONS, SectionPos};
 use std::alloc::{AllocError, Global};
 use std::cmp::Ordering;
 use std::marker::Model;
-
-/// The most sections that are present at once.
-const MOST: usize = 16_384;
 
 /// Lists of sections by number, of 16,384 sections together.
 #[derive(Drop)]
@@ -42,11 +39,11 @@ impl Model for Rows {
 impl Rows {
     /// Empty lists with the numbers below `numbers`.
     pub fn new(alloc: Global, numbers: usize) -> Result<Rows, AllocError>
-        ensures { IfOk result (λ v. v ≡ record { lists = replicate numbers []; room = 16384 }) }
+        ensures { IfOk result (λ v. v ≡ record { lists = replicate numbers []; room = MOST_SECTIONS }) }
     {
         Ok(Rows {
-            lists: Lists::new(alloc, numbers, MOST)?,
-            made: Vec::with_capacity(alloc, MOST)?,
+            lists: Lists::new(alloc, numbers, MOST_SECTIONS)?,
+            made: Vec::with_capacity(alloc, MOST_SECTIONS)?,
         })
     }
 
@@ -58,7 +55,7 @@ impl Rows {
         lists.reserve_numbers(numbers)?;
         Ok(Rows {
             lists,
-            made: Vec::with_capacity(alloc, MOST)?,
+            made: Vec::with_capacity(alloc, MOST_SECTIONS)?,
         })
     }
 
@@ -81,7 +78,7 @@ impl Rows {
     /// Puts other sections in place of a list's own.
     pub fn put(&mut self, n: usize, sections: &[SectionPos])
         requires number { n < length self.old.lists }
-        requires room { total (with_list self.old n sections.now) ≤ 16384 }
+        requires room { total (with_list self.old n sections.now) ≤ MOST_SECTIONS }
         ensures { self.new ≡ with_list self.old n sections.now }
     {
         self.lists.put(n, sections);
@@ -92,7 +89,7 @@ impl Rows {
         requires number { n < length self.old.lists }
         requires row { IsRow (list_at self.old n) }
         requires sections { IsRow sections.now }
-        requires room { total self.old + length sections.now ≤ 16384 }
+        requires room { total self.old + length sections.now ≤ MOST_SECTIONS }
         ensures { self.new ≡ with_list self.old n (united (list_at self.old n) sections.now) }
     {
         self.made.clear();

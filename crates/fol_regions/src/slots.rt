@@ -9,19 +9,18 @@ ghost use Rattle.fol_model.specs.declared.regions.State.TheVariants.{Dead};
 ghost use Rattle.fol_model.specs.GridState.{with_state};
 ghost use Rattle.fol_regions.specs.SlotKeys.{AreKeys};
 
-use fol_model::State;
+use fol_model::{MOST_SECTIONS, State};
 use slab::Slab;
 use std::alloc::{AllocError, Global};
 use std::collections::HashMap;
 use std::marker::Model;
 
-/// The most regions that are not Dead at once: each has a section.
-const MOST: usize = 16_384;
-
 /// A region that is not Dead.
 #[derive(Clone, Copy, Drop)]
 pub struct Region {
+    /// Its id, 1 and up.
     pub id: u64,
+    /// What it may do.
     pub state: State,
 }
 
@@ -54,9 +53,9 @@ impl Slots {
     /// No region. Takes the memory for 16,384 regions.
     pub fn new(alloc: Global) -> Result<Slots, AllocError>
         ensures none { IfOk result (λ v. (id : ℕ) → slot_of v id ≡ v.room) }
-        ensures room { IfOk result (λ v. 16384 ≤ v.room) }
+        ensures room { IfOk result (λ v. MOST_SECTIONS ≤ v.room) }
     {
-        let regions = Slab::with_capacity(alloc, MOST)?;
+        let regions = Slab::with_capacity(alloc, MOST_SECTIONS)?;
         let most = 2 * regions.capacity();
         Ok(Slots {
             regions,
@@ -80,7 +79,7 @@ impl Slots {
     /// How many slots there are.
     pub fn room(&self) -> usize
         ensures room { result ≡ self.now.room }
-        ensures most { 16384 ≤ result }
+        ensures most { MOST_SECTIONS ≤ result }
     {
         self.regions.capacity()
     }

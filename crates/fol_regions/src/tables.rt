@@ -6,13 +6,13 @@ ghost use Rattle.fol_model.specs.declared.places.SectionPos.{SectionPos};
 ghost use Rattle.fol_model.specs.declared.regions.State.TheVariants.{Ready};
 ghost use Rattle.fol_model.specs.Universe.{all_sections, count_sections, numbers_below};
 ghost use Rattle.fol_regions.specs.Links.{first_id};
-ghost use Rattle.fol_regions.specs.Rows.{is_among};
+ghost use Rattle.fol_model.specs.Geometry.{is_among};
 
 use crate::links::Links;
 use crate::owners::{Owners, change_all, give_all, owner};
 use crate::rows::Rows;
 use crate::slots::Slots;
-use fol_model::{SectionPos, State};
+use fol_model::{MOST_SECTIONS, SectionPos, State};
 use std::alloc::{AllocError, Global};
 use std::collections::HashMap;
 use std::marker::Model;
@@ -23,7 +23,9 @@ use std::marker::Model;
 /// `ahead_of` and `behind_of` the lists of a region.
 #[derive(Drop)]
 pub struct Tables {
+    /// The region of each present section.
     pub owners: Owners,
+    /// The slot of each region.
     pub slots: Slots,
     /// By slot: the sections of the region.
     pub rows: Rows,
@@ -244,7 +246,7 @@ impl Tables {
         requires region { is_live self.old id ≡ true }
         requires absent { (s : SectionPos) → is_among sections.now s ≡ true → owner_of self.old s ≡ 0 }
         requires row { sections.now ≡ filter (is_among sections.now) all_sections }
-        requires few { count_sections (λ s. nat_lt 0 (owner_of self.old s)) + length sections.now ≤ 16384 }
+        requires few { count_sections (λ s. nat_lt 0 (owner_of self.old s)) + length sections.now ≤ MOST_SECTIONS }
         requires room { length sections.now ≤ self.old.free }
         ensures gives { Gives self.old self.new sections.now id }
         ensures pairs { (self.new.ahead ≡ self.old.ahead) × (self.new.behind ≡ self.old.behind) }
@@ -259,7 +261,7 @@ impl Tables {
         requires some { 0 < length sections.now }
         requires absent { (s : SectionPos) → is_among sections.now s ≡ true → owner_of self.old s ≡ 0 }
         requires row { sections.now ≡ filter (is_among sections.now) all_sections }
-        requires few { count_sections (λ s. nat_lt 0 (owner_of self.old s)) + length sections.now ≤ 16384 }
+        requires few { count_sections (λ s. nat_lt 0 (owner_of self.old s)) + length sections.now ≤ MOST_SECTIONS }
         requires room { length sections.now ≤ self.old.free }
         requires few_ids { self.old.next < 2 ^ 63 }
         ensures id { result ≡ self.old.next }

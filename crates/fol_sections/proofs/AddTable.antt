@@ -7,7 +7,7 @@ use Rattle.std.proofs.lemmas.List.Kept.{IsStrictlySortedBy-filter}
 use Rattle.fol_model.specs.declared.places.ChunkPos.{ChunkPos}
 use Rattle.fol_model.specs.declared.places.SectionPos.{SectionPos}
 use Rattle.fol_model.specs.declared.grids.Grid.{Grid}
-use Rattle.fol_model.specs.Geometry.{distance, is_chunk, is_section, is_within, same_section, section_of}
+use Rattle.fol_model.specs.Geometry.{distance, is_chunk, is_section, is_within, same_section, section_of, is_among}
 use Rattle.fol_model.specs.Universe.{all_sections, count_sections, section_cmp, square}
 use Rattle.fol_laws.proofs.Distances.{self_distance}
 use Rattle.fol_laws.proofs.FloorDivision.{around_in_limits}
@@ -16,7 +16,7 @@ use Rattle.fol_sections.specs.declared.answers.Added.TheVariants.{Counted, Fille
 use Rattle.fol_sections.specs.Pages.{InNine, counts_at, is_here, page_of}
 use Rattle.fol_sections.specs.declared.pages.Counts.{Counts}
 use Rattle.fol_sections.specs.declared.pages.Page.{Page}
-use Rattle.fol_sections.specs.Table.{added, is_among, is_full_for, is_missing, missing_count, present_count}
+use Rattle.fol_sections.specs.Table.{added, is_full_for, is_missing, missing_count, present_count}
 use Rattle.fol_sections.specs.Kept.{IsKept}
 use Rattle.fol_sections.proofs.Margins.{section_near}
 use Rattle.fol_sections.proofs.PageSteps.{page_near}

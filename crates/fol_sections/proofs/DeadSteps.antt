@@ -7,7 +7,7 @@ use Rattle.std.proofs.lemmas.Bool.{cases_Bool, and_parts, and_from, true≢false
 use Rattle.fol_model.specs.declared.places.ChunkPos.{ChunkPos}
 use Rattle.fol_model.specs.declared.places.SectionPos.{SectionPos}
 use Rattle.fol_model.specs.declared.grids.Grid.{Grid}
-use Rattle.fol_model.specs.Geometry.{distance, is_within, section_of, same_section}
+use Rattle.fol_model.specs.Geometry.{distance, is_within, section_of, same_section, is_among}
 use Rattle.fol_model.specs.Universe.{all_chunks, all_sections, count_sections}
 use Rattle.fol_laws.proofs.SamePlaces.{same_section-true, same_section-self}
 use Rattle.fol_laws.proofs.Distances.{self_distance}
@@ -17,7 +17,7 @@ use Rattle.fol_laws.proofs.SectionOrder.{section_count_change}
 use Rattle.fol_sections.specs.Pages.{AllUsed, chunks_at, counts_at, is_here, near_at, no_counts}
 use Rattle.fol_sections.specs.declared.pages.Page.{Page}
 use Rattle.fol_sections.specs.Kept.{IsKept, is_filled_near, is_held, is_loaded_in}
-use Rattle.fol_sections.specs.Table.{in_margin_of, is_among}
+use Rattle.fol_sections.specs.Table.{in_margin_of}
 use Rattle.fol_sections.proofs.Margins.{count-like, margin-is, near-is}
 use Rattle.fol_sections.proofs.Tables.{table, table-dead, table-neighbours}
 

@@ -10,7 +10,7 @@ use Rattle.fol_model.specs.declared.places.SectionPos.{SectionPos}
 use Rattle.fol_sections.specs.Pages.{InNine, has_page, page_of}
 use Rattle.fol_sections.specs.Places.{is_same}
 use Rattle.fol_sections.specs.Rows.{rows_of}
-use Rattle.fol_sections.specs.Table.{is_among}
+use Rattle.fol_model.specs.Geometry.{is_among}
 use Rattle.fol_sections.specs.declared.pages.Page.{Page}
 use Rattle.fol_sections.proofs.Lengths.{length-rows}
 use Rattle.fol_sections.proofs.PageSteps.{page_self, same_place}

@@ -10,7 +10,7 @@ use Rattle.std.proofs.lemmas.Map.Keys.{apart_from_distinct, IsDistinct-tail}
 use Rattle.fol_model.specs.declared.places.ChunkPos.{ChunkPos}
 use Rattle.fol_model.specs.declared.places.SectionPos.{SectionPos}
 use Rattle.fol_model.specs.declared.grids.Grid.{Grid}
-use Rattle.fol_model.specs.Geometry.{same_chunk, same_section, section_of}
+use Rattle.fol_model.specs.Geometry.{same_chunk, same_section, section_of, is_among}
 use Rattle.fol_model.specs.GridState.{at_chunk}
 use Rattle.fol_model.specs.Universe.{all_chunks}
 use Rattle.fol_laws.proofs.SamePlaces.{same_section-true, same_section-self}
@@ -18,7 +18,6 @@ use Rattle.fol_laws.proofs.AllSections.{some_chunk-is}
 use Rattle.fol_laws.proofs.ListCounts.{list_any-count}
 use Rattle.fol_sections.specs.Places.{count_at, is_same, number_at}
 use Rattle.fol_sections.specs.Pages.{chunks_at, counts_at, is_here, near_at, no_counts}
-use Rattle.fol_sections.specs.Table.{is_among}
 use Rattle.fol_sections.specs.Kept.{IsKept, is_held, is_loaded_in}
 use Rattle.fol_sections.specs.declared.pages.Counts.{Counts}
 use Rattle.fol_sections.specs.declared.pages.Page.{Page}

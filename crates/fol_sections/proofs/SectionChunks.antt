@@ -13,8 +13,7 @@ use Rattle.fol_model.specs.declared.places.ChunkPos.{ChunkPos}
 use Rattle.fol_model.specs.declared.places.SectionPos.{SectionPos}
 use Rattle.fol_model.specs.declared.grids.Grid.{Grid}
 use Rattle.fol_model.specs.Geometry.{is_chunk, same_chunk, same_section, section_of}
-use Rattle.fol_model.specs.Universe.{from, all_chunks}
-use Rattle.fol_laws.specs.ChunkOrder.{chunk_cmp}
+use Rattle.fol_model.specs.Universe.{from, all_chunks, chunk_cmp}
 use Rattle.fol_laws.proofs.ChunkOrder.{chunk_rows_are}
 use Rattle.fol_laws.proofs.OrderSteps.{less, equal_self}
 use Rattle.fol_laws.proofs.SamePlaces.{same_chunk-true, same_chunk-self, same_section-true, same_section-self}

@@ -7,7 +7,7 @@ use Rattle.std.proofs.Math.Path.{fun_ext}
 use Rattle.std.proofs.lemmas.Bool.{cases_Bool}
 use Rattle.fol_model.specs.declared.places.ChunkPos.{ChunkPos}
 use Rattle.fol_model.specs.declared.places.SectionPos.{SectionPos}
-use Rattle.fol_model.specs.Geometry.{is_section, same_chunk, same_section}
+use Rattle.fol_model.specs.Geometry.{is_section, same_chunk, same_section, is_among}
 use Rattle.fol_model.specs.Universe.{all_sections}
 use Rattle.fol_laws.proofs.AllSections.{some_section-is}
 use Rattle.fol_laws.proofs.SectionOrder.{section_members}
@@ -15,7 +15,7 @@ use Rattle.fol_laws.proofs.SamePlaces.{same_chunk-true, same_chunk-self, same_se
 use Rattle.fol_sections.specs.Places.{number_at, count_at}
 use Rattle.fol_sections.specs.Pages.{is_here}
 use Rattle.fol_sections.specs.declared.pages.Page.{Page}
-use Rattle.fol_sections.specs.Table.{count_in, is_among}
+use Rattle.fol_sections.specs.Table.{count_in}
 use Rattle.fol_sections.specs.Kept.{held_in, present_in}
 
 pub same_chunk-swap : (a b : ChunkPos) → same_chunk a b ≡ same_chunk b a

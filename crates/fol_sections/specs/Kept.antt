@@ -1,6 +1,7 @@
 -- What a table of sections keeps: its tables as lists of entries, and how they fit together.
 use Rattle.std.specs.Prelude.{◌≡◌, ℕ, ℤ, ◌*◌, ◌≤◌, Bool, true, ◌&&◌, nat_lt, List, map, filter}
 use Rattle.std.specs.List.{count_by}
+use Rattle.fol_model.specs.declared.places.TheConstants.{MOST_SECTIONS}
 use Rattle.fol_model.specs.declared.places.ChunkPos.{ChunkPos}
 use Rattle.fol_model.specs.declared.places.SectionPos.{SectionPos}
 use Rattle.fol_model.specs.declared.grids.Grid.{Grid}
@@ -40,7 +41,7 @@ pub record IsKept (grid : Grid) (holds : List ((ℤ × ℤ) × ℕ)) (pages : Li
   pub near : (s : SectionPos) → near_at pages s ≡ count_sections (is_filled_near grid pages s)
   pub margin : (c : ChunkPos) (s : SectionPos) → is_held holds c ≡ true → is_within (section_of grid c) grid.create s ≡ true → is_here pages s ≡ true
   pub count : present ≡ count_sections (is_here pages)
-  pub few : present ≤ 16384
+  pub few : present ≤ MOST_SECTIONS
   pub used : AllUsed pages
 
 -- there is room for that many holds more

@@ -5,7 +5,7 @@ use Rattle.std.specs.Map.{lookup}
 use Rattle.std.specs.Option.{option_and_then, unwrap_or}
 use Rattle.std.specs.Ordering.{int_eq}
 use Rattle.fol_model.specs.declared.places.SectionPos.{SectionPos}
-use Rattle.fol_sections.specs.Table.{is_among}
+use Rattle.fol_model.specs.Geometry.{is_among}
 use Rattle.fol_sections.specs.declared.pages.Counts.{Counts}
 use Rattle.fol_sections.specs.declared.pages.Page.{Page}
 

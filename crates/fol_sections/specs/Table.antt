@@ -1,10 +1,11 @@
 -- What contracts see of a table of sections: which chunks are held, which sections are present, and what follows from the two.
 use Rattle.std.specs.Prelude.{◌≡◌, ℕ, ◌+◌, Bool, false, not, ◌&&◌, ◌||◌, nat_eq, nat_lt, if◌then◌else◌, List, [], ◌∷◌, filter}
-use Rattle.std.specs.List.{count_by, list_any}
+use Rattle.std.specs.List.{count_by}
+use Rattle.fol_model.specs.declared.places.TheConstants.{MOST_SECTIONS}
 use Rattle.fol_model.specs.declared.places.ChunkPos.{ChunkPos}
 use Rattle.fol_model.specs.declared.places.SectionPos.{SectionPos}
 use Rattle.fol_model.specs.declared.grids.Grid.{Grid}
-use Rattle.fol_model.specs.Geometry.{is_within, section_of, same_chunk, same_section}
+use Rattle.fol_model.specs.Geometry.{is_within, section_of, same_chunk, same_section, is_among}
 use Rattle.fol_model.specs.GridState.{at_chunk}
 use Rattle.fol_model.specs.Universe.{all_chunks, some_chunk, count_sections, all_sections}
 use Rattle.fol_sections.specs.declared.answers.Added.{Added}
@@ -32,10 +33,6 @@ pub record Table : Type 0 where
 abbrev pub count_in : List Held → ChunkPos → ℕ
 count_in [] c = 0
 count_in (h ∷ hs) c = if same_chunk h.chunk c then h.count else count_in hs c
-
--- the section is one of the list
-abbrev pub is_among : List SectionPos → SectionPos → Bool
-is_among sections s = list_any (same_section s) sections
 
 -- how many holds each chunk has
 unfoldable pub holds_of : Table → ChunkPos → ℕ
@@ -79,7 +76,7 @@ present_count t = count_sections (presence_of t)
 
 -- there is no room for the sections that the chunk needs
 unfoldable pub is_full_for : Table → ChunkPos → Bool
-is_full_for t c = nat_lt 16384 (present_count t + missing_count t c)
+is_full_for t c = nat_lt MOST_SECTIONS (present_count t + missing_count t c)
 
 -- the answer to a hold more of a chunk
 unfoldable pub added : Table → ChunkPos → Added

@@ -8,9 +8,8 @@ ghost use Rattle.fol_model.specs.declared.places.ChunkPos.{ChunkPos};
 ghost use Rattle.fol_model.specs.declared.places.SectionPos.{SectionPos};
 ghost use Rattle.fol_sections.specs.Places.{count_at};
 ghost use Rattle.fol_sections.specs.Pages.{AllUsed, InNine, chunks_at, counts_at, is_here, near_at, no_counts};
-ghost use Rattle.fol_sections.specs.Table.{is_among};
 ghost use Rattle.fol_sections.specs.Turns.{fall, rise};
-ghost use Rattle.fol_model.specs.Geometry.{is_chunk, is_within, same_section};
+ghost use Rattle.fol_model.specs.Geometry.{is_chunk, is_within, same_section, is_among};
 ghost use Rattle.fol_model.specs.GridState.{at_chunk};
 
 use crate::chunks::list_section;
@@ -19,13 +18,10 @@ use crate::places::{self, Numbers, number};
 use crate::squares::find_missing;
 use crate::turns::{Turn, turn_square, turned};
 use crate::{Added, Removed};
-use fol_model::{ChunkPos, Grid, SectionPos, section_of};
+use fol_model::{ChunkPos, Grid, MOST_SECTIONS, SectionPos, section_of};
 use std::alloc::{AllocError, Global};
 use std::collections::HashMap;
 use std::marker::Model;
-
-/// The most sections that are present at once.
-const MOST: usize = 16_384;
 
 /// The most sections within a create radius of a section, which is at most 8.
 const AREA: usize = 289;
@@ -78,7 +74,7 @@ impl Sections {
         Ok(Sections {
             grid,
             holds: HashMap::new(alloc),
-            pages: HashMap::with_capacity(alloc, MOST + NEAR_PAGES)?,
+            pages: HashMap::with_capacity(alloc, MOST_SECTIONS + NEAR_PAGES)?,
             count: 0,
             filled: Vec::with_capacity(alloc, AREA)?,
             spare: 0,
@@ -189,7 +185,7 @@ impl Sections {
         find_missing(&self.pages, &mut self.filled, home, radius);
         let present = self.count;
         let wanted = self.filled.len() as u32;
-        if present + wanted > MOST as u32 {
+        if present + wanted > MOST_SECTIONS as u32 {
             self.filled.clear();
             return Added::Full { present, wanted };
         }

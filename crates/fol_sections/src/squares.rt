@@ -1,6 +1,6 @@
 //! The sections within the create radius of a section, and which of them are missing.
 
-ghost use Rattle.std.specs.Prelude.{◌≡◌, ◌+◌, ◌≤◌, not, ◌++◌, [], length, pos, ◌+ℤ◌, ◌-ℤ◌, nat_abs};
+ghost use Rattle.std.specs.Prelude.{◌≡◌, ◌+◌, ◌≤◌, not, ◌++◌, [], length, pos, ◌+ℤ◌, nat_abs};
 ghost use Rattle.std.specs.List.{filter};
 ghost use Rattle.std.specs.Vec.{vec_capacity};
 ghost use Rattle.fol_model.specs.Universe.{square};
@@ -8,32 +8,7 @@ ghost use Rattle.fol_sections.specs.Pages.{is_here};
 ghost use Rattle.fol_sections.specs.Rows.{row_of, section_at};
 
 use crate::pages::{Pages, is_present};
-use fol_model::SectionPos;
-
-/// The section with the least coordinates of those within a radius.
-pub fn corner(s: SectionPos, radius: u8) -> SectionPos
-    requires near { (nat_abs s.x ≤ 1000008) × (nat_abs s.z ≤ 1000008) }
-    requires few { radius ≤ 8 }
-    ensures { result ≡ record { x = s.x -ℤ pos radius; z = s.z -ℤ pos radius } }
-{
-    let reach = radius as i32;
-    SectionPos {
-        x: s.x - reach,
-        z: s.z - reach,
-    }
-}
-
-/// The section that many columns and rows behind another one.
-pub fn beside(first: SectionPos, columns: u32, rows: u32) -> SectionPos
-    requires near { (nat_abs first.x ≤ 1000016) × (nat_abs first.z ≤ 1000016) }
-    requires few { (columns ≤ 17) × (rows ≤ 17) }
-    ensures { result ≡ record { x = first.x +ℤ pos columns; z = first.z +ℤ pos rows } }
-{
-    SectionPos {
-        x: first.x + columns as i32,
-        z: first.z + rows as i32,
-    }
-}
+use fol_model::{SectionPos, beside, corner};
 
 /// Adds those of `n` sections in a row that are missing.
 fn find_row(pages: &Pages, missing: &mut Vec<SectionPos>, first: SectionPos, row: u32, n: u32)

@@ -10,8 +10,7 @@ ghost use Rattle.fol_sections.specs.Rows.{row_of, section_at};
 ghost use Rattle.fol_sections.specs.Turns.{fall, rise};
 
 use crate::pages::{Counts, Pages, change, find};
-use crate::squares::{beside, corner};
-use fol_model::SectionPos;
+use fol_model::{SectionPos, beside, corner};
 
 /// What became of a section.
 #[derive(Clone, Copy, Debug, PartialEq, Eq)]

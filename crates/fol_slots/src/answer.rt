@@ -1,3 +1,5 @@
+//! What a claim and a keep answer.
+
 use crate::word::Word;
 
 /// What a worker's claim of a slot answers.

@@ -11,6 +11,7 @@ use std::snapshot::Snapshot;
 /// What the table is told when it is made: the bodies that it begins with.
 #[derive(Drop)]
 pub struct About<T> {
+    /// One for each slot, in order.
     pub bodies: Snapshot<Vec<T>>,
 }
 

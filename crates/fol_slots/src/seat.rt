@@ -1,3 +1,5 @@
+//! The seats of the slots: the workers' and the keeper's.
+
 ghost use Rattle.std.specs.Prelude.{◌≡◌, [], IsSome};
 
 use crate::view::View;

@@ -1,3 +1,5 @@
+//! The list of the workers' seats.
+
 ghost use Rattle.std.specs.Prelude.{◌≡◌, List};
 ghost use Rattle.fol_slots.specs.Shown.{Worker};
 

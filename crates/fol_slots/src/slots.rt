@@ -1,3 +1,5 @@
+//! Slots that threads share, and how they are made.
+
 ghost use Rattle.std.specs.Prelude.{◌≡◌, ℕ, ◌<◌, ◌≤◌, [], length, map, replicate, Some, IfOk, vec_len, vec_capacity};
 ghost use Rattle.fol_slots.specs.declared.word.Word.TheVariants.{Kept};
 
@@ -21,8 +23,11 @@ pub struct Slots<T: Body> {
 
 /// New slots with all their seats: the keeper's, and those of the workers 1, 2 and so on.
 pub struct SlotsAndSeats<T: Body> {
+    /// The slots.
     pub slots: Slots<T>,
+    /// The keeper's seat.
     pub keeper: KeeperSeat<T>,
+    /// The workers' seats, in order of their numbers.
     pub seats: WorkerSeats<T>,
 }
 

@@ -1,3 +1,5 @@
+//! A keeper and its workers, on one thread and on several.
+
 ghost use Rattle.std.specs.Prelude.{◌≡◌, ℕ, ◌<◌, None, IsSome, All, IfOk, vec_len};
 ghost use Rattle.fol_slots.specs.Table.{slots_id, slot_count};
 ghost use Rattle.fol_slots.specs.Shown.{place_at};

@@ -1,3 +1,5 @@
+//! In whose hands a slot is, and how that is stored.
+
 ghost use Rattle.std.specs.Prelude.{◌≡◌, ◌<◌, ◌+◌, ◌-◌};
 ghost use Rattle.fol_slots.specs.Words.{code_of, word_of};
 

@@ -1,8 +1,8 @@
 -- Chains of sections, turned round, joined, and over another list of the same sections.
 use Rattle.std.proofs.Common.{◌≡◌, ℕ, ◌++◌, refl, sym, ◌∙◌, true, List, [], ◌∷◌}
 use Rattle.fol_model.specs.declared.places.SectionPos.{SectionPos}
-use Rattle.fol_model.specs.Geometry.{is_within}
-use Rattle.fol_split.specs.Parts.{is_among, IsChain, IsJoined, IsPart}
+use Rattle.fol_model.specs.Geometry.{is_within, is_among}
+use Rattle.fol_split.specs.Parts.{IsChain, IsJoined, IsPart}
 use Rattle.fol_split.proofs.Places.{within-swap}
 
 module _ (sections : List SectionPos) (merge : ℕ) where

@@ -13,13 +13,13 @@ use Rattle.std.proofs.lemmas.List.Folds.{list_any-append}
 use Rattle.std.proofs.lemmas.Map.Keys.{Less-from_sorted, sorted_head}
 use Rattle.std.proofs.Math.Seq.{take-append_seam, drop-append_seam}
 use Rattle.fol_model.specs.declared.places.SectionPos.{SectionPos}
-use Rattle.fol_model.specs.Geometry.{same_section}
+use Rattle.fol_model.specs.Geometry.{same_section, is_among}
 use Rattle.fol_model.specs.Universe.{section_cmp}
 use Rattle.fol_split.specs.declared.spans.Span.{Span}
-use Rattle.fol_split.specs.Parts.{is_among, least_of, IsJoined, IsPart, ArePartsOf}
+use Rattle.fol_split.specs.Parts.{least_of, IsJoined, IsPart, ArePartsOf}
 use Rattle.fol_split.specs.Pool.{Taken, TakesClass, SortsFrom, IsApart, is_left}
 use Rattle.fol_split.specs.Spans.{IsSpan, IsSplit, piece_of, pieces_of}
-use Rattle.fol_split.proofs.Places.{same_section-true, same_section-self, section_order}
+use Rattle.fol_model.proofs.PlaceKeys.{same_section-true, same_section-self, section_cmp_total}
 use Rattle.fol_split.proofs.Chains.{joined_both, joined_back, part_over}
 use Rattle.fol_split.proofs.Search.{distinct_apart, at_index}
 
@@ -72,7 +72,7 @@ all_at P (x ∷ xs) t h e = elim (or_cases (same_section t x) (is_among xs t) e)
 ]
 
 not_both_less : (a b : SectionPos) → section_cmp a b ≡ Less → section_cmp b a ≡ Less → ⊥
-not_both_less a b h k = let t = section_order.antisymm a b in let f : Less ≡ ordering_reverse Less = rw (h, k) at t in cc
+not_both_less a b h k = let t = section_cmp_total.antisymm a b in let f : Less ≡ ordering_reverse Less = rw (h, k) at t in cc
 
 least_is : (part : List SectionPos) (first : SectionPos) → IsStrictlySortedBy section_cmp part → is_among part first ≡ true
     → ((s : SectionPos) → is_among part s ≡ true → (s ≡ first) ⊎ (section_cmp first s ≡ Less)) → least_of part ≡ first

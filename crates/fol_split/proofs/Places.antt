@@ -3,30 +3,17 @@ use Rattle.std.proofs.Common.{◌≡◌, ℕ, zero, suc, drop, ◌+◌, ◌<◌,
 use Rattle.std.specs.Prelude.{ℤ, pos, ◌-ℤ◌, nat_abs, nat_le}
 use Rattle.std.specs.List.{IsDistinct}
 use Rattle.std.specs.List.Sorted.{IsSortedBy, IsStrictlySortedBy}
-use Rattle.std.specs.Ordering.{int_cmp, int_eq, is_lt, ordering_then, ordering_reverse}
-use Rattle.std.specs.Cmp.{IsTotalOrder, IsEquivalence, int_ranks, both_ways}
+use Rattle.std.specs.Ordering.{is_lt, ordering_reverse}
+use Rattle.std.specs.Cmp.{IsEquivalence, both_ways}
 use Rattle.std.specs.declared.cmp.Ordering.{Ordering}
 use Rattle.std.specs.declared.cmp.Ordering.TheVariants.{Less, Equal, Greater}
-use Rattle.std.proofs.lemmas.Cmp.{int_cmp_total, on_total, then_total}
-use Rattle.std.proofs.lemmas.Bool.{and_parts, and_from, cases_Bool, true≢false}
-use Rattle.std.proofs.lemmas.Bool.Decides.{Decides-int_eq}
+use Rattle.std.proofs.lemmas.Bool.{cases_Bool, true≢false}
 use Rattle.std.proofs.lemmas.Map.Keys.{sorted_from_all_adjacent, apart_from_distinct, IsDistinct-from_apart, IsDistinct-tail, Less-from_sorted}
 use borrow.Author.Differences.{ints}
 use Rattle.fol_model.specs.declared.places.SectionPos.{SectionPos}
 use Rattle.fol_model.specs.Geometry.{distance, is_within, same_section}
 use Rattle.fol_model.specs.Universe.{section_cmp}
-
-pub same_section-true : (a b : SectionPos) → same_section a b ≡ true → a ≡ b
-unfolding same_section
-same_section-true a b h =
-    let parts = and_parts (int_eq a.x b.x) (int_eq a.z b.z) h in
-    let x : a.x ≡ b.x = (Decides-int_eq a.x b.x).0 parts.0 in
-    let z : a.z ≡ b.z = (Decides-int_eq a.z b.z).0 parts.1 in
-    λ i. record { x = x i; z = z i }
-
-pub same_section-self : (a : SectionPos) → same_section a a ≡ true
-unfolding same_section
-same_section-self a = and_from _ _ ((Decides-int_eq a.x a.x).1 refl) ((Decides-int_eq a.z a.z).1 refl)
+use Rattle.fol_model.proofs.PlaceKeys.{same_section-true, same_section-self, section_cmp_total, section_cmp_tells}
 
 pub same_section-swap : (a b : SectionPos) → same_section a b ≡ same_section b a
 same_section-swap a b = both_ways (same_section a b) (same_section b a)
@@ -40,26 +27,6 @@ same_section_equiv = record {
   congr = λ a b c h. ap (λ (s : SectionPos). same_section s c) (same_section-true a b h);
 }
 
-pub section_order : IsTotalOrder section_cmp
-unfolding section_cmp
-section_order = then_total (on_total (λ (s : SectionPos). s.z) int_cmp_total) (on_total (λ (s : SectionPos). s.x) int_cmp_total)
-
-then_same : (r s : Ordering) → ordering_then r s ≡ Equal → (r ≡ Equal) × (s ≡ Equal)
-then_same Less s e = absurd (cc)
-then_same Equal s e = (refl, e)
-then_same Greater s e = absurd (cc)
-
-int_same : (x y : ℤ) → int_cmp x y ≡ Equal → x ≡ y
-int_same x y e = let h = int_ranks x y in rw e at h
-
-pub section_cmp-same : (a b : SectionPos) → section_cmp a b ≡ Equal → a ≡ b
-unfolding section_cmp
-section_cmp-same a b e =
-    let p = then_same (int_cmp a.z b.z) _ e in
-    let z = int_same a.z b.z p.0 in
-    let x = int_same a.x b.x p.1 in
-    λ i. record { x = x i; z = z i }
-
 not_less_self : (r : Ordering) → r ≡ ordering_reverse r → r ≡ Less → ⊥
 not_less_self r e h = let k : Less ≡ ordering_reverse Less = rw h at e in cc
 
@@ -67,14 +34,14 @@ pub less_not_same : (a b : SectionPos) → section_cmp a b ≡ Less → same_sec
 less_not_same a b l h =
     let e = same_section-true a b h in
     let k : section_cmp b b ≡ Less = rw e at l in
-    not_less_self (section_cmp b b) (section_order.antisymm b b) k
+    not_less_self (section_cmp b b) (section_cmp_total.antisymm b b) k
 
 -- of two sections that differ, one is less where the other is not
 less_from : (a b : SectionPos) → is_lt (section_cmp b a) ≡ false → same_section a b ≡ false → section_cmp a b ≡ Less
 less_from a b h n = elim (section_cmp a b) as (λ r. section_cmp a b ≡ r → r ≡ Less) [
   | Less ↦ λ _. refl
-  | Equal ↦ λ e. let s = section_cmp-same a b e in absurd (true≢false (sym (rw s (same_section-self b)) ∙ n))
-  | Greater ↦ λ e. let t : section_cmp b a ≡ Less = section_order.antisymm b a ∙ ap ordering_reverse e in absurd (true≢false (sym (ap is_lt t) ∙ h))
+  | Equal ↦ λ e. let s = section_cmp_tells a b e in absurd (true≢false (sym (rw s (same_section-self b)) ∙ n))
+  | Greater ↦ λ e. let t : section_cmp b a ≡ Less = section_cmp_total.antisymm b a ∙ ap ordering_reverse e in absurd (true≢false (sym (ap is_lt t) ∙ h))
 ] refl
 
 origin : SectionPos
@@ -82,7 +49,7 @@ origin = record { x = pos 0; z = pos 0 }
 
 -- distinct sections that a sort put in order rise
 pub rises_from_sort : (xs : List SectionPos) → IsSortedBy (λ a b. is_lt (section_cmp a b)) xs → IsDistinct same_section xs → IsStrictlySortedBy section_cmp xs
-rises_from_sort xs h apart = sorted_from_all_adjacent section_order xs origin (λ k l.
+rises_from_sort xs h apart = sorted_from_all_adjacent section_cmp_total xs origin (λ k l.
     less_from (get_or xs k origin) (get_or xs (k + 1) origin) (h k origin (omega arith) l) (apart_from_distinct same_section xs k (k + 1) origin apart (omega arith) l))
 
 abs_swap : (x y : ℤ) → nat_abs (x -ℤ y) ≡ nat_abs (y -ℤ x)
@@ -104,7 +71,7 @@ distinct-tail (suc n) (x ∷ xs) h = distinct-tail n xs (IsDistinct-tail same_se
 -- sections that rise are distinct
 pub rising-distinct : (xs : List SectionPos) → ((k : ℕ) (d : SectionPos) → k + 1 < length xs → section_cmp (get_or xs k d) (get_or xs (k + 1) d) ≡ Less) → IsDistinct same_section xs
 rising-distinct xs h =
-    let sorted = sorted_from_all_adjacent section_order xs origin (λ k l. h k origin l) in
+    let sorted = sorted_from_all_adjacent section_cmp_total xs origin (λ k l. h k origin l) in
     IsDistinct-from_apart same_section xs (λ i j d l m. elim (cases_Bool (same_section (get_or xs i d) (get_or xs j d))) [
       | inr e ↦ e
       | inl e ↦ absurd (less_not_same (get_or xs i d) (get_or xs j d) (Less-from_sorted section_cmp xs i j d sorted l m) e)

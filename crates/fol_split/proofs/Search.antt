@@ -5,10 +5,11 @@ use Rattle.std.proofs.lemmas.Bool.{cases_Bool, cases_lt, and_parts, and_from, or
 use Rattle.std.proofs.lemmas.List.Folds.{list_any-append, list_any_at}
 use Rattle.std.proofs.Math.Seq.{drop-append_seam}
 use Rattle.fol_model.specs.declared.places.SectionPos.{SectionPos}
-use Rattle.fol_model.specs.Geometry.{is_within, same_section}
-use Rattle.fol_split.specs.Parts.{is_among, IsChain, IsJoined}
+use Rattle.fol_model.specs.Geometry.{is_within, same_section, is_among}
+use Rattle.fol_split.specs.Parts.{IsChain, IsJoined}
 use Rattle.fol_split.specs.Pool.{Taken, Takes, TakesClass, IsApart, is_left}
-use Rattle.fol_split.proofs.Places.{same_section-true, same_section-self, within-swap}
+use Rattle.fol_split.proofs.Places.{within-swap}
+use Rattle.fol_model.proofs.PlaceKeys.{same_section-true, same_section-self}
 use Rattle.fol_split.proofs.Chains.{chain_more}
 
 -- ---- members of lists

@@ -12,10 +12,10 @@ use Rattle.std.proofs.lemmas.List.Sorted.{list_any-IsPermutation}
 use Rattle.std.proofs.lemmas.Map.Keys.{IsDistinct-IsPermutation, IsDistinct-push, apart_from_distinct, IsDistinct-tail}
 use Rattle.std.proofs.lemmas.Map.Made.{length-le_from_is_member}
 use Rattle.fol_model.specs.declared.places.SectionPos.{SectionPos}
-use Rattle.fol_model.specs.Geometry.{same_section}
-use Rattle.fol_split.specs.Parts.{is_among}
+use Rattle.fol_model.specs.Geometry.{same_section, is_among}
 use Rattle.fol_split.specs.Pool.{Taken, IsPool, Takes, is_left, is_free, entry_of}
-use Rattle.fol_split.proofs.Places.{same_section-true, same_section-swap, same_section_equiv}
+use Rattle.fol_split.proofs.Places.{same_section-swap, same_section_equiv}
+use Rattle.fol_model.proofs.PlaceKeys.{same_section-true}
 
 -- one more section at the end of a list
 pub among-push : (xs : List SectionPos) (s t : SectionPos) → is_among (xs ++ s ∷ []) t ≡ (is_among xs t || same_section s t)

@@ -1,15 +1,11 @@
 -- The parts into which sections fall: two are in one part exactly where a list of these sections leads from one to the other.
-use Rattle.std.specs.Prelude.{◌≡◌, ◌↔◌, ℕ, ◌<◌, Bool, IsTrue, List, [], ◌∷◌, length, pos}
+use Rattle.std.specs.Prelude.{◌≡◌, ◌↔◌, ℕ, ◌<◌, IsTrue, List, [], ◌∷◌, length, pos}
 use Rattle.std.specs.List.{All, list_any, slice_index_or}
 use Rattle.std.specs.List.Sorted.{IsStrictlySortedBy}
 use Rattle.std.specs.Ordering.{on}
 use Rattle.fol_model.specs.declared.places.SectionPos.{SectionPos}
-use Rattle.fol_model.specs.Geometry.{is_within, same_section}
+use Rattle.fol_model.specs.Geometry.{is_within, is_among}
 use Rattle.fol_model.specs.Universe.{section_cmp}
-
--- the section is one of the list
-abbrev pub is_among : List SectionPos → SectionPos → Bool
-is_among sections s = list_any (same_section s) sections
 
 -- from a by the sections of ms to b: each of ms is one of the sections, and within the merge radius of the one before it
 abbrev pub IsChain : List SectionPos → ℕ → SectionPos → List SectionPos → SectionPos → Type 0

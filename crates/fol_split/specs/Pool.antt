@@ -5,10 +5,11 @@ use Rattle.std.specs.List.Sorted.{IsStrictlySortedBy}
 use Rattle.std.specs.Map.{lookup}
 use Rattle.std.specs.Ordering.{int_eq}
 use Rattle.std.specs.Option.{unwrap_or}
+use Rattle.fol_model.specs.declared.places.TheConstants.{MOST_SECTIONS}
 use Rattle.fol_model.specs.declared.places.SectionPos.{SectionPos}
-use Rattle.fol_model.specs.Geometry.{is_within, same_section}
+use Rattle.fol_model.specs.Geometry.{is_within, same_section, is_among}
 use Rattle.fol_model.specs.Universe.{section_cmp}
-use Rattle.fol_split.specs.Parts.{is_among, IsJoined}
+use Rattle.fol_split.specs.Parts.{IsJoined}
 
 -- what contracts see of a pool: all its sections in order, and those that were taken, in the order in which they were
 pub record Taken : Type 0 where
@@ -29,13 +30,13 @@ is_free entries s = unwrap_or (entry_of entries s) false
 
 -- a pool has room for all its sections
 pub record HasRoom (in_order in_found in_free : ℕ) : Type 0 where
-  pub order : 16384 ≤ in_order
-  pub found : 16384 ≤ in_found
-  pub free : 16384 ≤ in_free
+  pub order : MOST_SECTIONS ≤ in_order
+  pub found : MOST_SECTIONS ≤ in_found
+  pub free : MOST_SECTIONS ≤ in_free
 
 -- the fields of a pool fit together
 pub record IsPool (order found : List SectionPos) (entries : List ((ℤ × ℤ) × Bool)) : Type 0 where
-  pub few : length order ≤ 16384
+  pub few : length order ≤ MOST_SECTIONS
   pub distinct : IsDistinct same_section found
   pub within : (s : SectionPos) → IsTrue (is_among found s) → IsTrue (is_among order s)
   pub free : (s : SectionPos) → is_free entries s ≡ (is_among order s && not (is_among found s))
@@ -71,7 +72,7 @@ pub record TakesClass (old new : Taken) (merge : ℕ) (first : SectionPos) (more
 
 -- a pool of just these sections, of which none was taken
 pub record IsLoaded (p : Taken) (sections : List SectionPos) : Type 0 where
-  pub few : length p.order ≤ 16384
+  pub few : length p.order ≤ MOST_SECTIONS
   pub in_order : IsStrictlySortedBy section_cmp p.order
   pub members : (s : SectionPos) → is_among p.order s ≡ is_among sections s
   pub found : p.found ≡ []

@@ -7,7 +7,8 @@ use Rattle.std.specs.declared.cmp.Ordering.TheVariants.{Less}
 use Rattle.fol_model.specs.declared.places.SectionPos.{SectionPos}
 use Rattle.fol_model.specs.Universe.{section_cmp}
 use Rattle.fol_split.specs.declared.spans.Span.{Span}
-use Rattle.fol_split.specs.Parts.{is_among, least_of, IsPart}
+use Rattle.fol_split.specs.Parts.{least_of, IsPart}
+use Rattle.fol_model.specs.Geometry.{is_among}
 use Rattle.fol_split.specs.Pool.{Taken, is_left, IsApart}
 
 abbrev pub piece_of : List SectionPos → Span → List SectionPos

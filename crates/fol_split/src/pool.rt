@@ -1,23 +1,19 @@
 //! The sections that are to be split, and which of them were taken.
 
-ghost use Rattle.std.specs.Prelude.{◌≡◌, not, ◌&&◌, ℕ, ◌+◌, ◌<◌, ◌≤◌, Bool, IsTrue, IfOk, List, [], ◌∷◌, ◌++◌, length, take, drop, pos, ◌+ℤ◌, ◌-ℤ◌, nat_abs};
+ghost use Rattle.std.specs.Prelude.{◌≡◌, not, ◌&&◌, ◌+◌, ◌<◌, ◌≤◌, IsTrue, IfOk, [], length, take, drop, nat_abs};
 ghost use Rattle.std.specs.List.{All, IsDistinct, slice_index_or};
 ghost use Rattle.std.specs.List.Sorted.{IsStrictlySortedBy, IsPermutation};
 ghost use Rattle.std.specs.HashMap.{hash_map_len, spare};
 ghost use Rattle.std.specs.Vec.{vec_capacity};
 ghost use Rattle.fol_model.specs.declared.places.SectionPos.{SectionPos};
-ghost use Rattle.fol_model.specs.Geometry.{is_section, is_within, same_section};
+ghost use Rattle.fol_model.specs.Geometry.{is_section, is_within, same_section, is_among};
 ghost use Rattle.fol_model.specs.Universe.{section_cmp};
-ghost use Rattle.fol_split.specs.Parts.{is_among};
 ghost use Rattle.fol_split.specs.Pool.{Takes, TakesClass, IsApart, SortsFrom, IsLoaded, is_left, is_in_row, is_free};
 
-use fol_model::SectionPos;
+use fol_model::{MOST_SECTIONS, SectionPos, beside, corner};
 use std::alloc::{AllocError, Global};
 use std::collections::HashMap;
 use std::marker::Model;
-
-/// The most sections that are split at once.
-pub const MOST: usize = 16_384;
 
 /// Sections in order by `(z, x)`, which of them are free, and those that were taken, in the order in which they were.
 #[derive(Drop)]
@@ -44,14 +40,14 @@ impl Model for Pool {
 }
 
 impl Pool {
-    /// A pool of no sections, with the memory for [`MOST`].
+    /// A pool of no sections, with the memory for 16,384.
     pub fn new(alloc: Global) -> Result<Pool, AllocError>
         ensures { IfOk result (λ p. p ≡ record { order = []; found = [] }) }
     {
         Ok(Pool {
-            order: Vec::with_capacity(alloc, MOST)?,
-            free: HashMap::with_capacity(alloc, MOST)?,
-            found: Vec::with_capacity(alloc, MOST)?,
+            order: Vec::with_capacity(alloc, MOST_SECTIONS)?,
+            free: HashMap::with_capacity(alloc, MOST_SECTIONS)?,
+            found: Vec::with_capacity(alloc, MOST_SECTIONS)?,
         })
     }
 
@@ -75,7 +71,7 @@ impl Pool {
         ensures value { result ≡ length self.now.found }
         ensures bound { result ≤ length self.now.order }
         ensures distinct { IsDistinct same_section self.now.found }
-        ensures few { length self.now.order ≤ 16384 }
+        ensures few { length self.now.order ≤ MOST_SECTIONS }
         ensures within { (s : SectionPos) → IsTrue (is_among self.now.found s) → IsTrue (is_among self.now.order s) }
     {
         self.found.len()
@@ -117,7 +113,7 @@ impl Pool {
 
     /// A pool of these sections, of which none was taken.
     pub fn load(&mut self, sections: &[SectionPos])
-        requires few { length sections.now ≤ 16384 }
+        requires few { length sections.now ≤ MOST_SECTIONS }
         requires distinct { IsDistinct same_section sections.now }
         ensures { IsLoaded self.new sections.now }
     {
@@ -193,31 +189,6 @@ fn take_free(free: &mut HashMap<(i32, i32), bool>, s: SectionPos) -> bool
             was
         }
         None => false,
-    }
-}
-
-/// The section with the least coordinates of those within the merge radius of `s`.
-fn corner(s: SectionPos, merge: u8) -> SectionPos
-    requires in_range { IsTrue (is_section s) }
-    requires reach { merge ≤ 4 }
-    ensures { result ≡ record { x = s.x -ℤ pos merge; z = s.z -ℤ pos merge } }
-{
-    let reach = merge as i32;
-    SectionPos {
-        x: s.x - reach,
-        z: s.z - reach,
-    }
-}
-
-/// The section that many columns and rows behind another one.
-fn beside(first: SectionPos, columns: u32, rows: u32) -> SectionPos
-    requires near { (nat_abs first.x ≤ 1000016) × (nat_abs first.z ≤ 1000016) }
-    requires few { (columns ≤ 9) × (rows ≤ 9) }
-    ensures { result ≡ record { x = first.x +ℤ pos columns; z = first.z +ℤ pos rows } }
-{
-    SectionPos {
-        x: first.x + columns as i32,
-        z: first.z + rows as i32,
     }
 }
 

@@ -10,9 +10,9 @@ ghost use Rattle.fol_split.specs.Parts.{ArePartsOf};
 ghost use Rattle.fol_split.specs.Pool.{is_left};
 ghost use Rattle.fol_split.specs.Spans.{IsSplit};
 
-use crate::pool::{MOST, Pool};
+use crate::pool::Pool;
 use crate::spans::Span;
-use fol_model::SectionPos;
+use fol_model::{MOST_SECTIONS, SectionPos};
 use std::alloc::{AllocError, Global};
 use std::marker::Model;
 
@@ -27,6 +27,7 @@ pub struct Splitter {
 }
 
 impl Model for Splitter {
+    ghost use Rattle.fol_model.specs.declared.places.TheConstants.{MOST_SECTIONS};
     ghost use Rattle.std.specs.Prelude.{List, ◌≤◌, length};
     ghost use Rattle.std.specs.List.{All};
     ghost use Rattle.std.specs.Vec.{vec_capacity};
@@ -37,7 +38,7 @@ impl Model for Splitter {
 
     ghost view = { λ s. pieces_of s.pool.found s.spans.items };
 
-    ghost invariant = { λ s. All (IsSpan (length s.pool.found)) s.spans.items × (length s.spans.items ≤ 16384) × (16384 ≤ vec_capacity s.spans) };
+    ghost invariant = { λ s. All (IsSpan (length s.pool.found)) s.spans.items × (length s.spans.items ≤ MOST_SECTIONS) × (MOST_SECTIONS ≤ vec_capacity s.spans) };
 }
 
 impl Splitter {
@@ -47,7 +48,7 @@ impl Splitter {
     {
         Ok(Splitter {
             pool: Pool::new(alloc)?,
-            spans: Vec::with_capacity(alloc, MOST)?,
+            spans: Vec::with_capacity(alloc, MOST_SECTIONS)?,
         })
     }
 
@@ -56,7 +57,7 @@ impl Splitter {
     /// Two sections are in one part exactly where a list of the sections leads from one to the other, each at most `merge` away
     /// from the next. Each part is in order by `(z, x)`, and the parts are in order of their least sections. Takes no memory.
     pub fn parts(&mut self, sections: &[SectionPos], merge: u8)
-        requires few { length sections.now ≤ 16384 }
+        requires few { length sections.now ≤ MOST_SECTIONS }
         requires distinct { IsDistinct same_section sections.now }
         requires in_range { All (λ s. IsTrue (is_section s)) sections.now }
         requires reach_low { 1 ≤ merge }
@@ -91,13 +92,13 @@ fn split(pool: &mut Pool, spans: &mut Vec<Span>, merge: u8)
     requires no_part { spans.old.items ≡ [] }
     requires in_order { IsStrictlySortedBy section_cmp pool.old.order }
     requires in_range { All (λ s. IsTrue (is_section s)) pool.old.order }
-    requires room { 16384 ≤ vec_capacity spans.old }
-    requires few { length pool.old.order ≤ 16384 }
+    requires room { MOST_SECTIONS ≤ vec_capacity spans.old }
+    requires few { length pool.old.order ≤ MOST_SECTIONS }
     requires reach_high { merge ≤ 4 }
     ensures split { IsSplit pool.new spans.new.items merge (length pool.old.order) }
     ensures order { pool.new.order ≡ pool.old.order }
-    ensures few { length spans.new.items ≤ 16384 }
-    ensures room { 16384 ≤ vec_capacity spans.new }
+    ensures few { length spans.new.items ≤ MOST_SECTIONS }
+    ensures room { MOST_SECTIONS ≤ vec_capacity spans.new }
 {
     for i in 0..pool.len() {
         if pool.is_left(pool.section(i)) {
@@ -113,13 +114,13 @@ fn take_part(pool: &mut Pool, spans: &mut Vec<Span>, merge: u8, i: usize)
     requires left { IsTrue (is_left pool.old (slice_index_or pool.old.order i (record { x = pos 0; z = pos 0 }))) }
     requires in_order { IsStrictlySortedBy section_cmp pool.old.order }
     requires in_range { All (λ s. IsTrue (is_section s)) pool.old.order }
-    requires room { 16384 ≤ vec_capacity spans.old }
-    requires few { length pool.old.order ≤ 16384 }
+    requires room { MOST_SECTIONS ≤ vec_capacity spans.old }
+    requires few { length pool.old.order ≤ MOST_SECTIONS }
     requires reach_high { merge ≤ 4 }
     ensures after { IsSplit pool.new spans.new.items merge (i + 1) }
     ensures order { pool.new.order ≡ pool.old.order }
-    ensures few { length spans.new.items ≤ 16384 }
-    ensures room { 16384 ≤ vec_capacity spans.new }
+    ensures few { length spans.new.items ≤ MOST_SECTIONS }
+    ensures room { MOST_SECTIONS ≤ vec_capacity spans.new }
 {
     let from = pool.taken();
     pool.take_class(pool.section(i), merge);

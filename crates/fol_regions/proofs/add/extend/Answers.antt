@@ -2,13 +2,12 @@ use Rattle.std.proofs.Common.{◌+◌, sym, ◌∙◌, ap, subst}
 use Rattle.std.specs.Prelude.{filter}
 use Rattle.std.specs.Ordering.{nat_cmp}
 use Rattle.std.proofs.lemmas.List.Kept.{IsStrictlySortedBy-filter}
-use Rattle.fol_model.specs.Geometry.{section_of}
+use Rattle.fol_model.specs.Geometry.{section_of, is_among}
 use Rattle.fol_model.specs.Universe.{all_sections, numbers_below}
 use Rattle.fol_laws.proofs.NumberOrder.{numbers_sorted}
 use Rattle.fol_regions.specs.Added.{Waits}
 use Rattle.fol_regions.specs.Book.{owner_of}
 use Rattle.fol_regions.specs.Near.{is_close}
-use Rattle.fol_regions.specs.Rows.{is_among}
 use Rattle.fol_regions.proofs.AddedGrid as added
 use Rattle.fol_regions.proofs.Chosen.{filter_like}
 use Rattle.fol_regions.proofs.add.extend.Goals as goal

@@ -1,7 +1,7 @@
 use Rattle.std.proofs.Common.{refl, ◌∙◌, arith, rules, []}
 use Rattle.std.specs.Prelude.{pos}
 use Rattle.std.proofs.lemmas.List.Sorted.{answers_always, IsPermutation-refl}
-use Rattle.fol_laws.specs.ChunkOrder.{chunk_cmp}
+use Rattle.fol_model.specs.Universe.{chunk_cmp}
 use Rattle.fol_model.specs.declared.places.ChunkPos.{ChunkPos}
 use Rattle.fol_model.specs.declared.places.SectionPos.{SectionPos}
 use Rattle.fol_regions.proofs.ChunkCounts.{fresh_section, listed_all, listed_fits, listed_more, listed_none}

@@ -3,7 +3,7 @@ use Rattle.std.specs.Prelude.{pos}
 use Rattle.std.proofs.lemmas.Grind.{common_steps}
 use Rattle.fol_model.specs.declared.places.SectionPos.{SectionPos}
 use Rattle.fol_regions.specs.Owners.{owner_in}
-use Rattle.fol_regions.specs.Rows.{is_among}
+use Rattle.fol_model.specs.Geometry.{is_among}
 use Rattle.fol_regions.proofs.Among.{set_more}
 use Rattle.fol_regions.proofs.owners.take_all_out.Goals as goal
 

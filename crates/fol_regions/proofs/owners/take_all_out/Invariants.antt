@@ -2,7 +2,7 @@ use Rattle.std.proofs.Common.{◌≡◌, ◌≤◌, cond, take}
 use Rattle.std.specs.HashMap.{spare}
 use Rattle.fol_model.specs.declared.places.SectionPos.{SectionPos}
 use Rattle.fol_regions.specs.Owners.{owner_in}
-use Rattle.fol_regions.specs.Rows.{is_among}
+use Rattle.fol_model.specs.Geometry.{is_among}
 use Rattle.fol_regions.proofs.owners.take_all_out.Given as goal
 
 abbrev pub invariant-loop-s : goal.invariant-loop-s

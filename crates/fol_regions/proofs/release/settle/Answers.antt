@@ -2,7 +2,7 @@ use Rattle.std.proofs.Common.{ap, arith, not, length}
 use Rattle.std.specs.Prelude.{Bool}
 use Rattle.fol_model.specs.declared.places.SectionPos.{SectionPos}
 use Rattle.fol_regions.specs.Changes.{Changes}
-use Rattle.fol_regions.specs.Rows.{is_among}
+use Rattle.fol_model.specs.Geometry.{is_among}
 use Rattle.fol_regions.proofs.SettleSteps.{living_few, living_distinct, living_within, living_some, parts_few, parts_rows, mid_few}
 use Rattle.fol_regions.proofs.release.settle.Goals as goal
 

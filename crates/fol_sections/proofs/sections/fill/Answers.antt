@@ -3,7 +3,7 @@ use Rattle.std.specs.Prelude.{pos, Some}
 use Rattle.std.proofs.lemmas.Grind.{common_steps}
 use Rattle.fol_model.specs.declared.places.SectionPos.{SectionPos}
 use Rattle.fol_sections.specs.Pages.{InNine, counts_at, no_counts}
-use Rattle.fol_sections.specs.Table.{is_among}
+use Rattle.fol_model.specs.Geometry.{is_among}
 use Rattle.fol_sections.proofs.NinePages.{nine_few, room_left, some_absent}
 use Rattle.fol_sections.proofs.NumberSteps.{has_more, among_at}
 use Rattle.fol_sections.proofs.sections.fill.Goals as goal

@@ -6,7 +6,7 @@ use Rattle.std.proofs.lemmas.Grind.{common_steps}
 use mir.Val.{SFits}
 use mir.Syntax.{w32}
 use Rattle.fol_model.specs.declared.places.SectionPos.{SectionPos}
-use Rattle.fol_split.specs.Parts.{is_among}
+use Rattle.fol_model.specs.Geometry.{is_among}
 use Rattle.fol_split.specs.Pool.{entry_of}
 use Rattle.fol_split.proofs.Results.{ok_value}
 use Rattle.fol_split.proofs.Steps.{fresh, has_more, free_if_first}

@@ -1,7 +1,8 @@
 use Rattle.std.proofs.Common.{◌∙◌, ap, arith}
 use Rattle.std.specs.HashMap.{spare}
 use Rattle.fol_lists.specs.Numbered.{list_at, with_list}
-use Rattle.fol_regions.specs.Rows.{is_among, united}
+use Rattle.fol_regions.specs.Rows.{united}
+use Rattle.fol_model.specs.Geometry.{is_among}
 use Rattle.fol_regions.specs.Book.{Book, owner_of, rows_of}
 use Rattle.fol_regions.proofs.BookFacts.{live_slot}
 use Rattle.fol_regions.proofs.Chosen.{row_chosen}

@@ -2,7 +2,7 @@ use Rattle.std.proofs.Common.{refl, not}
 use Rattle.std.specs.HashMap.{spare}
 use Rattle.fol_model.specs.declared.places.SectionPos.{SectionPos}
 use Rattle.fol_regions.specs.Book.{Book, owner_of}
-use Rattle.fol_regions.specs.Rows.{is_among}
+use Rattle.fol_model.specs.Geometry.{is_among}
 use Rattle.fol_regions.proofs.PartedBooks.{slot_listed, kept_room, kept_book, kept_is}
 use Rattle.fol_regions.proofs.tables.Tables.keep.Goals as goal
 

@@ -8,7 +8,8 @@ use Rattle.fol_model.specs.declared.regions.State.{State}
 use Rattle.fol_model.specs.declared.regions.State.TheVariants.{Dead}
 use Rattle.fol_model.specs.GridState.{with_state}
 use Rattle.fol_regions.specs.Owners.{owner_in}
-use Rattle.fol_regions.specs.Rows.{is_among, united}
+use Rattle.fol_regions.specs.Rows.{united}
+use Rattle.fol_model.specs.Geometry.{is_among}
 use Rattle.fol_regions.specs.Book.{Book, owner_of, state_of, rows_of, waits_of}
 use Rattle.fol_regions.proofs.BookFacts.{live_slot}
 use Rattle.fol_regions.proofs.Chosen.{row_chosen}

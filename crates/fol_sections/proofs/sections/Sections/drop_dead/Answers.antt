@@ -7,13 +7,13 @@ use Rattle.std.proofs.lemmas.Bool.{eq-eqb, ne_eqb}
 use Rattle.std.proofs.lemmas.Grind.{common_steps}
 use Rattle.std.proofs.lemmas.List.Folds.{list_any_more}
 use Rattle.fol_model.specs.declared.places.SectionPos.{SectionPos}
-use Rattle.fol_model.specs.Geometry.{same_section}
+use Rattle.fol_model.specs.Geometry.{same_section, is_among}
 use Rattle.fol_laws.proofs.AllSections.{count_sections-is}
 use Rattle.fol_laws.proofs.SamePlaces.{same_section-true}
 use Rattle.fol_sections.specs.Pages.{is_here}
 use Rattle.fol_sections.specs.Places.{count_at}
 use Rattle.fol_sections.specs.declared.pages.Page.{Page}
-use Rattle.fol_sections.specs.Table.{in_margin_of, is_among}
+use Rattle.fol_sections.specs.Table.{in_margin_of}
 use Rattle.fol_sections.proofs.DeadSteps.{is_lonely, kept_out, here-out, near-out, lonely-is, step_yes, step_no, filter-like}
 use Rattle.fol_sections.proofs.NumberSteps.{all_among, fresh}
 use Rattle.fol_sections.proofs.Tables.{table, table-holds, table-presence}

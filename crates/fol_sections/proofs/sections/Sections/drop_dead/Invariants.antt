@@ -2,7 +2,7 @@ use Rattle.std.proofs.Common.{◌≡◌, ◌≤◌, not, ◌&&◌, take}
 use Rattle.std.specs.HashMap.{spare as room_of}
 use Rattle.fol_model.specs.declared.places.SectionPos.{SectionPos}
 use Rattle.fol_sections.specs.Pages.{is_here, near_at}
-use Rattle.fol_sections.specs.Table.{is_among}
+use Rattle.fol_model.specs.Geometry.{is_among}
 use Rattle.fol_sections.specs.Kept.{IsKept}
 use Rattle.fol_sections.proofs.DeadSteps.{is_lonely}
 use Rattle.fol_sections.proofs.sections.Sections.drop_dead.Given as goal

@@ -1,7 +1,6 @@
 use Rattle.std.proofs.Common.{◌≡◌, true, sym, ◌∙◌, ap, arith, length, IsTrue}
 use Rattle.fol_model.specs.declared.places.SectionPos.{SectionPos}
-use Rattle.fol_model.specs.Geometry.{is_section}
-use Rattle.fol_split.specs.Parts.{is_among}
+use Rattle.fol_model.specs.Geometry.{is_section, is_among}
 use Rattle.fol_split.proofs.Search.{search_start, search_step, search_class, search_apart, all_among, among_at}
 use Rattle.fol_split.proofs.pool.Pool.take_class.Goals as goal
 

@@ -7,6 +7,9 @@ use Rattle.fol_split.proofs.pool.Pool.take_near.Goals as goal
 pub loop-row-init : goal.loop-row-init
 loop-row-init c = takes_like _ _ _ _ (takes_nothing c.args.self.now) (rows-none c.corner-first.result (2 * c.args.merge + 1))
 
+pub corner-first-requires-clause-near : goal.corner-first-requires-clause-near
+corner-first-requires-clause-near c = let n = section_near c.args.s c.requires.in_range in (omega (arith, n.0), omega (arith, n.1))
+
 pub take_row-requires-clause-near : goal.take_row-requires-clause-near
 take_row-requires-clause-near c =
     let n = section_near c.args.s c.requires.in_range in

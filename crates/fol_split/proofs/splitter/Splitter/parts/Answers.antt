@@ -1,7 +1,6 @@
 use Rattle.std.proofs.Common.{◌∙◌, sym, ap, arith, length, IsTrue, get_or}
 use Rattle.fol_model.specs.declared.places.SectionPos.{SectionPos}
-use Rattle.fol_model.specs.Geometry.{is_section}
-use Rattle.fol_split.specs.Parts.{is_among}
+use Rattle.fol_model.specs.Geometry.{is_section, is_among}
 use Rattle.fol_split.proofs.Search.{all_among, among_at}
 use Rattle.fol_split.proofs.Parting.{parts_are}
 use Rattle.fol_split.proofs.splitter.Splitter.parts.Goals as goal

@@ -3,7 +3,7 @@ use Rattle.std.specs.Prelude.{pos, ◌-ℤ◌}
 use mir.Val.{to_z, of_z}
 use mir.Syntax.{w32}
 use borrow.Author.Differences.{ints}
-use Rattle.fol_sections.proofs.squares.corner.Goals as goal
+use Rattle.fol_model.proofs.places.corner.Goals as goal
 
 pub overflow_sub-result : goal.overflow_sub-result
 overflow_sub-result c = let n = c.requires.near in omega (arith, ints, n.0)
