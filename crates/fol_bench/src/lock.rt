@@ -36,6 +36,7 @@ impl Kept for Count {
     ghost by = { λ e. e };
 }
 
+/// Prints how many turns a second a lock and a mutex serve, to one, two and four threads.
 pub fn run<R: Threads + Wait + Sync + Clock + Print>(rt: &R, alloc: Global) -> io::Result<()> {
     compare(rt, alloc, 1)?;
     compare(rt, alloc, 2)?;

@@ -1,3 +1,5 @@
+//! Rates.
+
 use std::time::Duration;
 
 /// How many a second, rounded down; 0 where no time was measured.

@@ -28,6 +28,7 @@ const STEPS: i32 = 50_000;
 /// More holds of a chunk, and more ids of regions, than this benchmark can make.
 const MANY: u64 = 1_000_000_000_000;
 
+/// Prints how many events a second a table of regions takes, by how many sections it has elsewhere.
 pub fn run<R: Clock + Print>(rt: &R, alloc: Global) -> io::Result<()> {
     measure(rt, alloc, 0)?;
     measure(rt, alloc, 99)?;

@@ -11,6 +11,7 @@ use std::time::Instant;
 /// So many ticks are reported.
 const TICKS: u64 = 1_000_000;
 
+/// Prints how many bytes a second each form of a report is made at.
 pub fn run<R: Clock + Print>(rt: &R, alloc: Global) -> io::Result<()> {
     let closing = quiet_ticks(alloc, TICKS)?;
     let start = Instant::now(rt)?;

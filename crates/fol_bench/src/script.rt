@@ -13,6 +13,7 @@ const POSTS: u32 = 450_000;
 /// So many lines `block` are read.
 const BLOCKS: u32 = 500_000;
 
+/// Prints how many bytes a second are read and printed.
 pub fn run<R: Clock + Print>(rt: &R, alloc: Global) -> io::Result<()> {
     run_script(rt, alloc)?;
     run_world(rt, alloc)

@@ -1,3 +1,5 @@
+//! The texts of one cluster, and what a second one adds.
+
 use crate::make;
 use std::test::Fail;
 

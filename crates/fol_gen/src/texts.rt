@@ -9,7 +9,9 @@ use std::alloc::{AllocError, Global};
 /// A world text and a script text.
 #[derive(Drop)]
 pub struct Made {
+    /// The world text.
     pub world: Vec<u8>,
+    /// The script text.
     pub script: Vec<u8>,
 }
 

@@ -1,4 +1,4 @@
-//! The summary of a made session.
+//! The summary of a made game.
 
 ghost use Rattle.std.specs.Prelude.{◌≡◌, [], ◌∷◌, ◌++◌, sum_by, IfOk, string_bytes};
 ghost use Rattle.fol_model.specs.Summary.{summary_text};
@@ -73,7 +73,7 @@ fn put_count<I: Integer>(out: &mut String, word: &str, count: I) -> Result<(), A
     Ok(())
 }
 
-/// The summary of the closing of a session made of `n` clusters.
+/// The summary of the closing of a game made of `n` clusters.
 pub fn summary(alloc: Global, n: u32, closing: &Closing) -> Result<Vec<u8>, AllocError>
     ensures { IfOk result (λ text. text.items ≡ summary_text n closing.now) }
 {

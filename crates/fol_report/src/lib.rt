@@ -1,7 +1,7 @@
-//! The output of a run: the report of a closing, as text and as JSON, and the summary of a made session.
+//! The output of a run: the report of a closing, as text and as JSON, and the summary of a made game.
 //!
 //! A report is made of lines, a line of words. What the words of each event and row are is said in `fol_model`, and so are the
-//! three whole texts; each function here gives exactly that text, or answers want of memory. `lines` has what all lines share,
+//! three whole texts; each function here gives exactly that text, or is out of memory. `lines` has what all lines share,
 //! `events`, `actions`, `answers` and `rows` spell one line each, `text` and `json_form` put the lines together, and `counts` makes the summary.
 //!
 //! A text is built in one buffer that the lines are pushed into, so its cost is linear in its length. This crate serves the top

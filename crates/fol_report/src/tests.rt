@@ -1,3 +1,5 @@
+//! Reports and summaries of small histories, letter by letter.
+
 use crate::{report, report_json, summary};
 use fol_model::{
     Accept, Action, BlockAt, BlockPos, ChunkPos, Closing, Entity, EntityRow, Entry, Event, Grid,
@@ -408,7 +410,7 @@ fn every_kind_of_line_in_json(rt: HostRuntime) -> Result<(), Fail> {
     Ok(())
 }
 
-/// The events of a made session of one cluster, in short: 3 loads, 4 posts, and 8 ticks in which 4 tasks ran. A load and a post
+/// The events of a made game of one cluster, in short: 3 loads, 4 posts, and 8 ticks in which 4 tasks ran. A load and a post
 /// that were refused don't count.
 fn made_events(alloc: Global) -> Result<Vec<Event>, AllocError> {
     let mut events = Vec::new(alloc);
@@ -437,7 +439,7 @@ fn made_events(alloc: Global) -> Result<Vec<Event>, AllocError> {
 }
 
 /// These events, 2 regions with 18 sections, and 4 blocks whose numbers are 1 to 4.
-fn made_session(alloc: Global) -> Result<Closing, AllocError> {
+fn made_game(alloc: Global) -> Result<Closing, AllocError> {
     let mut closing = closing_of(alloc, made_events(alloc)?)?;
     for _ in 0u32..2 {
         closing.regions.push(RegionRow {
@@ -460,8 +462,8 @@ fn made_session(alloc: Global) -> Result<Closing, AllocError> {
 }
 
 #[test]
-fn sums_up_a_made_session(rt: HostRuntime) -> Result<(), Fail> {
-    let closing = made_session(rt.alloc())?;
+fn sums_up_a_made_game(rt: HostRuntime) -> Result<(), Fail> {
+    let closing = made_game(rt.alloc())?;
     let text = summary(rt.alloc(), 1, &closing)?;
     let wanted =
         "made 1\nloads 3\nposts 4\nticks 8\nran 4\nregions 2\nsections 18\nblocks 4\nsum 10\nend\n";
