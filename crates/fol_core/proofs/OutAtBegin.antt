@@ -81,7 +81,9 @@ module _ (o : Opening) (w v : World) (tick : Tick) (good : Good o w) (same : Sam
   same_flat = same.flat
 
   pub flat_later : within (is_recorded tick.chunks) w.flat ≡ within (is_recorded tick.chunks) v.flat
-  flat_later = rw listed (within_same ((begun w tick.worker tick.region).recorded tick.region) w.flat v.flat same_flat)
+  flat_later = ap (λ (p : Recorded). within p w.flat) listed
+      ∙ within_same ((begun w tick.worker tick.region).recorded tick.region) w.flat v.flat same_flat
+      ∙ ap (λ (p : Recorded). within p v.flat) (sym listed)
 
 module _ (o : Opening) (ok : IsGrid o.grid) (h : List Entry) (run : Run o h) (room : Option ℕ) (tick : Tick) (out : IsOut (record { opening = o; history = h; room = room }) tick) where
   abbrev e : Entry
