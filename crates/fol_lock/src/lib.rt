@@ -10,7 +10,7 @@
 //!
 //! So what each seat knows of the log holds of the one log at the end. Nothing is promised of when a turn comes. The
 //! lock stands over `atomic_table`: two words and a slot under one rule (`rule.rt`), which every step keeps. It serves
-//! `fol_nest`, which puts one shared world behind one lock.
+//! `fol_live`, which puts one shared world behind one lock.
 #![tactic(auto)]
 
 mod kept;
