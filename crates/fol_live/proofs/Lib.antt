@@ -1,0 +1,12 @@
+pub mod Taken
+pub mod Grown
+pub mod Bare
+pub mod Called
+pub mod StillOpen
+pub mod StillOut
+pub mod Owing
+pub mod Busies
+pub mod Hosted
+pub mod Dealing
+pub mod OneTurn
+pub mod Held

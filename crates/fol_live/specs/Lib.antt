@@ -1,0 +1,11 @@
+pub mod Kept
+pub mod Seat
+pub mod Turned
+pub mod Calls
+pub mod Lives
+pub mod Results
+pub mod Goes
+pub mod Busy
+pub mod Seats
+pub mod OneTurn
+pub mod Held

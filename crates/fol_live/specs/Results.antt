@@ -1,0 +1,30 @@
+-- What each call answers in a world, and what it records, where the core has no word for it.
+use Rattle.std.specs.Prelude.{ℕ, ◌≡◌, ◌+◌, ◌<◌, true, false, ◌||◌, nat_eq, nat_lt, if◌then◌else◌, length}
+use Rattle.fol_model.specs.declared.events.Event.TheVariants as events
+use Rattle.fol_model.specs.World.{World}
+use Rattle.fol_core.specs.Meaning.{Meaning, Records, Stays, world_of}
+use Rattle.fol_core.specs.Answers.{is_over, is_owing}
+use Rattle.fol_core.specs.Ticks.{IsTick}
+use Rattle.fol_live.specs.declared.answers.LivePhase.{LivePhase}
+use Rattle.fol_live.specs.declared.answers.LivePhase.TheVariants as phases
+use Rattle.fol_live.specs.declared.answers.LiveBegin.{LiveBegin}
+use Rattle.fol_live.specs.declared.answers.LiveBegin.TheVariants as begins
+
+-- any number of ticks may be asked for
+abbrev pub live_phase_result : World → ℕ → LivePhase
+live_phase_result w n =
+    if is_over w then phases.Over
+    else (if w.in_phase then phases.InPhase else (if (nat_eq n 0 || nat_lt 10000 (w.sum + n)) then phases.TooMany w.sum else phases.Opened))
+
+-- only Opened is recorded
+abbrev pub LivePhaseRecords : Meaning → Meaning → ℕ → ℕ → LivePhase → Type 0
+LivePhaseRecords old new by n phases.Opened = Records old new by (events.PhaseOpen n)
+LivePhaseRecords old new by n answer = Stays old new
+
+-- the Begin of a Ready region that owes a tick was recorded, and this is its tick; or no region owes one
+abbrev pub LiveBegins : Meaning → Meaning → ℕ → LiveBegin → Type 0
+LiveBegins old new by (begins.Got tick) =
+    (is_over (world_of old) ≡ false) × (is_owing (world_of old) tick.region ≡ true) × IsTick (world_of old) (length old.history) by tick.region tick
+    × Records old new by (events.Begin by tick.region)
+LiveBegins old new by begins.Idle = (is_over (world_of old) ≡ false) × ((r : ℕ) → 0 < r → r < (world_of old).grid.next → is_owing (world_of old) r ≡ false) × Stays old new
+LiveBegins old new by begins.Over = (is_over (world_of old) ≡ true) × Stays old new

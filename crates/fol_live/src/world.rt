@@ -1,0 +1,248 @@
+//! The state behind the lock.
+
+ghost use Rattle.std.specs.Prelude.{◌≡◌, ◌≢◌, ◌≤◌, [], length, IfOk, IfErr, OnOk, OnErr, IsTrue};
+ghost use Rattle.fol_model.specs.Geometry.{is_chunk};
+ghost use Rattle.fol_model.specs.Limits.{is_action, is_delay, may_post};
+ghost use Rattle.fol_core.specs.Answers.{CloseRecords, FinishRecords, LoadRecords, PostRecords, StopRecords, UnloadRecords, close_result, end_event, finish_result, is_over, load_result, post_result, unload_result};
+ghost use Rattle.fol_core.specs.Meaning.{Records, Stays, world_of};
+ghost use Rattle.fol_core.specs.Ticks.{IsOut, SameTick};
+ghost use Rattle.fol_live.specs.Results.{LiveBegins, LivePhaseRecords, live_phase_result};
+ghost use Rattle.fol_live.specs.Kept.{Keeps};
+
+use crate::answers::{LiveBegin, LivePhase};
+use fol_core::{BeginAnswer, Close, Core, Finish, Phase, Posting, Tick};
+use fol_lock::Kept;
+use fol_model::{Action, ChunkPos, Entry, Loaded, Opening, Unloaded};
+use std::alloc::{AllocError, Global};
+use std::marker::Model;
+
+/// How many ticks all phases may have together.
+const MOST_TICKS: u32 = 10_000;
+
+/// A core whose history is a run, in which each entry is recorded by the seat whose number it names. It is boxed, so that a turn of
+/// the lock moves a pointer.
+#[derive(Drop)]
+pub struct World {
+    core: Box<Core>,
+}
+
+impl Model for World {
+    ghost use Rattle.fol_core.specs.Meaning.{Meaning};
+    ghost use Rattle.fol_live.specs.Kept.{Keeps};
+
+    ghost Value = { Meaning };
+
+    ghost view = { λ w. w.core.value };
+
+    ghost invariant = { λ w. Keeps w.core.value.opening w.core.value.history };
+}
+
+impl Kept for World {
+    type Origin = Opening;
+
+    type Entry = Entry;
+
+    ghost origin = { λ w. w.opening };
+
+    ghost log = { λ w. w.history };
+
+    ghost by = { λ e. e.by };
+}
+
+impl World {
+    /// The world of an opening, before any event. Answers want of memory alone.
+    pub(crate) fn start(alloc: Global, opening: Opening) -> Result<World, AllocError>
+        ensures opening { IfOk result (λ w. w.opening ≡ opening) }
+        ensures empty { IfOk result (λ w. w.history ≡ []) }
+    {
+        // A proof learns where a field is read that the numbers of the grid are within their limits.
+        let _grid = opening.grid;
+        let core = Core::start(alloc, opening)?;
+        let core = Box::new(alloc, core)?;
+        Ok(World { core })
+    }
+
+    /// The length of the history.
+    pub(crate) fn front(&self) -> u64
+        ensures { result ≡ length self.now.history }
+    {
+        self.core.history().len() as u64
+    }
+
+    /// `Core::load` by the seat of this number.
+    pub(crate) fn load(&mut self, by: u32, c: ChunkPos) -> Result<Loaded, AllocError>
+        requires in_range { IsTrue (is_chunk c) }
+        ensures before { Keeps self.old.opening self.old.history }
+        ensures after { Keeps self.new.opening self.new.history }
+        ensures answer { IfOk result (λ a. a ≡ load_result (world_of self.old) c) }
+        ensures recorded { IfOk result (λ a. LoadRecords self.old self.new by c a) }
+        ensures refused { OnErr result (Stays self.old self.new) }
+    {
+        let core: &mut Core = &mut self.core;
+        let answer = core.load(by, c);
+        let _entries = core.history();
+        answer
+    }
+
+    /// `Core::unload` by the seat of this number.
+    pub(crate) fn unload(&mut self, by: u32, c: ChunkPos) -> Result<Unloaded, AllocError>
+        requires in_range { IsTrue (is_chunk c) }
+        ensures before { Keeps self.old.opening self.old.history }
+        ensures after { Keeps self.new.opening self.new.history }
+        ensures answer { IfOk result (λ a. a ≡ unload_result (world_of self.old) c) }
+        ensures recorded { IfOk result (λ a. UnloadRecords self.old self.new by c a) }
+        ensures refused { OnErr result (Stays self.old self.new) }
+    {
+        let core: &mut Core = &mut self.core;
+        let answer = core.unload(by, c);
+        let _entries = core.history();
+        answer
+    }
+
+    /// `Core::post` by the seat of this number.
+    pub(crate) fn post(
+        &mut self,
+        by: u32,
+        c: ChunkPos,
+        delay: u32,
+        action: Action,
+    ) -> Result<Posting, Action>
+        requires in_range { IsTrue (is_chunk c) }
+        requires delay { IsTrue (is_delay delay) }
+        requires action { IsTrue (is_action action) }
+        requires may_be_posted { IsTrue (may_post action) }
+        ensures before { Keeps self.old.opening self.old.history }
+        ensures after { Keeps self.new.opening self.new.history }
+        ensures answer { IfOk result (λ a. a ≡ post_result (world_of self.old) c action) }
+        ensures recorded { IfOk result (λ a. PostRecords self.old self.new by c delay action a) }
+        ensures back { IfErr result (λ a. a ≡ action) }
+        ensures refused { OnErr result (Stays self.old self.new) }
+    {
+        let core: &mut Core = &mut self.core;
+        let answer = core.post(by, c, delay, action);
+        let _entries = core.history();
+        answer
+    }
+
+    /// Opens a phase of any number of ticks.
+    pub(crate) fn open_phase(&mut self, by: u32, n: u32) -> Result<LivePhase, AllocError>
+        ensures before { Keeps self.old.opening self.old.history }
+        ensures after { Keeps self.new.opening self.new.history }
+        ensures answer { IfOk result (λ a. a ≡ live_phase_result (world_of self.old) n) }
+        ensures recorded { IfOk result (λ a. LivePhaseRecords self.old self.new by n a) }
+        ensures refused { OnErr result (Stays self.old self.new) }
+    {
+        let core: &mut Core = &mut self.core;
+        let _entries = core.history();
+        if core.is_over() {
+            return Ok(LivePhase::Over);
+        }
+        if core.in_phase() {
+            return Ok(LivePhase::InPhase);
+        }
+        let so_far = core.phase_ticks();
+        if n == 0 || n > MOST_TICKS || so_far > MOST_TICKS - n {
+            return Ok(LivePhase::TooMany(so_far));
+        }
+        match core.open_phase(by, n)? {
+            Phase::Opened => {
+                let _entries = core.history();
+                Ok(LivePhase::Opened)
+            }
+            Phase::InPhase => unreachable!(),
+            Phase::Over => unreachable!(),
+        }
+    }
+
+    /// `Core::close_phase` by the seat of this number.
+    pub(crate) fn close_phase(&mut self, by: u32) -> Result<Close, AllocError>
+        ensures before { Keeps self.old.opening self.old.history }
+        ensures after { Keeps self.new.opening self.new.history }
+        ensures answer { IfOk result (λ a. a ≡ close_result (world_of self.old)) }
+        ensures recorded { IfOk result (λ a. CloseRecords self.old self.new by a) }
+        ensures refused { OnErr result (Stays self.old self.new) }
+    {
+        let core: &mut Core = &mut self.core;
+        let answer = core.close_phase(by);
+        let _entries = core.history();
+        answer
+    }
+
+    /// `Core::finish` by the seat of this number.
+    pub(crate) fn finish(&mut self, by: u32) -> Result<Finish, AllocError>
+        ensures before { Keeps self.old.opening self.old.history }
+        ensures after { Keeps self.new.opening self.new.history }
+        ensures answer { IfOk result (λ a. a ≡ finish_result (world_of self.old)) }
+        ensures recorded { IfOk result (λ a. FinishRecords self.old self.new by a) }
+        ensures refused { OnErr result (Stays self.old self.new) }
+    {
+        let core: &mut Core = &mut self.core;
+        let answer = core.finish(by);
+        let _entries = core.history();
+        answer
+    }
+
+    /// `Core::stop` by the seat of this number.
+    pub(crate) fn stop(&mut self, by: u32)
+        ensures before { Keeps self.old.opening self.old.history }
+        ensures after { Keeps self.new.opening self.new.history }
+        ensures recorded { StopRecords self.old self.new by (is_over (world_of self.old)) }
+    {
+        let core: &mut Core = &mut self.core;
+        core.stop(by);
+        let _entries = core.history();
+    }
+
+    /// Begins a tick of a Ready region that owes one, by the worker of this number; which one is free.
+    pub(crate) fn begin(&mut self, alloc: Global, by: u32) -> Result<LiveBegin, AllocError>
+        requires worker { by ≢ 0 }
+        ensures before { Keeps self.old.opening self.old.history }
+        ensures after { Keeps self.new.opening self.new.history }
+        ensures recorded { IfOk result (λ a. LiveBegins self.old self.new by a) }
+        ensures refused { OnErr result (Stays self.old self.new) }
+    {
+        let core: &mut Core = &mut self.core;
+        let _entries = core.history();
+        if core.is_over() {
+            return Ok(LiveBegin::Over);
+        }
+        let Some(region) = core.next_owing() else {
+            return Ok(LiveBegin::Idle);
+        };
+        core.reserve(alloc, region)?;
+        match core.begin(by, by, region) {
+            BeginAnswer::Got(tick) => {
+                let _entries = core.history();
+                Ok(LiveBegin::Got(tick))
+            }
+            BeginAnswer::NotReady(_) => unreachable!(),
+            BeginAnswer::NotOwing => unreachable!(),
+            BeginAnswer::Over => unreachable!(),
+        }
+    }
+
+    /// `Core::release` of a tick that is out in a world that keeps what every world keeps.
+    pub(crate) fn release(&mut self, alloc: Global, tick: Tick) -> Result<u64, Tick>
+        requires out { Keeps self.old.opening self.old.history → IsOut self.old tick }
+        ensures before { Keeps self.old.opening self.old.history }
+        ensures after { Keeps self.new.opening self.new.history }
+        ensures length { IfOk result (λ n. n ≡ length self.new.history) }
+        ensures recorded { OnOk result (Records self.old self.new tick.worker (end_event (world_of self.old) tick.worker tick.region tick.log.ran)) }
+        ensures back { IfErr result (λ t. SameTick tick t) }
+        ensures refused { OnErr result (Stays self.old self.new) }
+    {
+        let core: &mut Core = &mut self.core;
+        let answer = core.release(alloc, tick);
+        let _entries = core.history();
+        answer
+    }
+
+    /// The core itself.
+    pub(crate) fn into_core(self) -> Core
+        ensures same { result ≡ self }
+        ensures keeps { Keeps self.opening self.history }
+    {
+        let World { core } = self;
+        Box::into_inner(core)
+    }
+}
