@@ -57,3 +57,4 @@ pub mod RowsInOrder
 pub mod OwnerRows
 pub mod EntityRows
 pub mod ClosingRows
+pub mod Crossing
