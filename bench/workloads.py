@@ -96,6 +96,60 @@ def table(size):
         yield from run(1)
 
 
+def crowds(size):
+    """SIZE entities in each of 64 regions of 16 chunks in a row walk for 400 ticks."""
+    corners = [(24 * (region % 8), 8 * (region // 8)) for region in range(64)]
+    yield from grid(0, 1, 1, 2, 1, 6)
+    for region, (left, top) in enumerate(corners):
+        for number in range(size):
+            x, z = 16 * left + 37 * number % 256, 16 * top + 7 * number % 16
+            yield f"entity {size * region + number + 1} {x} {number % 256} {z} {number % 7 - 3} {number % 2}"
+    yield from script()
+    for left, top in corners:
+        yield from square(left, top, 16, 1)
+    yield from run(400)
+
+
+def chains(size):
+    """SIZE tasks in 256 regions repeat 20 times each: they set blocks, post to another region, send entities there, and load a chunk."""
+    corners = [(8 * (region % 16), 8 * (region // 16)) for region in range(256)]
+    yield from grid(0, 1, 1, 2, 1, 6, version=2)
+    for number, (x, z) in enumerate(corners, 1):
+        yield f"entity {number} {16 * x} 64 {16 * z} 0 0"
+    yield from script()
+    for x, z in corners:
+        yield f"load {x} {z}"
+    for number in range(size):
+        (x, z), (far_x, far_z) = corners[number % 256], corners[(91 * number + 7) % 256]
+        action = (
+            f"set {16 * x} {number % 256} {16 * z} {number % 65_536}",
+            f"post {far_x} {far_z} {1 + number % 9} set {16 * far_x} 0 {16 * far_z} 1",
+            f"send {1 + number % 256} {16 * far_x} 64 {16 * far_z}",
+            f"load {x} {z}",
+        )[number % 4]
+        yield f"every {x} {z} {1 + number % 20} {1 + number % 10} 20 {action}"
+    yield from run(300)
+
+
+def churn(size):
+    """SIZE times, 300 pairs of regions are joined by a chunk between them and parted again, half of them while the regions tick."""
+    pairs = [(12 * (pair % 20), 8 * (pair // 20)) for pair in range(300)]
+    yield from grid(0, 1, 1, 2, 1, 6)
+    for number, (x, z) in enumerate(pairs, 1):
+        yield f"entity {number} {16 * x} 64 {16 * z} 1 0"
+        for place in range(16):
+            yield f"block {16 * x + place} 0 {16 * z} {place + 1}"
+    yield from script()
+    for x, z in pairs:
+        yield f"load {x} {z}"
+        yield f"load {x + 6} {z}"
+    for time in range(size):
+        for what in ("load", "unload"):
+            inside = [f"{what} {x + 3} {z}" for x, z in pairs[time % 2 :: 2]]
+            yield from (f"{what} {x + 3} {z}" for x, z in pairs[1 - time % 2 :: 2])
+            yield from run(2, inside)
+
+
 # Each workload with its least size.
 WORKLOADS = {
     "idle": (idle, 450),
@@ -104,12 +158,15 @@ WORKLOADS = {
     "merges": (merges, 100),
     "large": (large, 2_500),
     "table": (table, 4),
+    "crowds": (crowds, 50),
+    "chains": (chains, 2_500),
+    "churn": (churn, 25),
 }
 
 
-def grid(*numbers):
+def grid(*numbers, version=1):
     """The two first lines of a world."""
-    yield "world 1"
+    yield f"world {version}"
     yield "grid " + " ".join(str(number) for number in numbers)
 
 
@@ -125,9 +182,10 @@ def square(left, top, width, height):
             yield f"load {x} {z}"
 
 
-def run(ticks):
-    """A phase."""
+def run(ticks, inside=()):
+    """A phase, with these lines inside."""
     yield f"run {ticks}"
+    yield from inside
     yield "end"
 
 

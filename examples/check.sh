@@ -44,6 +44,10 @@ bad_line_told() {
     [ "$code" = "$expected" ] && [ ! -s "$work/out" ] && cmp "$work/err" "$1/error.txt"
 }
 
+no_command() {
+    [ "$code" = 2 ] && [ ! -s "$work/out" ] && [ "$(cat "$work/err")" = "fol: words" ]
+}
+
 same() {
     [ "$code" = 0 ] && [ ! -s "$work/err" ] && cmp "$1" "$2"
 }
@@ -77,10 +81,14 @@ compare() {
 
 # The program is built here, where it has to be. With no words it only says that they are no command, and ends with 2.
 run "$work/out"
-if [ "$code" != 2 ]; then
+if ! no_command; then
     cat "$work/err" >&2
     exit 1
 fi
+
+# a word that is no text: the words are no command, and nothing is read
+run "$work/out" run $'\xff' b 1
+is "a word that is not UTF-8" no_command
 
 # `bad` and `rules` hold folders, and `made` holds summaries
 for example in $(find examples -mindepth 1 -type d ! -path examples/bad ! -path examples/rules ! -path examples/made | sort); do

@@ -1,3 +1,4 @@
 pub mod Faults
 pub mod FirstPlace
 pub mod Received
+pub mod WholePieces

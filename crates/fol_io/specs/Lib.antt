@@ -6,3 +6,4 @@ pub mod NamedBytes
 pub mod Read
 pub mod Shelf
 pub mod Sink
+pub mod StdSink

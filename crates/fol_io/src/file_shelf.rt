@@ -24,6 +24,7 @@ pub struct FileShelf<'a, R: Files> {
     rt: &'a R,
     faults: u64,
     taken: u64,
+    reads: u64,
 }
 
 impl<'a, R: Files> Model for FileShelf<'a, R> {
@@ -31,18 +32,19 @@ impl<'a, R: Files> Model for FileShelf<'a, R> {
 
     ghost Value = { FileShelfState };
 
-    ghost view = { λ s. record { faults = s.faults; taken = s.taken } };
+    ghost view = { λ s. record { faults = s.faults; taken = s.taken; reads = s.reads } };
 }
 
 impl<'a, R: Files> FileShelf<'a, R> {
     /// The files of this runtime, none of them read so far.
     pub fn new(rt: &'a R) -> FileShelf<'a, R>
-        ensures { result ≡ record { faults = 0; taken = 0 } }
+        ensures { result ≡ record { faults = 0; taken = 0; reads = 0 } }
     {
         FileShelf {
             rt,
             faults: 0,
             taken: 0,
+            reads: 0,
         }
     }
 }
@@ -101,6 +103,8 @@ impl<'a, R: Files> Shelf for FileShelf<'a, R> {
 
     ghost taken = { λ s. s.taken };
 
+    ghost reads = { λ s. s.reads };
+
     fn read_whole(&mut self, alloc: Global, name: &str, limit: u64) -> Read
         ensures whole { IfWhole result (λ bytes. IsHeld None bytes) }
         ensures within { IfWhole result (λ bytes. length bytes ≤ limit) }
@@ -112,11 +116,13 @@ impl<'a, R: Files> Shelf for FileShelf<'a, R> {
         // A fault is counted at each answer `Failed`, and at no other.
         ensures counts { self.new.faults ≡ (if is_failed result then raised 1 self.old.faults else self.old.faults) }
         ensures took_the_whole { IfWhole result (λ bytes. self.new.taken ≡ raised (length bytes) self.old.taken) }
+        ensures numbers { self.new.reads ≡ raised 1 self.old.reads }
     {
         let Taken { read, count } = match fs::open(self.rt, name) {
             Ok(mut file) => read_to_limit(alloc, &mut file, limit),
             Err(_) => Taken::of(Read::Failed, 0),
         };
+        self.reads = self.reads.saturating_add(1);
         self.taken = self.taken.saturating_add(count);
         if read.is_failed() {
             self.faults = self.faults.saturating_add(1);

@@ -168,6 +168,8 @@ impl Shelf for MemShelf {
 
     ghost taken = { λ s. s.taken };
 
+    ghost reads = { λ s. s.reads };
+
     fn read_whole(&mut self, alloc: Global, name: &str, limit: u64) -> Read
         ensures whole { IfWhole result (λ bytes. held_under self.old name.now ≡ Some bytes) }
         ensures within { IfWhole result (λ bytes. length bytes ≤ limit) }

@@ -70,6 +70,8 @@ impl Sink for MemSink {
 
     ghost faults = { λ s. s.faults };
 
+    ghost puts = { λ s. s.puts };
+
     fn put(&mut self, bytes: &[u8]) -> Put
         ensures takes { Takes (Some self.old.bytes) (Some self.new.bytes) self.old.faults self.new.faults bytes.now result }
         ensures faults_never_fall { self.old.faults ≤ self.new.faults }
@@ -82,7 +84,8 @@ impl Sink for MemSink {
 
         // Each put of a piece that is not empty has a number, and an empty piece changes nothing.
         ensures numbers { bytes.now ≢ [] → self.new.puts ≡ raised 1 self.old.puts }
-        ensures empty_has_no_number { bytes.now ≡ [] → self.new ≡ self.old }
+        ensures empty_has_no_number { bytes.now ≡ [] → self.new.puts ≡ self.old.puts }
+        ensures empty_changes_nothing { bytes.now ≡ [] → self.new ≡ self.old }
         ensures same_room { self.new.room ≡ self.old.room }
         ensures same_failing { self.new.failing ≡ self.old.failing }
     {

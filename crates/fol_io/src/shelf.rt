@@ -1,7 +1,7 @@
 //! Where bytes are read by name.
 
 ghost use Rattle.std.specs.Prelude.{◌≡◌, ◌≤◌, ℕ, List, Option, length};
-ghost use Rattle.fol_io.specs.Counts.{Rose};
+ghost use Rattle.fol_io.specs.Counts.{raised, Rose};
 ghost use Rattle.fol_io.specs.Shelf.{IsHeld, IsTooLong};
 ghost use Rattle.fol_io.specs.Read.{IfWhole, OnFailed, OnTooLong, is_failed, byte_count};
 
@@ -55,6 +55,9 @@ pub trait Shelf {
     /// How many bytes it took from where it has them.
     ghost taken: { Self → ℕ };
 
+    /// How often it was read.
+    ghost reads: { Self → ℕ };
+
     /// Reads all the bytes held under the name, of which there may be `limit` at most.
     ///
     /// The answer is `Failed` only where the count of this name rose. Where it is `Whole` or `TooLong`, it
@@ -69,5 +72,6 @@ pub trait Shelf {
         // What it holds stays, and no count falls.
         ensures holds_the_same { (n : List ℕ) → held self.new n ≡ held self.old n }
         ensures faults_never_fall { (n : List ℕ) → faults self.old n ≤ faults self.new n }
-        ensures taken_never_falls { taken self.old ≤ taken self.new };
+        ensures taken_never_falls { taken self.old ≤ taken self.new }
+        ensures numbers { reads self.new ≡ raised 1 (reads self.old) };
 }

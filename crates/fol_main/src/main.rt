@@ -16,12 +16,8 @@ use std::{env, io};
 const NO_MEMORY: u8 = 7;
 
 fn main(rt: HostRuntime) -> io::Result<ExitCode> {
-    let arguments = match arguments(&rt) {
-        Ok(arguments) => arguments,
-        Err(error) if error.kind() == io::ErrorKind::OutOfMemory => {
-            return Ok(ExitCode::from(tell_no_memory(&rt)));
-        }
-        Err(error) => return Err(error),
+    let Ok(arguments) = arguments(&rt) else {
+        return Ok(ExitCode::from(tell_no_memory(&rt)));
     };
     let Ok(words) = words_of(rt.alloc(), &arguments) else {
         return Ok(ExitCode::from(tell_no_memory(&rt)));
@@ -41,11 +37,18 @@ fn main(rt: HostRuntime) -> io::Result<ExitCode> {
     Ok(ExitCode::from(status.code))
 }
 
-/// The command line without the program's own name.
-fn arguments(rt: &HostRuntime) -> io::Result<Vec<String>> {
+/// The command line without the program's own name; a line that is no text, since a word of it is not UTF-8, is one of no words, which is
+/// no command either.
+fn arguments(rt: &HostRuntime) -> Result<Vec<String>, AllocError> {
     let mut arguments = Vec::new(rt.alloc());
-    for argument in env::args(rt)?.skip(1) {
-        arguments.push(argument)?;
+    match env::args(rt) {
+        Ok(all) => {
+            for argument in all.skip(1) {
+                arguments.push(argument)?;
+            }
+        }
+        Err(error) if error.kind() == io::ErrorKind::OutOfMemory => return Err(AllocError),
+        Err(_) => {}
     }
     Ok(arguments)
 }

@@ -13,8 +13,8 @@ use Rattle.fol_io.specs.Shelf.{IsHeld}
 use Rattle.fol_top.specs.Came.{Came}
 use Rattle.fol_top.specs.Command.{FileNames, Request, asks_for_files, make, request_in, run}
 use Rattle.fol_top.specs.Ending.{status_of}
-use Rattle.fol_top.specs.Inputs.{Faulted, Inputs, Overlong, size_limit}
-use Rattle.fol_top.specs.Outcome.{Course, IsLong, MakesWell, Outcome, RunsWell, Tells, TellsLong, Told, Untouched, Yields}
+use Rattle.fol_top.specs.Inputs.{Faulted, Inputs, IsShort, Overlong, size_limit}
+use Rattle.fol_top.specs.Outcome.{Course, IsLong, MakesWell, Outcome, RunsWell, Tells, TellsLong, TellsLongWorld, Told, Untouched, Yields}
 use Rattle.fol_top.specs.Report.{BadScript, BadWorld, IsOutput, Written, WrittenInPart}
 use Rattle.fol_top.specs.declared.ending.Ending.{Ending}
 use Rattle.fol_top.specs.declared.ending.Ending.TheVariants as endings
@@ -59,12 +59,12 @@ module _ (v : Course) (world script : List ℕ) (told : Told v world script) whe
       let s : b.script_bytes ≡ script = e.1 in
       (b.why, b.told, rw (s, p) at b.first)
 
-  not_overlong : Overlong v.words v.held v.taken v.taken_later → ⊥
+  not_overlong : Overlong v.words v.held v.taken v.taken_later v.reads v.reads_later → ⊥
   not_overlong f =
       let e : f.names ≡ told.names = same_names v.words f.names told.names f.form told.form f.command told.command in
-      elim f.long [
-        | inl w ↦ let long : size_limit < length world = rw (e, told.world_held) at w in omega (arith, told.world_within)
-        | inr s ↦ let long : size_limit < length script = rw (e, told.script_held) at s in omega (arith, told.script_within)
+      elim f.ends [
+        | inl w ↦ let long : size_limit < length world = rw (e, told.world_held) at w.0 in omega (arith, told.world_within)
+        | inr s ↦ let long : size_limit < length script = rw (e, told.script_held) at s.1 in omega (arith, told.script_within)
       ]
 
   -- the world is that of an opening, and the script that of its commands
@@ -84,10 +84,10 @@ same_bad a b m n c d e p q = same_parts (m, c) (n, d) (sym p ∙ (e ∙ q))
 
 -- ---- where all is well
 
-not_faulted : (v : Course) → RunsWell v → Faulted v.words v.faults v.faults_later → ⊥
+not_faulted : (v : Course) → RunsWell v → Faulted v.words v.held v.faults v.faults_later v.reads v.reads_later → ⊥
 not_faulted v well f =
     let e : f.names ≡ well.told.names = same_names v.words f.names well.told.names f.form well.told.form f.command well.told.command in
-    elim f.rose [ inl w ↦ well.reads_world (rw e at w) | inr s ↦ well.reads_script (rw e at s) ]
+    elim f.ends [ inl w ↦ well.reads_world (rw e at w.0) | inr s ↦ well.reads_script (rw e at s.1) ]
 
 runs_of : (v : Course) (e : Ending) → Came v e → RunsWell v → ((status_of e).code ≡ 0) ⊎ ((status_of e).code ≡ 7)
 runs_of v endings.Written came well = inl refl
@@ -184,6 +184,30 @@ module _ (v : Course) (tells : TellsLong v) where
   tells_long_of endings.Written came = absurd (not_out came.bytes came.output)
   tells_long_of endings.WriteFault came = absurd (not_out came.0.bytes came.0.output)
 
+module _ (v : Course) (tells : TellsLongWorld v) where
+  among_the_two : TellsLong v
+  among_the_two = record { names = tells.names; form = tells.form; command = tells.command; long = inl tells.long }
+
+  not_short : IsShort (v.held tells.names.world) → ⊥
+  not_short short = held_long v among_the_two (v.held tells.names.world) short.0 tells.long short.1 short.2
+
+  -- the fault is the world's: a world that is too long was not read within the limit
+  fault_of_world : Faulted v.words v.held v.faults v.faults_later v.reads v.reads_later → Rose (v.faults tells.names.world) (v.faults_later tells.names.world)
+  fault_of_world f =
+      let e : f.names ≡ tells.names = same_names v.words f.names tells.names f.form tells.form f.command tells.command in
+      elim f.ends [ inl w ↦ rw e at w.0 | inr s ↦ absurd (not_short (rw e at s.0)) ]
+
+  tells_long_world_of : (e : Ending) → Came v e
+      → ((status_of e).code ≡ 8) ⊎ ((((status_of e).code ≡ 5) × Rose (v.faults tells.names.world) (v.faults_later tells.names.world)) ⊎ ((status_of e).code ≡ 7))
+  tells_long_world_of endings.TooLong came = inl refl
+  tells_long_world_of endings.ReadFault came = inr (inl (refl, fault_of_world came.0))
+  tells_long_world_of endings.NoMemory came = inr (inr refl)
+  tells_long_world_of endings.Words came = let never : Some (run tells.names tells.form) ≡ None = sym tells.command ∙ came.0 in absurd (cc)
+  tells_long_world_of (endings.World line cause) came = absurd (not_inputs v among_the_two came.0.world_bytes came.0.script_bytes came.0.inputs)
+  tells_long_world_of (endings.Script line cause) came = absurd (not_inputs v among_the_two came.0.world_bytes came.0.script_bytes came.0.inputs)
+  tells_long_world_of endings.Written came = absurd (not_out v among_the_two came.bytes came.output)
+  tells_long_world_of endings.WriteFault came = absurd (not_out v among_the_two came.0.bytes came.0.output)
+
 -- ---- code by code
 
 known_of : (e : Ending) → ((status_of e).code ≤ 8) × ((status_of e).code ≢ 1)
@@ -226,15 +250,15 @@ module _ (v : Course) where
   bad_script_of (endings.Script line cause) came h = came.0
   bad_script_of _ came h = absurd (omega arith)
 
-  read_fault_of : (e : Ending) → Came v e → (status_of e).code ≡ 5 → Faulted v.words v.faults v.faults_later
+  read_fault_of : (e : Ending) → Came v e → (status_of e).code ≡ 5 → Faulted v.words v.held v.faults v.faults_later v.reads v.reads_later
   read_fault_of endings.ReadFault came h = came.0
   read_fault_of _ came h = absurd (omega arith)
 
-  write_fault_of : (e : Ending) → Came v e → (status_of e).code ≡ 6 → WrittenInPart v.words v.held v.received v.received_later × Rose v.write_faults v.write_faults_later
+  write_fault_of : (e : Ending) → Came v e → (status_of e).code ≡ 6 → WrittenInPart v.words v.held v.received v.received_later v.puts v.puts_later × Rose v.write_faults v.write_faults_later
   write_fault_of endings.WriteFault came h = came
   write_fault_of _ came h = absurd (omega arith)
 
-  too_long_of : (e : Ending) → Came v e → (status_of e).code ≡ 8 → Overlong v.words v.held v.taken v.taken_later
+  too_long_of : (e : Ending) → Came v e → (status_of e).code ≡ 8 → Overlong v.words v.held v.taken v.taken_later v.reads v.reads_later
   too_long_of endings.TooLong came h = came.0
   too_long_of _ came h = absurd (omega arith)
 
@@ -271,6 +295,7 @@ outcome_of v e came untouched = record {
   tells_world = λ world script line why told bad. tells_world_of v world script told e came line why bad;
   tells_script = λ world script o line why told t bad. tells_script_of v world script told e came o line why t bad;
   tells_long = λ tells. tells_long_of v tells e came;
+  tells_long_world = λ tells. tells_long_world_of v tells e came;
   untouched = untouched;
   nothing = nothing_of v e came;
   no_line = no_line_of e;

@@ -31,8 +31,8 @@ use Rattle.fol_top.proofs.MoreWorkers.{legal_of_more}
 -- ---- what is written
 
 -- an output that may be this may be that, where each of these is one of those
-module _ (This That : List ℕ → Type 0) (each : (bytes : List ℕ) → This bytes → That bytes) (before now : Option (List ℕ)) (faults later : ℕ) where
-  pub ends_more : (e : Ending) → OutputEnds This before now faults later e → OutputEnds That before now faults later e
+module _ (This That : List ℕ → Type 0) (each : (bytes : List ℕ) → This bytes → That bytes) (before now : Option (List ℕ)) (faults later puts puts_later : ℕ) where
+  pub ends_more : (e : Ending) → OutputEnds This before now faults later puts puts_later e → OutputEnds That before now faults later puts puts_later e
   ends_more endings.Written h = (h.0, each h.0 h.1, h.2)
   ends_more endings.WriteFault h = (h.0, each h.0 h.1, h.2, h.3)
   ends_more endings.NoMemory h = h
@@ -90,19 +90,19 @@ module _ (v : Course) (world script : List ℕ) (inputs : Inputs v.words v.held 
 
 module _ (v : Course) (request : Request) (command : request_in v.words ≡ Some request) where
   output_came : (This : List ℕ → Type 0) → ((bytes : List ℕ) → This bytes → IsOutput v.words v.held bytes) → (e : Ending)
-      → OutputEnds This v.received v.received_later v.write_faults v.write_faults_later e → Came v e
+      → OutputEnds This v.received v.received_later v.write_faults v.write_faults_later v.puts v.puts_later e → Came v e
   output_came This each endings.Written h = record { bytes = h.0; output = each h.0 h.1; received = h.2 }
   output_came This each endings.WriteFault h = (record { bytes = h.0; output = each h.0 h.1; received = h.2 }, h.3)
   output_came This each endings.NoMemory h = (request, command, h)
   output_came This each _ h = absurd h
 
 pub run_came : (v : Course) (o : Opening) (cs : List Command) (spelled : Spelled v.words v.held o cs) (e : Ending)
-    → OutputEnds (IsReport spelled.inputs.form o cs 1) v.received v.received_later v.write_faults v.write_faults_later e → Came v e
+    → OutputEnds (IsReport spelled.inputs.form o cs 1) v.received v.received_later v.write_faults v.write_faults_later v.puts v.puts_later e → Came v e
 run_came v o cs spelled e h =
     output_came v _ spelled.inputs.command (IsReport spelled.inputs.form o cs 1) (λ bytes r. inl (record { opening = o; script = cs; spelled = spelled; report = r })) e h
 
 pub make_came : (v : Course) (clusters : ℕ) → request_in v.words ≡ Some (make clusters) → (e : Ending)
-    → OutputEnds (IsSummary clusters) v.received v.received_later v.write_faults v.write_faults_later e → Came v e
+    → OutputEnds (IsSummary clusters) v.received v.received_later v.write_faults v.write_faults_later v.puts v.puts_later e → Came v e
 make_came v clusters command e h =
     output_came v (make clusters) command (IsSummary clusters) (λ bytes s. inr (record { clusters = clusters; command = command; summary = s })) e h
 

@@ -21,13 +21,18 @@ pub record Course : Type 0 where
   pub faults_later : Faults
   pub taken : ℕ
   pub taken_later : ℕ
+  pub reads : ℕ
+  pub reads_later : ℕ
   pub received : Option (List ℕ)
   pub received_later : Option (List ℕ)
   pub write_faults : ℕ
   pub write_faults_later : ℕ
+  pub puts : ℕ
+  pub puts_later : ℕ
 
--- the shelf gave no byte and met no fault
+-- the shelf was not read: it gave no byte and met no fault
 pub record Untouched (v : Course) : Type 0 where
+  pub reads : v.reads_later ≡ v.reads
   pub taken : v.taken_later ≡ v.taken
   pub faults : (name : List ℕ) → v.faults_later name ≡ v.faults name
 
@@ -51,6 +56,13 @@ pub record TellsLong (v : Course) : Type 0 where
   pub form : Form
   pub command : request_in v.words ≡ Some (run names form)
   pub long : IsLong (v.held names.world) ⊎ IsLong (v.held names.script)
+
+-- the words are a `run`, and the shelf tells that its world is longer than the limit
+pub record TellsLongWorld (v : Course) : Type 0 where
+  pub names : FileNames
+  pub form : Form
+  pub command : request_in v.words ≡ Some (run names form)
+  pub long : IsLong (v.held names.world)
 
 -- the words are a `run`, both files are told, short enough, and texts, and no device met a fault
 pub record RunsWell (v : Course) : Type 0 where
@@ -90,17 +102,19 @@ pub record Outcome (v : Course) (s : Status) : Type 0 where
   -- 3 and 4: this is the first bad line of the world, or of the script of a world that has none
   pub bad_world : s.code ≡ 3 → BadWorld v.words v.held s.line s.cause
   pub bad_script : s.code ≡ 4 → BadScript v.words v.held s.line s.cause
-  -- 5: the shelf's count of one of the two names rose
-  pub read_fault : s.code ≡ 5 → Faulted v.words v.faults v.faults_later
-  -- 6: the sink's count rose, and it received a prefix of such an output as at 0
-  pub write_fault : s.code ≡ 6 → WrittenInPart v.words v.held v.received v.received_later × Rose v.write_faults v.write_faults_later
-  -- 8: one of the two files has more bytes than the limit
-  pub too_long : s.code ≡ 8 → Overlong v.words v.held v.taken v.taken_later
+  -- 5 and 8: the shelf's count of the world rose, or the world has more bytes than the limit, and the script was not read; or that is said of the
+  -- script, and the world was read within the limit
+  pub read_fault : s.code ≡ 5 → Faulted v.words v.held v.faults v.faults_later v.reads v.reads_later
+  pub too_long : s.code ≡ 8 → Overlong v.words v.held v.taken v.taken_later v.reads v.reads_later
+  -- 6: the sink's count rose, and it received whole pieces of such an output as at 0 and a prefix of the next
+  pub write_fault : s.code ≡ 6 → WrittenInPart v.words v.held v.received v.received_later v.puts v.puts_later × Rose v.write_faults v.write_faults_later
   -- a bad line that the shelf tells is told, and a file that is too long
   pub tells_world : (world script : List ℕ) (line : ℕ) (why : Cause) → Told v world script → first_bad kinds.World world ≡ Some (line, why) → Tells s 3 line why ⊎ Yields s
   pub tells_script : (world script : List ℕ) (o : Opening) (line : ℕ) (why : Cause) → Told v world script → IsWorldText world o
       → first_bad (script_kind o.version) script ≡ Some (line, why) → Tells s 4 line why ⊎ Yields s
   pub tells_long : TellsLong v → (s.code ≡ 8) ⊎ Yields s
+  -- and where that is the world, no fault of the script comes before
+  pub tells_long_world : (tells : TellsLongWorld v) → (s.code ≡ 8) ⊎ (((s.code ≡ 5) × Rose (v.faults tells.names.world) (v.faults_later tells.names.world)) ⊎ (s.code ≡ 7))
   -- only a `run` reads from the shelf
   pub untouched : asks_for_files (request_in v.words) ≡ false → Untouched v
   -- at every code but 0 and 6 the sink received nothing

@@ -1,8 +1,8 @@
 -- How the reading of the files can end a run.
-use Rattle.std.specs.Prelude.{ℕ, ◌⊎◌, List, Option}
+use Rattle.std.specs.Prelude.{ℕ, List, Option}
 use Rattle.fol_io.specs.Counts.{Rose}
 use Rattle.fol_io.specs.Shelf.{IsTooLong}
-use Rattle.fol_top.specs.Inputs.{Faults, Held, size_limit}
+use Rattle.fol_top.specs.Inputs.{Faults, Held, ReadingEnds, size_limit}
 use Rattle.fol_top.specs.declared.ending.Ending.{Ending}
 use Rattle.fol_top.specs.declared.ending.Ending.TheVariants.{Written, Words, World, Script, ReadFault, WriteFault, NoMemory, TooLong}
 
@@ -17,13 +17,13 @@ ReadEnds held faults faults_later taken taken_later (World line cause) = ⊥
 ReadEnds held faults faults_later taken taken_later (Script line cause) = ⊥
 ReadEnds held faults faults_later taken taken_later WriteFault = ⊥
 
--- of the two files of these names
-abbrev pub ReadsEnd : Held → Faults → Faults → ℕ → ℕ → List ℕ → List ℕ → Ending → Type 0
-ReadsEnd held faults faults_later taken taken_later world script ReadFault = Rose (faults world) (faults_later world) ⊎ Rose (faults script) (faults_later script)
-ReadsEnd held faults faults_later taken taken_later world script TooLong = IsTooLong (held world) size_limit taken taken_later ⊎ IsTooLong (held script) size_limit taken taken_later
-ReadsEnd held faults faults_later taken taken_later world script NoMemory = Unit {0}
-ReadsEnd held faults faults_later taken taken_later world script Written = ⊥
-ReadsEnd held faults faults_later taken taken_later world script Words = ⊥
-ReadsEnd held faults faults_later taken taken_later world script (World line cause) = ⊥
-ReadsEnd held faults faults_later taken taken_later world script (Script line cause) = ⊥
-ReadsEnd held faults faults_later taken taken_later world script WriteFault = ⊥
+-- of the two files of these names, with the number of reads before and after
+abbrev pub ReadsEnd : Held → Faults → Faults → ℕ → ℕ → ℕ → ℕ → List ℕ → List ℕ → Ending → Type 0
+ReadsEnd held faults faults_later taken taken_later reads reads_later world script ReadFault = ReadingEnds held reads reads_later world script (λ name. Rose (faults name) (faults_later name))
+ReadsEnd held faults faults_later taken taken_later reads reads_later world script TooLong = ReadingEnds held reads reads_later world script (λ name. IsTooLong (held name) size_limit taken taken_later)
+ReadsEnd held faults faults_later taken taken_later reads reads_later world script NoMemory = Unit {0}
+ReadsEnd held faults faults_later taken taken_later reads reads_later world script Written = ⊥
+ReadsEnd held faults faults_later taken taken_later reads reads_later world script Words = ⊥
+ReadsEnd held faults faults_later taken taken_later reads reads_later world script (World line cause) = ⊥
+ReadsEnd held faults faults_later taken taken_later reads reads_later world script (Script line cause) = ⊥
+ReadsEnd held faults faults_later taken taken_later reads reads_later world script WriteFault = ⊥

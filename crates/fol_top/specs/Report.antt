@@ -15,7 +15,7 @@ use Rattle.fol_model.specs.JsonReport.{json_text}
 use Rattle.fol_model.specs.Summary.{summary_text}
 use Rattle.fol_model.specs.Run.{world}
 use Rattle.fol_gen.specs.MadeTexts as made
-use Rattle.fol_io.specs.Sink.{Received, ReceivedPrefix}
+use Rattle.fol_io.specs.Sink.{Received, ReceivedInPieces}
 use Rattle.fol_top.specs.Command.{make, request_in}
 use Rattle.fol_top.specs.Inputs.{Held, Inputs}
 use Rattle.fol_top.specs.Kept.{KeepsRules, KeepsTasks}
@@ -78,11 +78,11 @@ pub record Written (words : List (List ℕ)) (held : Held) (before now : Option 
   pub output : IsOutput words held bytes
   pub received : Received before now bytes
 
--- a sink received a prefix of such an output
-pub record WrittenInPart (words : List (List ℕ)) (held : Held) (before now : Option (List ℕ)) : Type 0 where
+-- a sink received whole pieces of such an output and a prefix of the next
+pub record WrittenInPart (words : List (List ℕ)) (held : Held) (before now : Option (List ℕ)) (puts later : ℕ) : Type 0 where
   pub bytes : List ℕ
   pub output : IsOutput words held bytes
-  pub received : ReceivedPrefix before now bytes
+  pub received : ReceivedInPieces before now puts later bytes
 
 -- the world has a bad line, and this is the first, with its cause
 pub record BadWorld (words : List (List ℕ)) (held : Held) (line : ℕ) (cause : Option Cause) : Type 0 where

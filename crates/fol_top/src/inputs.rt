@@ -1,6 +1,7 @@
 //! The bytes of the two files.
 
 ghost use Rattle.std.specs.Prelude.{◌≡◌, ◌≤◌, ℕ, List, IfOk, IfErr, length};
+ghost use Rattle.fol_io.specs.Counts.{raised};
 ghost use Rattle.fol_io.specs.Shelf.{IsHeld};
 ghost use Rattle.fol_top.specs.Inputs.{size_limit};
 ghost use Rattle.fol_top.specs.Reading.{ReadEnds, ReadsEnd};
@@ -19,7 +20,7 @@ pub(crate) struct Files {
     pub(crate) script: Bytes,
 }
 
-/// Reads both files, the world first.
+/// Reads both files, the world first, and the script only where the world was read.
 pub(crate) fn read_files<F: Shelf>(
     alloc: Global,
     world_name: &str,
@@ -30,7 +31,7 @@ pub(crate) fn read_files<F: Shelf>(
     ensures world_within { IfOk result (λ files. length files.world ≤ size_limit) }
     ensures script_held { IfOk result (λ files. IsHeld (F.held shelf.old script_name.now) files.script) }
     ensures script_within { IfOk result (λ files. length files.script ≤ size_limit) }
-    ensures ends { IfErr result (ReadsEnd (F.held shelf.old) (F.faults shelf.old) (F.faults shelf.new) (F.taken shelf.old) (F.taken shelf.new) world_name.now script_name.now) }
+    ensures ends { IfErr result (ReadsEnd (F.held shelf.old) (F.faults shelf.old) (F.faults shelf.new) (F.taken shelf.old) (F.taken shelf.new) (F.reads shelf.old) (F.reads shelf.new) world_name.now script_name.now) }
     ensures faults_never_fall { (n : List ℕ) → F.faults shelf.old n ≤ F.faults shelf.new n }
 {
     let world = read_file(alloc, world_name, shelf)?;
@@ -46,6 +47,7 @@ fn read_file<F: Shelf>(alloc: Global, name: &str, shelf: &mut F) -> Result<Bytes
     ensures holds_the_same { (n : List ℕ) → F.held shelf.new n ≡ F.held shelf.old n }
     ensures faults_never_fall { (n : List ℕ) → F.faults shelf.old n ≤ F.faults shelf.new n }
     ensures taken_never_falls { F.taken shelf.old ≤ F.taken shelf.new }
+    ensures reads_once { F.reads shelf.new ≡ raised 1 (F.reads shelf.old) }
 {
     match shelf.read_whole(alloc, name, SIZE_LIMIT) {
         Read::Whole(bytes) => Ok(bytes),

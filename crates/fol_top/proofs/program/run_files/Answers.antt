@@ -14,10 +14,14 @@ returns-in-Err-read_texts g c words command =
       faults_later = g.F.Shelf.faults c.read_files.new.shelf;
       taken = g.F.Shelf.taken c.args.shelf.now;
       taken_later = g.F.Shelf.taken c.read_files.new.shelf;
+      reads = g.F.Shelf.reads c.args.shelf.now;
+      reads_later = g.F.Shelf.reads c.read_files.new.shelf;
       received = g.K.Sink.received c.args.out.now;
       received_later = g.K.Sink.received c.args.out.now;
       write_faults = g.K.Sink.faults c.args.out.now;
       write_faults_later = g.K.Sink.faults c.args.out.now;
+      puts = g.K.Sink.puts c.args.out.now;
+      puts_later = g.K.Sink.puts c.args.out.now;
     } in
     let inputs : Inputs v.words v.held c.in-Ok.files.world c.in-Ok.files.script = record {
       names = record { world = c.args.names.world.now; script = c.args.names.script.now };
@@ -39,10 +43,14 @@ returns g c words command =
       faults_later = g.F.Shelf.faults c.read_files.new.shelf;
       taken = g.F.Shelf.taken c.args.shelf.now;
       taken_later = g.F.Shelf.taken c.read_files.new.shelf;
+      reads = g.F.Shelf.reads c.args.shelf.now;
+      reads_later = g.F.Shelf.reads c.read_files.new.shelf;
       received = g.K.Sink.received c.args.out.now;
       received_later = g.K.Sink.received c.run_texts.new.out;
       write_faults = g.K.Sink.faults c.args.out.now;
       write_faults_later = g.K.Sink.faults c.run_texts.new.out;
+      puts = g.K.Sink.puts c.args.out.now;
+      puts_later = g.K.Sink.puts c.run_texts.new.out;
     } in
     let texts = c.in-Ok-read_texts.texts in
     let spelled : Spelled v.words v.held texts.opening texts.script = record {

@@ -16,10 +16,14 @@ returns-in-Some-Make-clause-came g c =
       faults_later = g.F.Shelf.faults c.args.shelf.now;
       taken = g.F.Shelf.taken c.args.shelf.now;
       taken_later = g.F.Shelf.taken c.args.shelf.now;
+      reads = g.F.Shelf.reads c.args.shelf.now;
+      reads_later = g.F.Shelf.reads c.args.shelf.now;
       received = g.K.Sink.received c.args.out.now;
       received_later = g.K.Sink.received c.run_made.new.out;
       write_faults = g.K.Sink.faults c.args.out.now;
       write_faults_later = g.K.Sink.faults c.run_made.new.out;
+      puts = g.K.Sink.puts c.args.out.now;
+      puts_later = g.K.Sink.puts c.run_made.new.out;
     } in
     make_came v c.in-Some-Make.clusters (rw c.in-Some-Make.field-0-is at c.in-Some-Make.ensures.request) c.run_made.result c.run_made.ensures
 
