@@ -4,6 +4,8 @@
 #   lines.txt                 lines of a report that is too long to store
 #   error.txt                 what is told of a bad line, with nothing written
 # A folder without its two texts, or with none of these stored, fails. made/N.txt is the summary of `make N`.
+# The program runs each with one worker, and with 4 and 8 workers too: which history it is then depends on the order of the ticks, so only what
+# stands at its end is compared, and not of `travel`, whose end depends on that order.
 set -euo pipefail
 cd "$(dirname "$(readlink -f "${BASH_SOURCE[0]}")")/.."
 
@@ -67,11 +69,27 @@ has_one() {
     return 1
 }
 
+# what stands at the end: a report without the lines of its events
+state() {
+    awk 'skip > 0 { skip--; next } $1 == "events" && !seen { seen = 1; skip = $2; next } { print }' "$1"
+}
+
+same_state() {
+    [ "$code" = 0 ] && [ ! -s "$work/err" ] && cmp <(state "$1") <(state "$2")
+}
+
 # compare FOLDER: runs the two texts of an example, and compares with all that is stored there
 compare() {
     run "$work/out" run "$1/world.txt" "$1/script.txt" 1
     [ ! -f "$1/error.txt" ] || is "$1" bad_line_told "$1"
     [ ! -f "$1/report.txt" ] || is "$1" same "$work/out" "$1/report.txt"
+    if [ -f "$1/report.txt" ] && [ "$1" != examples/travel ]; then
+        local workers
+        for workers in 4 8; do
+            run "$work/out" run "$1/world.txt" "$1/script.txt" "$workers"
+            is "$1 by $workers workers" same_state "$work/out" "$1/report.txt"
+        done
+    fi
     [ ! -f "$1/lines.txt" ] || is "$1" has_lines "$work/out" "$1/lines.txt"
     if [ -f "$1/report.json" ]; then
         run "$work/out" run "$1/world.txt" "$1/script.txt" 1 json

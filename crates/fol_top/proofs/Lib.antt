@@ -1,4 +1,3 @@
-pub mod MoreWorkers
 pub mod GoodTexts
 pub mod MadeTexts
 pub mod Outcomes

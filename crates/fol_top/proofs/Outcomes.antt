@@ -26,11 +26,11 @@ use Rattle.fol_top.proofs.GoodTexts.{no_bad_script, no_bad_world}
 same_request : (words : List (List ℕ)) (p q : Request) → request_in words ≡ Some p → request_in words ≡ Some q → p ≡ q
 same_request words p q a b = let e : Some p ≡ Some q = sym a ∙ b in cc
 
-same_names : (words : List (List ℕ)) (m n : FileNames) (f g : Form) → request_in words ≡ Some (run m f) → request_in words ≡ Some (run n g) → m ≡ n
-same_names words m n f g a b = let e : run m f ≡ run n g = same_request words (run m f) (run n g) a b in cc
+same_names : (words : List (List ℕ)) (m n : FileNames) (j k : ℕ) (f g : Form) → request_in words ≡ Some (run m j f) → request_in words ≡ Some (run n k g) → m ≡ n
+same_names words m n j k f g a b = let e : run m j f ≡ run n k g = same_request words (run m j f) (run n k g) a b in cc
 
-not_both : (words : List (List ℕ)) (m : FileNames) (f : Form) (n : ℕ) → request_in words ≡ Some (run m f) → request_in words ≡ Some (make n) → ⊥
-not_both words m f n a b = let e : run m f ≡ make n = same_request words (run m f) (make n) a b in cc
+not_both : (words : List (List ℕ)) (m : FileNames) (j : ℕ) (f : Form) (n : ℕ) → request_in words ≡ Some (run m j f) → request_in words ≡ Some (make n) → ⊥
+not_both words m j f n a b = let e : run m j f ≡ make n = same_request words (run m j f) (make n) a b in cc
 
 -- ---- what the shelf tells
 
@@ -40,7 +40,7 @@ held_is held bytes known h e = rw e at h
 module _ (v : Course) (world script : List ℕ) (told : Told v world script) where
   inputs_same : (w s : List ℕ) → Inputs v.words v.held w s → (w ≡ world) × (s ≡ script)
   inputs_same w s i =
-      let e : i.names ≡ told.names = same_names v.words i.names told.names i.form told.form i.command told.command in (
+      let e : i.names ≡ told.names = same_names v.words i.names told.names i.workers told.workers i.form told.form i.command told.command in (
         held_is (v.held i.names.world) w world i.world_held (ap (λ (n : FileNames). v.held n.world) e ∙ told.world_held),
         held_is (v.held i.names.script) s script i.script_held (ap (λ (n : FileNames). v.held n.script) e ∙ told.script_held),
       )
@@ -61,7 +61,7 @@ module _ (v : Course) (world script : List ℕ) (told : Told v world script) whe
 
   not_overlong : Overlong v.words v.held v.taken v.taken_later v.reads v.reads_later → ⊥
   not_overlong f =
-      let e : f.names ≡ told.names = same_names v.words f.names told.names f.form told.form f.command told.command in
+      let e : f.names ≡ told.names = same_names v.words f.names told.names f.workers told.workers f.form told.form f.command told.command in
       elim f.ends [
         | inl w ↦ let long : size_limit < length world = rw (e, told.world_held) at w.0 in omega (arith, told.world_within)
         | inr s ↦ let long : size_limit < length script = rw (e, told.script_held) at s.1 in omega (arith, told.script_within)
@@ -74,7 +74,7 @@ module _ (v : Course) (world script : List ℕ) (told : Told v world script) whe
       let w : r.spelled.world_bytes ≡ world = e.0 in
       let s : r.spelled.script_bytes ≡ script = e.1 in
       (r.opening, (r.script, rw w at r.spelled.world_text, rw s at r.spelled.script_text))
-  output_spells bytes (inr m) = absurd (not_both v.words told.names told.form m.clusters told.command m.command)
+  output_spells bytes (inr m) = absurd (not_both v.words told.names told.workers told.form m.clusters told.command m.command)
 
 same_parts : (p q : ℕ × Cause) → Some p ≡ Some q → (p.0 ≡ q.0) × (p.1 ≡ q.1)
 same_parts p q e = let y : p ≡ q = cc in (ap (λ (r : ℕ × Cause). r.0) y, ap (λ (r : ℕ × Cause). r.1) y)
@@ -86,13 +86,13 @@ same_bad a b m n c d e p q = same_parts (m, c) (n, d) (sym p ∙ (e ∙ q))
 
 not_faulted : (v : Course) → RunsWell v → Faulted v.words v.held v.faults v.faults_later v.reads v.reads_later → ⊥
 not_faulted v well f =
-    let e : f.names ≡ well.told.names = same_names v.words f.names well.told.names f.form well.told.form f.command well.told.command in
+    let e : f.names ≡ well.told.names = same_names v.words f.names well.told.names f.workers well.told.workers f.form well.told.form f.command well.told.command in
     elim f.ends [ inl w ↦ well.reads_world (rw e at w.0) | inr s ↦ well.reads_script (rw e at s.1) ]
 
 runs_of : (v : Course) (e : Ending) → Came v e → RunsWell v → ((status_of e).code ≡ 0) ⊎ ((status_of e).code ≡ 7)
 runs_of v endings.Written came well = inl refl
 runs_of v endings.NoMemory came well = inr refl
-runs_of v endings.Words came well = let never : Some (run well.told.names well.told.form) ≡ None = sym well.told.command ∙ came.0 in absurd (cc)
+runs_of v endings.Words came well = let never : Some (run well.told.names well.told.workers well.told.form) ≡ None = sym well.told.command ∙ came.0 in absurd (cc)
 runs_of v (endings.World line cause) came well =
     let b = bad_world_is v well.world_bytes well.script_bytes well.told line (Some cause) came.0 in absurd (no_bad_world well.world_bytes well.opening line b.0 well.world_text b.2)
 runs_of v (endings.Script line cause) came well =
@@ -106,17 +106,17 @@ makes_of : (v : Course) (e : Ending) → Came v e → MakesWell v → ((status_o
 makes_of v endings.Written came well = inl refl
 makes_of v endings.NoMemory came well = inr refl
 makes_of v endings.Words came well = let never : Some (make well.clusters) ≡ None = sym well.command ∙ came.0 in absurd (cc)
-makes_of v (endings.World line cause) came well = absurd (not_both v.words came.0.inputs.names came.0.inputs.form well.clusters came.0.inputs.command well.command)
-makes_of v (endings.Script line cause) came well = absurd (not_both v.words came.0.inputs.names came.0.inputs.form well.clusters came.0.inputs.command well.command)
-makes_of v endings.ReadFault came well = absurd (not_both v.words came.0.names came.0.form well.clusters came.0.command well.command)
+makes_of v (endings.World line cause) came well = absurd (not_both v.words came.0.inputs.names came.0.inputs.workers came.0.inputs.form well.clusters came.0.inputs.command well.command)
+makes_of v (endings.Script line cause) came well = absurd (not_both v.words came.0.inputs.names came.0.inputs.workers came.0.inputs.form well.clusters came.0.inputs.command well.command)
+makes_of v endings.ReadFault came well = absurd (not_both v.words came.0.names came.0.workers came.0.form well.clusters came.0.command well.command)
 makes_of v endings.WriteFault came well = absurd (well.writes came.1)
-makes_of v endings.TooLong came well = absurd (not_both v.words came.0.names came.0.form well.clusters came.0.command well.command)
+makes_of v endings.TooLong came well = absurd (not_both v.words came.0.names came.0.workers came.0.form well.clusters came.0.command well.command)
 
 -- ---- where the shelf tells what is wrong
 
 module _ (v : Course) (world script : List ℕ) (told : Told v world script) where
   not_words : request_in v.words ≡ None → ⊥
-  not_words none = let never : Some (run told.names told.form) ≡ None = sym told.command ∙ none in cc
+  not_words none = let never : Some (run told.names told.workers told.form) ≡ None = sym told.command ∙ none in cc
 
   not_an_output : (bytes : List ℕ) (line : ℕ) (why : Cause) → IsOutput v.words v.held bytes → first_bad kinds.World world ≡ Some (line, why) → ⊥
   not_an_output bytes line why out bad = let s = output_spells v world script told bytes out in no_bad_world world s.0 line why s.1.1 bad
@@ -164,7 +164,7 @@ module _ (v : Course) (tells : TellsLong v) where
 
   not_inputs : (w s : List ℕ) → Inputs v.words v.held w s → ⊥
   not_inputs w s i =
-      let e : tells.names ≡ i.names = same_names v.words tells.names i.names tells.form i.form tells.command i.command in
+      let e : tells.names ≡ i.names = same_names v.words tells.names i.names tells.workers i.workers tells.form i.form tells.command i.command in
       elim tells.long [
         | inl long ↦ held_long (v.held i.names.world) w (rw e at long) i.world_held i.world_within
         | inr long ↦ held_long (v.held i.names.script) s (rw e at long) i.script_held i.script_within
@@ -172,13 +172,13 @@ module _ (v : Course) (tells : TellsLong v) where
 
   not_out : (bytes : List ℕ) → IsOutput v.words v.held bytes → ⊥
   not_out bytes (inl r) = not_inputs r.spelled.world_bytes r.spelled.script_bytes r.spelled.inputs
-  not_out bytes (inr m) = not_both v.words tells.names tells.form m.clusters tells.command m.command
+  not_out bytes (inr m) = not_both v.words tells.names tells.workers tells.form m.clusters tells.command m.command
 
   tells_long_of : (e : Ending) → Came v e → ((status_of e).code ≡ 8) ⊎ Yields (status_of e)
   tells_long_of endings.TooLong came = inl refl
   tells_long_of endings.ReadFault came = inr (inl refl)
   tells_long_of endings.NoMemory came = inr (inr refl)
-  tells_long_of endings.Words came = let never : Some (run tells.names tells.form) ≡ None = sym tells.command ∙ came.0 in absurd (cc)
+  tells_long_of endings.Words came = let never : Some (run tells.names tells.workers tells.form) ≡ None = sym tells.command ∙ came.0 in absurd (cc)
   tells_long_of (endings.World line cause) came = absurd (not_inputs came.0.world_bytes came.0.script_bytes came.0.inputs)
   tells_long_of (endings.Script line cause) came = absurd (not_inputs came.0.world_bytes came.0.script_bytes came.0.inputs)
   tells_long_of endings.Written came = absurd (not_out came.bytes came.output)
@@ -186,7 +186,7 @@ module _ (v : Course) (tells : TellsLong v) where
 
 module _ (v : Course) (tells : TellsLongWorld v) where
   among_the_two : TellsLong v
-  among_the_two = record { names = tells.names; form = tells.form; command = tells.command; long = inl tells.long }
+  among_the_two = record { names = tells.names; workers = tells.workers; form = tells.form; command = tells.command; long = inl tells.long }
 
   not_short : IsShort (v.held tells.names.world) → ⊥
   not_short short = held_long v among_the_two (v.held tells.names.world) short.0 tells.long short.1 short.2
@@ -194,7 +194,7 @@ module _ (v : Course) (tells : TellsLongWorld v) where
   -- the fault is the world's: a world that is too long was not read within the limit
   fault_of_world : Faulted v.words v.held v.faults v.faults_later v.reads v.reads_later → Rose (v.faults tells.names.world) (v.faults_later tells.names.world)
   fault_of_world f =
-      let e : f.names ≡ tells.names = same_names v.words f.names tells.names f.form tells.form f.command tells.command in
+      let e : f.names ≡ tells.names = same_names v.words f.names tells.names f.workers tells.workers f.form tells.form f.command tells.command in
       elim f.ends [ inl w ↦ rw e at w.0 | inr s ↦ absurd (not_short (rw e at s.0)) ]
 
   tells_long_world_of : (e : Ending) → Came v e
@@ -202,7 +202,7 @@ module _ (v : Course) (tells : TellsLongWorld v) where
   tells_long_world_of endings.TooLong came = inl refl
   tells_long_world_of endings.ReadFault came = inr (inl (refl, fault_of_world came.0))
   tells_long_world_of endings.NoMemory came = inr (inr refl)
-  tells_long_world_of endings.Words came = let never : Some (run tells.names tells.form) ≡ None = sym tells.command ∙ came.0 in absurd (cc)
+  tells_long_world_of endings.Words came = let never : Some (run tells.names tells.workers tells.form) ≡ None = sym tells.command ∙ came.0 in absurd (cc)
   tells_long_world_of (endings.World line cause) came = absurd (not_inputs v among_the_two came.0.world_bytes came.0.script_bytes came.0.inputs)
   tells_long_world_of (endings.Script line cause) came = absurd (not_inputs v among_the_two came.0.world_bytes came.0.script_bytes came.0.inputs)
   tells_long_world_of endings.Written came = absurd (not_out v among_the_two came.bytes came.output)

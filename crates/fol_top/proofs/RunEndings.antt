@@ -1,5 +1,5 @@
 -- How the parts of a run end the whole.
-use Rattle.std.proofs.Common.{◌≡◌, ℕ, refl, List, true, false, inl, inr, arith}
+use Rattle.std.proofs.Common.{◌≡◌, ℕ, refl, List, true, false, inl, inr}
 use Rattle.std.specs.Prelude.{Option, Some, ◌∷◌, ◌++◌}
 use Rattle.fol_model.specs.declared.openings.Opening.{Opening}
 use Rattle.fol_model.specs.declared.scripts.Command.{Command}
@@ -26,7 +26,6 @@ use Rattle.fol_top.specs.declared.ending.Ending.{Ending}
 use Rattle.fol_top.specs.declared.ending.Ending.TheVariants as endings
 use Rattle.fol_top.specs.declared.form.Form.{Form}
 use Rattle.fol_top.specs.declared.form.Form.TheVariants as forms
-use Rattle.fol_top.proofs.MoreWorkers.{legal_of_more}
 
 -- ---- what is written
 
@@ -48,9 +47,9 @@ keeps_rules o es rest grid run = record {
   few = live_stay_few o es rest grid run;
 }
 
-pub is_report : (form : Form) (o : Opening) (cs : List Command) (c : Closing) → IsGrid o.grid → Legal o cs 1 c.history → Outputs o c.history c
-    → (bytes : List ℕ) → bytes ≡ text_in form c → IsReport form o cs 1 bytes
-is_report form o cs c grid legal outputs bytes text = record {
+pub is_report : (form : Form) (o : Opening) (cs : List Command) (workers : ℕ) (c : Closing) → IsGrid o.grid → Legal o cs workers c.history → Outputs o c.history c
+    → (bytes : List ℕ) → bytes ≡ text_in form c → IsReport form o cs workers bytes
+is_report form o cs workers c grid legal outputs bytes text = record {
   history = c.history;
   closing = c;
   legal = legal;
@@ -61,21 +60,13 @@ is_report form o cs c grid legal outputs bytes text = record {
 }
 
 pub is_summary : (clusters : ℕ) (o : Opening) (cs : List Command) → IsWorldText made.world_text o → IsScriptText 1 (made.script_text clusters) cs
-    → (bytes : List ℕ) → IsReport (forms.Summary clusters) o cs 1 bytes → IsSummary clusters bytes
+    → (bytes : List ℕ) → IsReport (forms.Summary clusters) o cs 4 bytes → IsSummary clusters bytes
 is_summary clusters o cs world script bytes r = record {
   opening = o;
   script = cs;
   world_text = world;
   script_text = script;
-  report = record {
-    history = r.history;
-    closing = r.closing;
-    legal = legal_of_more o cs 1 4 r.history (omega arith) r.legal;
-    rules = r.rules;
-    tasks = r.tasks;
-    outputs = r.outputs;
-    text = r.text;
-  };
+  report = r;
 }
 
 -- ---- the whole
@@ -97,9 +88,9 @@ module _ (v : Course) (request : Request) (command : request_in v.words ≡ Some
   output_came This each _ h = absurd h
 
 pub run_came : (v : Course) (o : Opening) (cs : List Command) (spelled : Spelled v.words v.held o cs) (e : Ending)
-    → OutputEnds (IsReport spelled.inputs.form o cs 1) v.received v.received_later v.write_faults v.write_faults_later v.puts v.puts_later e → Came v e
+    → OutputEnds (IsReport spelled.inputs.form o cs spelled.inputs.workers) v.received v.received_later v.write_faults v.write_faults_later v.puts v.puts_later e → Came v e
 run_came v o cs spelled e h =
-    output_came v _ spelled.inputs.command (IsReport spelled.inputs.form o cs 1) (λ bytes r. inl (record { opening = o; script = cs; spelled = spelled; report = r })) e h
+    output_came v _ spelled.inputs.command (IsReport spelled.inputs.form o cs spelled.inputs.workers) (λ bytes r. inl (record { opening = o; script = cs; spelled = spelled; report = r })) e h
 
 pub make_came : (v : Course) (clusters : ℕ) → request_in v.words ≡ Some (make clusters) → (e : Ending)
     → OutputEnds (IsSummary clusters) v.received v.received_later v.write_faults v.write_faults_later v.puts v.puts_later e → Came v e

@@ -5,10 +5,10 @@ use Rattle.fol_top.specs.declared.command.Request.TheVariants.{Run, Make}
 use Rattle.fol_top.specs.Command as words
 
 abbrev pub asked : Request → words.Request
-asked (Run names form) = words.run (record { world = names.world.now; script = names.script.now }) form
+asked (Run names workers form) = words.run (record { world = names.world.now; script = names.script.now }) workers form
 asked (Make clusters) = words.make clusters
 
--- from 1 to 500 clusters
+-- from 1 to 64 workers, and from 1 to 500 clusters
 abbrev pub IsWithin : Request → Type 0
-IsWithin (Run names form) = Unit {0}
+IsWithin (Run names workers form) = (1 ≤ workers) × (workers ≤ 64)
 IsWithin (Make clusters) = (1 ≤ clusters) × (clusters ≤ 500)

@@ -12,9 +12,9 @@ pub record FileNames : Type 0 where
   pub world : List ℕ
   pub script : List ℕ
 
--- a run of two files, to be written in this form, or a run of the made texts of so many clusters
+-- a run of two files by so many workers, to be written in this form, or a run of the made texts of so many clusters
 pub data Request : Type 0 where
-  run : FileNames → Form → Request
+  run : FileNames → ℕ → Form → Request
   make : ℕ → Request
 
 -- not empty, and the first byte is not `-`
@@ -22,9 +22,14 @@ abbrev pub is_name : List ℕ → Bool
 is_name [] = false
 is_name (b ∷ bs) = not (b == 45)
 
--- `run WORLD SCRIPT 1`, and the two names are names
-abbrev pub is_run : List ℕ → List ℕ → List ℕ → List ℕ → Bool
-is_run command world script workers = (bytes_eq command (codes "run") && bytes_eq workers (codes "1")) && (is_name world && is_name script)
+-- `run WORLD SCRIPT`, and the two names are names
+abbrev pub is_run : List ℕ → List ℕ → List ℕ → Bool
+is_run command world script = bytes_eq command (codes "run") && (is_name world && is_name script)
+
+-- the number of workers that a word which reads so gives
+abbrev pub workers_in : Reading → Option ℕ
+workers_in (Is (pos n)) = Some n
+workers_in _ = None
 
 -- what `make` asks for with a word that reads so
 abbrev pub make_of : Reading → Option Request
@@ -33,21 +38,23 @@ make_of _ = None
 
 -- whether files are to be read
 abbrev pub asks_for_files : Option Request → Bool
-asks_for_files (Some (run names form)) = true
+asks_for_files (Some (run names workers form)) = true
 asks_for_files _ = false
 
--- the form that the words behind `run WORLD SCRIPT 1` ask for
+-- the form that the words behind `run WORLD SCRIPT WORKERS` ask for
 abbrev pub form_in : List (List ℕ) → Option Form
 form_in [] = Some Text
 form_in (form ∷ []) = if bytes_eq form (codes "json") then Some Json else None
 form_in _ = None
 
-abbrev pub run_of : FileNames → Option Form → Option Request
-run_of names None = None
-run_of names (Some form) = Some (run names form)
+abbrev pub run_of : FileNames → Option ℕ → Option Form → Option Request
+run_of names (Some workers) (Some form) = Some (run names workers form)
+run_of names _ _ = None
 
--- what `run WORLD SCRIPT 1`, `run WORLD SCRIPT 1 json` or `make N` asks for, with N from 1 to 500; None where the words are no command
+-- what `run WORLD SCRIPT WORKERS`, `run WORLD SCRIPT WORKERS json` or `make N` asks for, with WORKERS from 1 to 64 and N from 1 to 500; None where the
+-- words are no command
 abbrev pub request_in : List (List ℕ) → Option Request
 request_in (command ∷ number ∷ []) = if bytes_eq command (codes "make") then make_of (reading (pos 1) (pos 500) number) else None
-request_in (command ∷ world ∷ script ∷ workers ∷ more) = if is_run command world script workers then run_of (record { world = world; script = script }) (form_in more) else None
+request_in (command ∷ world ∷ script ∷ workers ∷ more) =
+    if is_run command world script then run_of (record { world = world; script = script }) (workers_in (reading (pos 1) (pos 64) workers)) (form_in more) else None
 request_in _ = None

@@ -20,8 +20,9 @@ size_limit = 16777216
 -- the words are a `run`, and these are the bytes that the shelf holds under its two names, as far as it tells, within the limit
 pub record Inputs (words : List (List ℕ)) (held : Held) (world script : List ℕ) : Type 0 where
   pub names : FileNames
+  pub workers : ℕ
   pub form : Form
-  pub command : request_in words ≡ Some (run names form)
+  pub command : request_in words ≡ Some (run names workers form)
   pub world_held : IsHeld (held names.world) world
   pub world_within : length world ≤ size_limit
   pub script_held : IsHeld (held names.script) script
@@ -39,13 +40,15 @@ ReadingEnds held reads later world script Ends = (Ends world × (later ≡ raise
 -- the words are a `run`, and the reading of its two files ended with a file whose count of faults rose
 pub record Faulted (words : List (List ℕ)) (held : Held) (before now : Faults) (reads later : ℕ) : Type 0 where
   pub names : FileNames
+  pub workers : ℕ
   pub form : Form
-  pub command : request_in words ≡ Some (run names form)
+  pub command : request_in words ≡ Some (run names workers form)
   pub ends : ReadingEnds held reads later names.world names.script (λ name. Rose (before name) (now name))
 
 -- the words are a `run`, and the reading of its two files ended with one that is longer than the limit
 pub record Overlong (words : List (List ℕ)) (held : Held) (before now reads later : ℕ) : Type 0 where
   pub names : FileNames
+  pub workers : ℕ
   pub form : Form
-  pub command : request_in words ≡ Some (run names form)
+  pub command : request_in words ≡ Some (run names workers form)
   pub ends : ReadingEnds held reads later names.world names.script (λ name. IsTooLong (held name) size_limit before now)

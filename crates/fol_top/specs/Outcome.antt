@@ -39,8 +39,9 @@ pub record Untouched (v : Course) : Type 0 where
 -- the words are a `run`, and the shelf tells that it holds these bytes under its two names, within the limit
 pub record Told (v : Course) (world script : List ℕ) : Type 0 where
   pub names : FileNames
+  pub workers : ℕ
   pub form : Form
-  pub command : request_in v.words ≡ Some (run names form)
+  pub command : request_in v.words ≡ Some (run names workers form)
   pub world_held : v.held names.world ≡ Some world
   pub world_within : length world ≤ size_limit
   pub script_held : v.held names.script ≡ Some script
@@ -53,15 +54,17 @@ IsLong held = (bytes : List ℕ) × (held ≡ Some bytes) × (size_limit < lengt
 -- the words are a `run`, and the shelf tells that one of its two files is longer than the limit
 pub record TellsLong (v : Course) : Type 0 where
   pub names : FileNames
+  pub workers : ℕ
   pub form : Form
-  pub command : request_in v.words ≡ Some (run names form)
+  pub command : request_in v.words ≡ Some (run names workers form)
   pub long : IsLong (v.held names.world) ⊎ IsLong (v.held names.script)
 
 -- the words are a `run`, and the shelf tells that its world is longer than the limit
 pub record TellsLongWorld (v : Course) : Type 0 where
   pub names : FileNames
+  pub workers : ℕ
   pub form : Form
-  pub command : request_in v.words ≡ Some (run names form)
+  pub command : request_in v.words ≡ Some (run names workers form)
   pub long : IsLong (v.held names.world)
 
 -- the words are a `run`, both files are told, short enough, and texts, and no device met a fault

@@ -47,12 +47,12 @@ pub record Spelled (words : List (List ℕ)) (held : Held) (o : Opening) (script
   pub world_text : IsWorldText world_bytes o
   pub script_text : IsScriptText o.version script_bytes script
 
--- the output of `run`: of the two files that the words name, in the form that they ask for, with one worker
+-- the output of `run`: of the two files that the words name, in the form and with the number of workers that they ask for
 pub record IsRunOutput (words : List (List ℕ)) (held : Held) (bytes : List ℕ) : Type 0 where
   pub opening : Opening
   pub script : List Command
   pub spelled : Spelled words held opening script
-  pub report : IsReport spelled.inputs.form opening script 1 bytes
+  pub report : IsReport spelled.inputs.form opening script spelled.inputs.workers bytes
 
 -- a summary of the made texts of so many clusters, with four workers
 pub record IsSummary (clusters : ℕ) (bytes : List ℕ) : Type 0 where

@@ -1,9 +1,9 @@
 //! The words of the command line.
 
-ghost use Rattle.std.specs.Prelude.{◌≡◌, pos, map, Some, None, IfSome, MatchOption};
+ghost use Rattle.std.specs.Prelude.{◌≡◌, ◌≤◌, pos, map, Some, None, IfSome, MatchOption};
 ghost use Rattle.fol_model.specs.TextNumbers.{reading};
 ghost use Rattle.fol_top.specs.Asked.{IsWithin, asked};
-ghost use Rattle.fol_top.specs.Command.{form_in, is_name, is_run, make_of, request_in};
+ghost use Rattle.fol_top.specs.Command.{form_in, is_name, is_run, make_of, request_in, workers_in};
 
 use crate::form::Form;
 use fol_model::Reading;
@@ -19,13 +19,17 @@ pub(crate) struct Names<'a> {
 /// What a command asks for.
 #[derive(Clone, Copy)]
 pub(crate) enum Request<'a> {
-    /// A run of two files, to be written in this form.
-    Run { names: Names<'a>, form: Form },
+    /// A run of two files by so many workers, from 1 to 64, to be written in this form.
+    Run {
+        names: Names<'a>,
+        workers: u32,
+        form: Form,
+    },
     /// A run of the made texts of so many clusters, from 1 to 500.
     Make(u32),
 }
 
-/// What `run WORLD SCRIPT 1`, `run WORLD SCRIPT 1 json` or `make N` asks for; `None` exactly where the words are no command.
+/// What `run WORLD SCRIPT WORKERS`, `run WORLD SCRIPT WORKERS json` or `make N` asks for; `None` exactly where the words are no command.
 pub(crate) fn request_in<'a>(words: &[&'a str]) -> Option<Request<'a>>
     ensures request { MatchOption result (request_in (map (λ w. w.now) words.now) ≡ None) (λ r. request_in (map (λ w. w.now) words.now) ≡ Some (asked r)) }
     ensures within { IfSome result IsWithin }
@@ -39,22 +43,38 @@ pub(crate) fn request_in<'a>(words: &[&'a str]) -> Option<Request<'a>>
             }
         }
         [command, world, script, workers, more @ ..] => {
-            if !is_run(command, world, script, workers) {
+            if !is_run(command, world, script) {
                 return None;
             }
+            let workers = workers_in(workers)?;
             let form = form_in(more)?;
             let names = Names { world, script };
-            Some(Request::Run { names, form })
+            Some(Request::Run {
+                names,
+                workers,
+                form,
+            })
         }
         _ => None,
     }
 }
 
-/// Whether the words are `run WORLD SCRIPT 1`.
-fn is_run(command: &str, world: &str, script: &str, workers: &str) -> bool
-    ensures { result ≡ is_run command.now world.now script.now workers.now }
+/// Whether the words are `run WORLD SCRIPT`.
+fn is_run(command: &str, world: &str, script: &str) -> bool
+    ensures { result ≡ is_run command.now world.now script.now }
 {
-    command == "run" && workers == "1" && is_name(world) && is_name(script)
+    command == "run" && is_name(world) && is_name(script)
+}
+
+/// The number of workers, from 1 to 64; `None` where the word is no such number.
+fn workers_in(word: &str) -> Option<u32>
+    ensures value { result ≡ workers_in (reading (pos 1) (pos 64) word.now) }
+    ensures within { IfSome result (λ n. (1 ≤ n) × (n ≤ 64)) }
+{
+    match read_number(word.as_bytes(), 1, 64) {
+        Reading::Is(workers) => Some(workers as u32),
+        _ => None,
+    }
 }
 
 /// Whether the word can name a file: it is not empty, and does not begin with `-`.
@@ -67,7 +87,7 @@ fn is_name(word: &str) -> bool
     }
 }
 
-/// The form that the words behind `run WORLD SCRIPT 1` ask for; `None` where they ask for none.
+/// The form that the words behind `run WORLD SCRIPT WORKERS` ask for; `None` where they ask for none.
 fn form_in(more: &[&str]) -> Option<Form>
     ensures { result ≡ form_in (map (λ w. w.now) more.now) }
 {

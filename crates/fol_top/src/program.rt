@@ -18,15 +18,20 @@ use crate::made::make_texts;
 use crate::output::write_output;
 use crate::texts::{Texts, read_texts};
 use fol_io::{Gate, Shelf, Sink};
-use fol_solo::run_script;
+use fol_pool::run_script;
 use std::alloc::Global;
 use std::sync::Wait;
+use std::thread::Threads;
+
+/// How many workers run a made game.
+const MAKE_WORKERS: u32 = 4;
 
 /// Runs the program. `words` is the command line without the program's own name, and these are the commands:
 ///
-/// - `run WORLD SCRIPT 1` reads both files from the shelf, runs the script on the world, and writes the report to `out`.
-/// - `run WORLD SCRIPT 1 json` writes the report as JSON.
-/// - `make N`, with N from 1 to 500, runs the made texts of N clusters and writes the summary. It reads nothing from the shelf.
+/// - `run WORLD SCRIPT WORKERS`, with WORKERS from 1 to 64, reads both files from the shelf, runs the script on the world by so many workers, and
+///   writes the report to `out`.
+/// - `run WORLD SCRIPT WORKERS json` writes the report as JSON.
+/// - `make N`, with N from 1 to 500, runs the made texts of N clusters by 4 workers and writes the summary. It reads nothing from the shelf.
 ///
 /// The status tells how it ended, by these codes. The first of them that comes up on the way decides: words, world read, script read,
 /// world text, script text, run, write.
@@ -40,7 +45,7 @@ use std::sync::Wait;
 ///
 /// Nothing goes to `out` but at codes 0 and 6. At every code but 0 one line goes to `err`; a fault of `err` changes nothing. The gate is
 /// passed once in each tick.
-pub fn run<R: Wait, F: Shelf, K: Sink, E: Sink, G: Gate + Sync>(
+pub fn run<R: Threads + Wait + Sync, F: Shelf, K: Sink, E: Sink, G: Gate + Sync>(
     rt: &R,
     alloc: Global,
     words: &[&str],
@@ -57,7 +62,7 @@ pub fn run<R: Wait, F: Shelf, K: Sink, E: Sink, G: Gate + Sync>(
 }
 
 /// Does all the work but to tell how it ended.
-fn work<R: Wait, F: Shelf, K: Sink, G: Gate + Sync>(
+fn work<R: Threads + Wait + Sync, F: Shelf, K: Sink, G: Gate + Sync>(
     rt: &R,
     alloc: Global,
     words: &[&str],
@@ -70,22 +75,30 @@ fn work<R: Wait, F: Shelf, K: Sink, G: Gate + Sync>(
 {
     match request_in(words) {
         None => Ending::Words,
-        Some(Request::Run { names, form }) => run_files(rt, alloc, names, form, shelf, out, gate),
+        Some(
+            Request::Run {
+                names,
+                workers,
+                form,
+            },
+        ) => run_files(rt, alloc, names, workers, form, shelf, out, gate),
         Some(Request::Make(clusters)) => run_made(rt, alloc, clusters, out, gate),
     }
 }
 
-/// Runs the script of one file on the world of another, and writes the report in this form.
-fn run_files<R: Wait, F: Shelf, K: Sink, G: Gate + Sync>(
+/// Runs the script of one file on the world of another by so many workers, and writes the report in this form.
+fn run_files<R: Threads + Wait + Sync, F: Shelf, K: Sink, G: Gate + Sync>(
     rt: &R,
     alloc: Global,
     names: Names<'_>,
+    workers: u32,
     form: Form,
     shelf: &mut F,
     out: &mut K,
     gate: &G,
 ) -> Ending
-    ensures { (words : List (List ℕ)) → request_in words ≡ Some (run (record { world = names.entry.world.now; script = names.entry.script.now }) form) → Came (record { words = words; held = F.held shelf.old; faults = F.faults shelf.old; faults_later = F.faults shelf.new; taken = F.taken shelf.old; taken_later = F.taken shelf.new; reads = F.reads shelf.old; reads_later = F.reads shelf.new; received = K.received out.old; received_later = K.received out.new; write_faults = K.faults out.old; write_faults_later = K.faults out.new; puts = K.puts out.old; puts_later = K.puts out.new }) result }
+    requires { (1 ≤ workers) × (workers ≤ 64) }
+    ensures { (words : List (List ℕ)) → request_in words ≡ Some (run (record { world = names.entry.world.now; script = names.entry.script.now }) workers form) → Came (record { words = words; held = F.held shelf.old; faults = F.faults shelf.old; faults_later = F.faults shelf.new; taken = F.taken shelf.old; taken_later = F.taken shelf.new; reads = F.reads shelf.old; reads_later = F.reads shelf.new; received = K.received out.old; received_later = K.received out.new; write_faults = K.faults out.old; write_faults_later = K.faults out.new; puts = K.puts out.old; puts_later = K.puts out.new }) result }
 {
     let files = match read_files(alloc, names.world, names.script, shelf) {
         Ok(files) => files,
@@ -95,11 +108,11 @@ fn run_files<R: Wait, F: Shelf, K: Sink, G: Gate + Sync>(
         Ok(texts) => texts,
         Err(ending) => return ending,
     };
-    run_texts(rt, alloc, texts, form, out, gate)
+    run_texts(rt, alloc, texts, workers, form, out, gate)
 }
 
 /// Runs the made texts of so many clusters, and writes the summary.
-fn run_made<R: Wait, K: Sink, G: Gate + Sync>(
+fn run_made<R: Threads + Wait + Sync, K: Sink, G: Gate + Sync>(
     rt: &R,
     alloc: Global,
     clusters: u32,
@@ -111,25 +124,30 @@ fn run_made<R: Wait, K: Sink, G: Gate + Sync>(
     ensures { OutputEnds (IsSummary clusters) (K.received out.old) (K.received out.new) (K.faults out.old) (K.faults out.new) (K.puts out.old) (K.puts out.new) result }
 {
     match make_texts(alloc, clusters) {
-        Ok(texts) => run_texts(rt, alloc, texts, Form::Summary(clusters), out, gate),
+        Ok(texts) => {
+            let form = Form::Summary(clusters);
+            run_texts(rt, alloc, texts, MAKE_WORKERS, form, out, gate)
+        }
         Err(_) => Ending::NoMemory,
     }
 }
 
-/// Runs a script on a world, and writes the closing in this form.
-fn run_texts<R: Wait, K: Sink, G: Gate + Sync>(
+/// Runs a script on a world by so many workers, and writes the closing in this form.
+fn run_texts<R: Threads + Wait + Sync, K: Sink, G: Gate + Sync>(
     rt: &R,
     alloc: Global,
     texts: Texts,
+    workers: u32,
     form: Form,
     out: &mut K,
     gate: &G,
 ) -> Ending
-    requires { IsGrid texts.opening.grid }
-    ensures { OutputEnds (IsReport form texts.opening texts.script 1) (K.received out.old) (K.received out.new) (K.faults out.old) (K.faults out.new) (K.puts out.old) (K.puts out.new) result }
+    requires grid { IsGrid texts.opening.grid }
+    requires workers { (1 ≤ workers) × (workers ≤ 64) }
+    ensures { OutputEnds (IsReport form texts.opening texts.script workers) (K.received out.old) (K.received out.new) (K.faults out.old) (K.faults out.new) (K.puts out.old) (K.puts out.new) result }
 {
     let Texts { opening, script } = texts;
-    match run_script(rt, alloc, opening, script, gate) {
+    match run_script(rt, alloc, opening, script, workers, gate) {
         Ok(closing) => write_output(alloc, &closing, form, out),
         Err(_) => Ending::NoMemory,
     }

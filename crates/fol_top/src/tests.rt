@@ -1,11 +1,13 @@
 //! What no contract says: that runs come to an end, what a whole report looks like, and that memory is found.
 
 use crate::{Status, run};
-use fol_io::{Bytes, MemShelf, MemSink, NamedBytes, QuietGate, Text};
+use fol_io::{Bytes, Gate, MemShelf, MemSink, NamedBytes, QuietGate, Text};
 use fol_model::Cause;
 use std::alloc::{AllocError, Global};
 use std::sync::Wait;
+use std::sync::atomic::{AtomicU64, Ordering};
 use std::test::Fail;
+use std::thread::{Threads, yield_now};
 
 const WORLD: &str = "world 1\ngrid 0 1 1 2 1 6\n";
 
@@ -47,8 +49,8 @@ fn sink_of(alloc: Global, failing: &[u64]) -> Result<MemSink, AllocError> {
 }
 
 /// Runs words on a world and a script, where these reads and these puts of the output fail.
-fn run_words(
-    rt: &impl Wait,
+fn run_words<R: Threads + Wait + Sync>(
+    rt: &R,
     alloc: Global,
     words: &[&str],
     texts: (&[u8], &[u8]),
@@ -64,7 +66,12 @@ fn run_words(
     Ok(Came { status, out, err })
 }
 
-fn run_texts(rt: &impl Wait, alloc: Global, world: &str, script: &str) -> Result<Came, AllocError> {
+fn run_texts<R: Threads + Wait + Sync>(
+    rt: &R,
+    alloc: Global,
+    world: &str,
+    script: &str,
+) -> Result<Came, AllocError> {
     run_words(
         rt,
         alloc,
@@ -225,5 +232,71 @@ fn a_file_over_the_limit_is_too_long(rt: HostRuntime) -> Result<(), Fail> {
     let texts = (WORLD.as_bytes(), long.as_slice());
     let came = run_words(&rt, rt.alloc(), &["run", "w", "s", "1"], texts, (&[], &[]))?;
     assert!(rt; is_plain(&came, 8, b"fol: too long\n"));
+    Ok(())
+}
+
+/// How often a tick that waits for others looks whether they have come.
+const LOOKS: u32 = 1_000_000;
+
+/// A gate that holds each tick until so many ticks have come, for a while.
+#[derive(Drop)]
+struct Meeting {
+    expected: u64,
+    come: AtomicU64,
+    met: AtomicU64,
+}
+
+impl Gate for Meeting {
+    fn passed(&self, _worker: u32, _region: u64) {
+        self.come.fetch_add(1, Ordering::SeqCst);
+        for _ in 0..LOOKS {
+            if self.come.load(Ordering::SeqCst) >= self.expected {
+                self.met.fetch_add(1, Ordering::SeqCst);
+                return;
+            }
+            yield_now();
+        }
+    }
+}
+
+/// How many ticks of a script met at one moment, of so many that each wait for all others.
+fn ticks_that_meet<R: Threads + Wait + Sync>(
+    rt: &R,
+    alloc: Global,
+    words: &[&str],
+    script: &str,
+    expected: u64,
+) -> Result<(Status, u64), AllocError> {
+    let files = vec![in alloc;
+        named(alloc, "w", WORLD.as_bytes())?,
+        named(alloc, "s", script.as_bytes())?,
+    ]?;
+    let mut shelf = MemShelf::of(files, Vec::new(alloc));
+    let mut out = sink_of(alloc, &[])?;
+    let mut err = sink_of(alloc, &[])?;
+    let gate = Meeting {
+        expected,
+        come: AtomicU64::new(0),
+        met: AtomicU64::new(0),
+    };
+    let status = run(rt, alloc, words, &mut shelf, &mut out, &mut err, &gate);
+    Ok((status, gate.met.load(Ordering::SeqCst)))
+}
+
+#[test]
+fn ticks_of_two_workers_are_open_at_once(rt: HostRuntime) -> Result<(), Fail> {
+    let script = "load 0 0\nload 4 0\nrun 1\nend\n";
+    let (status, met) = ticks_that_meet(&rt, rt.alloc(), &["run", "w", "s", "2"], script, 2)?;
+    assert_eq!(rt; status.code, 0);
+    assert_eq!(rt; met, 2);
+    Ok(())
+}
+
+#[test]
+fn ticks_of_four_workers_are_open_at_once(rt: HostRuntime) -> Result<(), Fail> {
+    let script = "load 0 0\nload 4 0\nload 8 0\nload 12 0\nrun 1\nend\n";
+    let (status, met) = ticks_that_meet(&rt, rt.alloc(), &["run", "w", "s", "4"], script, 4)?;
+    assert_eq!(rt; status.code, 0);
+    assert_eq!(rt; met, 4);
     Ok(())
 }

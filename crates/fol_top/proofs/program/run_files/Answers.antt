@@ -25,6 +25,7 @@ returns-in-Err-read_texts g c words command =
     } in
     let inputs : Inputs v.words v.held c.in-Ok.files.world c.in-Ok.files.script = record {
       names = record { world = c.args.names.world.now; script = c.args.names.script.now };
+      workers = c.args.workers;
       form = c.args.form;
       command = command;
       world_held = c.in-Ok.ensures.world_held;
@@ -58,6 +59,7 @@ returns g c words command =
       script_bytes = c.in-Ok.files.script;
       inputs = record {
         names = record { world = c.args.names.world.now; script = c.args.names.script.now };
+        workers = c.args.workers;
         form = c.args.form;
         command = command;
         world_held = c.in-Ok.ensures.world_held;
