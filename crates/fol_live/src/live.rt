@@ -84,12 +84,7 @@ impl Live {
 
     /// Asks for a ticket to a chunk, with the seat's number as the caller. Over exactly where Finish stands in the history; only
     /// Over is not recorded.
-    pub fn load<R: Wait>(
-        &self,
-        rt: &R,
-        seat: &mut Seat,
-        c: ChunkPos,
-    ) -> Result<Loaded, AllocError>
+    pub fn load<R: Wait>(&self, rt: &R, seat: &mut Seat, c: ChunkPos) -> Result<Loaded, AllocError>
         requires own { seat.old.lock ≡ live_id self.now }
         requires in_range { IsTrue (is_chunk c) }
         ensures { Loads seat.old seat.new c result }

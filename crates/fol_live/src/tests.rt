@@ -131,13 +131,7 @@ fn end<R: Abort + Wait>(rt: &R, alloc: Global, live: &Live, seat: Seat, mut tick
 }
 
 /// Ends a tick that has run.
-fn release<R: Abort + Wait>(
-    rt: &R,
-    alloc: Global,
-    live: &Live,
-    mut seat: Seat,
-    tick: Tick,
-) -> Seat
+fn release<R: Abort + Wait>(rt: &R, alloc: Global, live: &Live, mut seat: Seat, tick: Tick) -> Seat
     requires own { seat.lock ≡ live_id live.now }
     requires holds { HoldsRun seat tick }
     ensures own { result.lock ≡ live_id live.now }
@@ -153,8 +147,9 @@ fn release<R: Abort + Wait>(
 #[test]
 fn others_ask_while_two_regions_tick(rt: HostRuntime) {
     let alloc = rt.alloc();
-    let LiveAndSeats { live, mut seats } =
-        Live::start(alloc, opening(&rt, alloc), 4).expect(&rt, "memory");
+    let LiveAndSeats { live, mut seats } = Live::start(alloc, opening(&rt, alloc), 4).expect(
+        &rt, "memory",
+    );
     let mut third = last(&rt, &live, &mut seats, 3);
     let mut second = last(&rt, &live, &mut seats, 2);
     let mut first = last(&rt, &live, &mut seats, 1);
@@ -172,7 +167,10 @@ fn others_ask_while_two_regions_tick(rt: HostRuntime) {
     let second = end(&rt, alloc, &live, second, other);
     let first = end(&rt, alloc, &live, first, tick);
     assert_eq!(rt; close_phase(&rt, &live, &mut caller), Close::Closed);
-    assert_eq!(rt; open_phase(&rt, &live, &mut caller, 10_000), LivePhase::TooMany(1));
+    assert_eq!(rt;
+        open_phase(&rt, &live, &mut caller, 10_000),
+        LivePhase::TooMany(1)
+    );
     assert_eq!(rt; finish(&rt, &live, &mut caller), Finish::Finished);
     assert_eq!(rt; load(&rt, &live, &mut caller, 0), Loaded::Over);
     let mut seats = Vec::with_capacity(alloc, 4).expect(&rt, "memory");
