@@ -51,10 +51,14 @@ abbrev pub run_of : FileNames → Option ℕ → Option Form → Option Request
 run_of names (Some workers) (Some form) = Some (run names workers form)
 run_of names _ _ = None
 
+-- what `run WORLD SCRIPT WORKERS` asks for, with what stands behind it; None where the words are no such command
+unfoldable pub run_asked : List ℕ → List ℕ → List ℕ → List ℕ → List (List ℕ) → Option Request
+run_asked command world script workers more =
+    if is_run command world script then run_of (record { world = world; script = script }) (workers_in (reading (pos 1) (pos 64) workers)) (form_in more) else None
+
 -- what `run WORLD SCRIPT WORKERS`, `run WORLD SCRIPT WORKERS json` or `make N` asks for, with WORKERS from 1 to 64 and N from 1 to 500; None where the
 -- words are no command
 abbrev pub request_in : List (List ℕ) → Option Request
 request_in (command ∷ number ∷ []) = if bytes_eq command (codes "make") then make_of (reading (pos 1) (pos 500) number) else None
-request_in (command ∷ world ∷ script ∷ workers ∷ more) =
-    if is_run command world script then run_of (record { world = world; script = script }) (workers_in (reading (pos 1) (pos 64) workers)) (form_in more) else None
+request_in (command ∷ world ∷ script ∷ workers ∷ more) = run_asked command world script workers more
 request_in _ = None

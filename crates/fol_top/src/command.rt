@@ -3,7 +3,7 @@
 ghost use Rattle.std.specs.Prelude.{◌≡◌, ◌≤◌, pos, map, Some, None, IfSome, MatchOption};
 ghost use Rattle.fol_model.specs.TextNumbers.{reading};
 ghost use Rattle.fol_top.specs.Asked.{IsWithin, asked};
-ghost use Rattle.fol_top.specs.Command.{form_in, is_name, is_run, make_of, request_in, workers_in};
+ghost use Rattle.fol_top.specs.Command.{form_in, is_name, is_run, make_of, request_in, run_asked, workers_in};
 
 use crate::form::Form;
 use fol_model::Reading;
@@ -43,20 +43,35 @@ pub(crate) fn request_in<'a>(words: &[&'a str]) -> Option<Request<'a>>
             }
         }
         [command, world, script, workers, more @ ..] => {
-            if !is_run(command, world, script) {
-                return None;
-            }
-            let workers = workers_in(workers)?;
-            let form = form_in(more)?;
-            let names = Names { world, script };
-            Some(Request::Run {
-                names,
-                workers,
-                form,
-            })
+            run_asked(command, world, script, workers, more)
         }
         _ => None,
     }
+}
+
+/// What `run WORLD SCRIPT WORKERS` asks for, with what stands behind it; `None` where the words are no such command.
+#[tactic(auto, unfolding(crate::specs::Command::run_asked))]
+fn run_asked<'a>(
+    command: &str,
+    world: &'a str,
+    script: &'a str,
+    workers: &str,
+    more: &[&str],
+) -> Option<Request<'a>>
+    ensures request { MatchOption result (run_asked command.now world.now script.now workers.now (map (λ w. w.now) more.now) ≡ None) (λ r. run_asked command.now world.now script.now workers.now (map (λ w. w.now) more.now) ≡ Some (asked r)) }
+    ensures within { IfSome result IsWithin }
+{
+    if !is_run(command, world, script) {
+        return None;
+    }
+    let workers = workers_in(workers)?;
+    let form = form_in(more)?;
+    let names = Names { world, script };
+    Some(Request::Run {
+        names,
+        workers,
+        form,
+    })
 }
 
 /// Whether the words are `run WORLD SCRIPT`.
