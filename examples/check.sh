@@ -99,7 +99,7 @@ compare() {
 
 # The program is built here, where it has to be. With no words it only says that they are no command, and ends with 2.
 run "$work/out"
-if ! no_command; then
+if [ "$code" != 2 ]; then
     cat "$work/err" >&2
     exit 1
 fi

@@ -8,5 +8,6 @@ pub mod Owing
 pub mod Busies
 pub mod Hosted
 pub mod Dealing
+pub mod FourSeats
 pub mod OneTurn
 pub mod Held

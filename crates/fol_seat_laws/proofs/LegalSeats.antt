@@ -40,17 +40,16 @@ pub record Kind (w : ℕ) (e : Entry) : Type 0 where
 kinds : (w : ℕ) (es : List Entry) → AllByRecursion IsSigned es → AllByRecursion (λ e. e.by ≤ w) es → AllByRecursion (IsBegunBelow w) es
     → ((k : ℕ) → 1 ≤ k → k ≤ w → AllByRecursion IsCalm (own_of k es)) → AllByRecursion IsCall (own_of 0 es) → AllByRecursion (Kind w) es
 kinds w [] signed few begun calm calls = tt
-kinds w (e ∷ es) signed few begun calm calls =
-    (
-      record {
-        low = few.0;
-        signed = signed.0;
-        begun = begun.0;
-        calm = λ other. (own_first IsCalm e.by e es refl (calm e.by (omega arith) few.0)).0;
-        call = λ own. (own_first IsCall 0 e es own calls).0;
-      },
-      kinds w es signed.1 few.1 begun.1 (λ k low high. own_next IsCalm k e es (calm k low high)) (own_next IsCall 0 e es calls),
-    )
+kinds w (e ∷ es) signed few begun calm calls = (
+  record {
+    low = few.0;
+    signed = signed.0;
+    begun = begun.0;
+    calm = λ other. (own_first IsCalm e.by e es refl (calm e.by (omega arith) few.0)).0;
+    call = λ own. (own_first IsCall 0 e es own calls).0;
+  },
+  kinds w es signed.1 few.1 begun.1 (λ k low high. own_next IsCalm k e es (calm k low high)) (own_next IsCall 0 e es calls),
+)
 
 -- ---- the commands
 
@@ -150,7 +149,7 @@ module _ (o : Opening) (script : List Command) (w : ℕ) (h : List Entry) (grid 
       let go : (after_all (world o did.seen) did.rest).stopped ≡ false = rw (did.is, after_both (start o) did.seen did.rest) at running in
       let seen = did.ticks (all_running (world o did.seen) did.rest go).0 in
       let none = none_begun o k (world o did.seen) did.rest (good_run o did.seen did.rest grid again) (run_behind (start o) did.seen did.rest again) behind did.behind
-          (rests k did.seen did.rest did.is) in
+      (rests k did.seen did.rest did.is) in
       let all : Turns k (start o) idle (did.seen ++ did.rest) idle
       = turns_both k (start o) idle idle idle did.seen did.rest seen (turns_past_all k (world o did.seen) idle did.rest low behind none did.behind) in
       turns_whole k (start o) idle h (rw did.is all)

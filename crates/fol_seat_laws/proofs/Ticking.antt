@@ -82,8 +82,7 @@ module _ (o : Opening) (k : ℕ) where
   none_begun w [] good run signed none rests = tt
   none_begun w (e ∷ es) good run signed none rests =
       let first = own_none k e es none in
-      let later = good_after o w e.event good run.1 in
-      (
+      let later = good_after o w e.event good run.1 in (
         (λ starts mine. rests (others_tick_on (after w e.event) es later run.2 signed.1 first.1 (begin_ticks w k e.event starts mine))),
         none_begun (after w e.event) es later run.2 signed.1 first.1 rests,
       )

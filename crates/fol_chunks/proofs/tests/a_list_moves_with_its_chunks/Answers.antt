@@ -5,6 +5,7 @@ use Rattle.fol_model.specs.Geometry.{chunk_of}
 use Rattle.fol_model.specs.ActionStep.{Standing}
 use Rattle.fol_chunks.specs.Contents.{flat_of, within, is_listed, option_filter}
 use Rattle.fol_chunks.proofs.Flats.{apart_kinds}
+use Rattle.fol_model.specs.Universe.{chunk_cmp}
 use Rattle.fol_chunks.proofs.tests.a_list_moves_with_its_chunks.Goals as goal
 
 -- the two chunks
@@ -12,11 +13,11 @@ chunks : List ChunkPos
 chunks = record { x = pos 0; z = pos 0 } ∷ record { x = pos 1; z = pos 0 } ∷ []
 
 pub size_listed-requires : goal.size_listed-requires
-unfolding IsStrictlySortedBy
+unfolding IsStrictlySortedBy chunk_cmp
 size_listed-requires g c = ((refl, tt), (tt, tt))
 
 pub move_listed-requires-clause-order : goal.move_listed-requires-clause-order
-unfolding IsStrictlySortedBy
+unfolding IsStrictlySortedBy chunk_cmp
 move_listed-requires-clause-order g c = ((refl, tt), (tt, tt))
 
 pub move_listed-requires-clause-apart : goal.move_listed-requires-clause-apart

@@ -4,10 +4,11 @@ use Rattle.std.specs.List.Sorted.{IsStrictlySortedBy}
 use Rattle.std.proofs.lemmas.List.Elements.{All-nil, All-cons}
 use Rattle.fol_model.specs.declared.places.ChunkPos.{ChunkPos}
 use Rattle.fol_model.specs.Geometry.{is_chunk}
+use Rattle.fol_model.specs.Universe.{chunk_cmp}
 use Rattle.fol_chunks.proofs.tests.step.Goals as goal
 
 pub step_entities-requires-clause-order : goal.step_entities-requires-clause-order
-unfolding IsStrictlySortedBy
+unfolding IsStrictlySortedBy chunk_cmp
 step_entities-requires-clause-order c = ((refl, tt), (tt, tt))
 
 -- the second chunk

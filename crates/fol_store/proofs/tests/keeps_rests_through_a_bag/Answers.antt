@@ -4,10 +4,11 @@ use Rattle.std.specs.List.Sorted.{IsStrictlySortedBy}
 use Rattle.std.proofs.lemmas.List.Elements.{All-cons, All-nil}
 use Rattle.fol_model.specs.declared.places.ChunkPos.{ChunkPos}
 use Rattle.fol_model.specs.Geometry.{is_chunk}
+use Rattle.fol_model.specs.Universe.{chunk_cmp}
 use Rattle.fol_store.proofs.tests.keeps_rests_through_a_bag.Goals as goal
 
 pub gather-requires-clause-order : goal.gather-requires-clause-order
-unfolding IsStrictlySortedBy
+unfolding IsStrictlySortedBy chunk_cmp
 gather-requires-clause-order g c = ((refl, tt), (tt, tt))
 
 pub gather-requires-clause-places : goal.gather-requires-clause-places

@@ -4,10 +4,11 @@ use Rattle.std.specs.List.Sorted.{IsStrictlySortedBy}
 use Rattle.std.proofs.lemmas.List.Elements.{All-from_recursion}
 use Rattle.fol_model.specs.declared.places.ChunkPos.{ChunkPos}
 use Rattle.fol_model.specs.Geometry.{is_chunk}
+use Rattle.fol_model.specs.Universe.{chunk_cmp}
 use Rattle.fol_tick.proofs.tests.chunks.Goals as goal
 
 pub returns-clause-order : goal.returns-clause-order
-unfolding IsStrictlySortedBy
+unfolding IsStrictlySortedBy chunk_cmp
 returns-clause-order c = rw c.in_ok-vec.ensures.items ((refl, tt), (tt, tt))
 
 pub returns-clause-places : goal.returns-clause-places
