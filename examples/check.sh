@@ -4,8 +4,9 @@
 #   lines.txt                 lines of a report that is too long to store
 #   error.txt                 what is told of a bad line, with nothing written
 # A folder without its two texts, or with none of these stored, fails. made/N.txt is the summary of `make N`.
-# The program runs each with one worker, and with 4 and 8 workers too: which history it is then depends on the order of the ticks, so only what
-# stands at its end is compared, and not of `travel`, whose end depends on that order.
+#
+# Each example is run with 1, 4 and 8 workers. With one worker the whole report is compared, with several the parts behind its events, where
+# these do not depend on the order in which regions tick.
 set -euo pipefail
 cd "$(dirname "$(readlink -f "${BASH_SOURCE[0]}")")/.."
 
@@ -59,6 +60,20 @@ has_lines() {
     [ "$code" = 0 ] && [ -s "$2" ] && ! grep -vxF -f "$1" "$2"
 }
 
+# the parts of a report behind its events
+state() {
+    sed -n '/^regions /,$p' "$1"
+}
+
+same_state() {
+    [ "$code" = 0 ] && [ ! -s "$work/err" ] && cmp <(state "$1") <(state "$2")
+}
+
+# where the order of the ticks decides what stands at the end
+order_decides() {
+    [ "$1" = examples/travel ] || [ "$1" = examples/rules/lines_inside_a_run ]
+}
+
 # has_one FOLDER NAME..: one of these files is in the folder
 has_one() {
     local folder=$1 name
@@ -69,32 +84,25 @@ has_one() {
     return 1
 }
 
-# what stands at the end: a report without the lines of its events
-state() {
-    awk 'skip > 0 { skip--; next } $1 == "events" && !seen { seen = 1; skip = $2; next } { print }' "$1"
-}
-
-same_state() {
-    [ "$code" = 0 ] && [ ! -s "$work/err" ] && cmp <(state "$1") <(state "$2")
-}
-
 # compare FOLDER: runs the two texts of an example, and compares with all that is stored there
 compare() {
     run "$work/out" run "$1/world.txt" "$1/script.txt" 1
     [ ! -f "$1/error.txt" ] || is "$1" bad_line_told "$1"
     [ ! -f "$1/report.txt" ] || is "$1" same "$work/out" "$1/report.txt"
-    if [ -f "$1/report.txt" ] && [ "$1" != examples/travel ]; then
-        local workers
-        for workers in 4 8; do
-            run "$work/out" run "$1/world.txt" "$1/script.txt" "$workers"
-            is "$1 by $workers workers" same_state "$work/out" "$1/report.txt"
-        done
-    fi
     [ ! -f "$1/lines.txt" ] || is "$1" has_lines "$work/out" "$1/lines.txt"
     if [ -f "$1/report.json" ]; then
         run "$work/out" run "$1/world.txt" "$1/script.txt" 1 json
         is "$1 as JSON" same "$work/out" "$1/report.json"
     fi
+}
+
+# compare_workers FOLDER WORKERS: the same with several workers, as far as the order of the ticks does not matter
+compare_workers() {
+    local name="$1 with $2 workers"
+    run "$work/out" run "$1/world.txt" "$1/script.txt" "$2"
+    [ ! -f "$1/error.txt" ] || is "$name" bad_line_told "$1"
+    [ ! -f "$1/report.txt" ] || order_decides "$1" || is "$name" same_state "$work/out" "$1/report.txt"
+    [ ! -f "$1/lines.txt" ] || is "$name" has_lines "$work/out" "$1/lines.txt"
 }
 
 # The program is built here, where it has to be. With no words it only says that they are no command, and ends with 2.
@@ -116,6 +124,8 @@ for example in $(find examples -mindepth 1 -type d ! -path examples/bad ! -path 
         fails "$example" "nothing is stored to compare with"
     else
         compare "$example"
+        compare_workers "$example" 4
+        compare_workers "$example" 8
     fi
 done
 
