@@ -11,3 +11,4 @@ pub mod Dealing
 pub mod FourSeats
 pub mod OneTurn
 pub mod Held
+pub mod Crossing

@@ -1,0 +1,12 @@
+-- the ticks of a worker
+pub mod ToldAgain
+pub mod Asked
+pub mod Going
+pub mod TickSteps
+-- the script
+pub mod LineActions
+pub mod Issuing
+pub mod Carrying
+-- all seats
+pub mod Newcomers
+pub mod Together

@@ -1,0 +1,18 @@
+use Rattle.std.proofs.Common.{◌≡◌, ◌∙◌, sym, ap, arith, List, length}
+use Rattle.std.specs.Vec.Iter.{into_iter_items}
+use Rattle.fol_model.specs.declared.scripts.Command.{Command}
+use Rattle.fol_pool.proofs.Carrying.{carries_end, carries_on, first_limit, has_finished, later_limits}
+use Rattle.fol_pool.proofs.Going.{back_self, back_then, same_self, same_then}
+use Rattle.fol_pool.proofs.lead.carry_out.Goals as goal
+
+pub loop-command-init : goal.loop-command-init
+loop-command-init g c =
+    let gives = c.into_iter-command-iterator.ensures.into_iter_gives in
+    let same = gives.0 in
+    record {
+      same = same_self c.args.caller.now;
+      worker = back_self c.args.worker c.requires.works;
+      counted = gives.1 ∙ c.args.commands.ok.0 ∙ ap length (sym gives.0);
+      carries = rw same c.requires.starts;
+      limits = rw same c.requires.limits;
+    }

@@ -1,0 +1,3 @@
+pub mod Works
+pub mod Script
+pub mod Team

@@ -1,0 +1,107 @@
+//! How long a seat stays away that found nothing to do, or the lock crowded.
+//!
+//! The lock serves in order, so each thread that draws a ticket and does not run holds up all behind it. A thread therefore draws one
+//! only where something may come of it: after a miss it stays away, longer each time, and a worker that meets others in the lock again
+//! and again leaves the ticks to them for a while. Nothing that a run promises depends on the numbers here.
+
+use std::hint::spin_loop;
+use std::sync::Wait;
+use std::thread::{Parker, yield_now};
+use std::time::Duration;
+
+/// How many misses in a row are met by spinning, and how many, with these, before the first sleep.
+const SPINS: u32 = 4;
+
+const AWAKE: u32 = 8;
+
+/// How long the first sleep takes.
+const SLEEP_MICROS: u64 = 20;
+
+/// How often the sleep of a worker may double, and that of the thread that waits for the end of a phase.
+const WORKER_DOUBLINGS: u32 = 8;
+
+const CALLER_DOUBLINGS: u32 = 1;
+
+/// How many seats may be in the lock before a worker stays away at once.
+const BEARABLE_CROWD: u64 = 1;
+
+/// How much pressure a worker bears before it stays away from any crowd, and how much it remembers at most.
+const BEARABLE_PRESSURE: u32 = 8;
+
+const MOST_PRESSURE: u32 = 40;
+
+/// What a seat remembers of how often it came in vain.
+#[derive(Drop)]
+pub(crate) struct Patience {
+    /// How many misses there were in a row.
+    misses: u32,
+    /// How much more often others were in the lock, of late, than not.
+    pressure: u32,
+    doublings: u32,
+    parker: Parker,
+}
+
+impl Patience {
+    /// Of a worker on a thread of its own.
+    pub(crate) fn of_worker() -> Patience {
+        Patience::new(WORKER_DOUBLINGS)
+    }
+
+    /// Of the thread that waits for the end of a phase.
+    pub(crate) fn of_caller() -> Patience {
+        Patience::new(CALLER_DOUBLINGS)
+    }
+
+    fn new(doublings: u32) -> Patience {
+        Patience {
+            misses: 0,
+            pressure: 0,
+            doublings,
+            parker: Parker::new(),
+        }
+    }
+
+    /// There was something to do, so the next miss is met by a short stay; but under pressure by a long one.
+    pub(crate) fn found(&mut self) {
+        self.misses = if self.pressure > BEARABLE_PRESSURE {
+            AWAKE.saturating_add(self.pressure / 4)
+        } else {
+            0
+        };
+    }
+
+    /// There was nothing to do, or no room to do it: stays away, longer each time.
+    pub(crate) fn step_back<R: Wait>(&mut self, rt: &R) {
+        self.misses = self.misses.saturating_add(1);
+        if self.misses <= SPINS {
+            spin();
+        } else if self.misses <= AWAKE {
+            yield_now();
+        } else {
+            self.sleep(rt, self.misses - AWAKE - 1);
+        }
+    }
+
+    /// Whether so many seats in the lock are too many: more than bearable at once, or others there again and again.
+    pub(crate) fn is_crowded(&mut self, crowd: u64) -> bool {
+        if crowd == 0 {
+            self.pressure = self.pressure.saturating_sub(1);
+            return false;
+        }
+        self.pressure = self.pressure.saturating_add(1).min(MOST_PRESSURE);
+        crowd > BEARABLE_CROWD || self.pressure > BEARABLE_PRESSURE
+    }
+
+    /// Sleeps, where each doubling makes it twice as long, up to a limit.
+    fn sleep<R: Wait>(&self, rt: &R, doublings: u32) {
+        let micros = SLEEP_MICROS.wrapping_shl(doublings.min(self.doublings));
+        self.parker.park_timeout(rt, Duration::from_micros(micros));
+    }
+}
+
+/// A short stay.
+fn spin() {
+    for _ in 0..64 {
+        spin_loop();
+    }
+}
