@@ -1,10 +1,10 @@
 -- The seats of a world and the seats of its lock.
-use Rattle.std.proofs.Common.{◌≡◌, ℕ, zero, suc, ◌<◌, refl, sym, ◌∙◌, ap, subst, List, [], ◌∷◌, ◌++◌, length, map, arith, append_assoc, append-nil, Option, Some, Contains, All}
+use Rattle.std.proofs.Common.{◌≡◌, ℕ, zero, suc, ◌<◌, refl, sym, ◌∙◌, ap, subst, List, [], ◌∷◌, ◌++◌, length, map, arith, append-nil, Some, Contains, All}
 use Rattle.std.specs.Prelude.{slice_get}
 use Rattle.std.specs.Option.{unwrap_or}
 use Rattle.std.specs.List.{AllByRecursion}
-use Rattle.std.proofs.lemmas.List.{length-map, map-append}
-use Rattle.std.proofs.lemmas.List.Elements.{All-nil, All-cons, All-head, All-tail, All-append, All-from_recursion, recursion_from_All}
+use Rattle.std.proofs.lemmas.List.{length-map}
+use Rattle.std.proofs.lemmas.List.Elements.{All-nil, All-cons, All-head, All-tail}
 use Rattle.std.proofs.lemmas.Option.{slice_get-map}
 use Rattle.fol_model.specs.declared.openings.Opening.{Opening}
 use Rattle.fol_model.specs.declared.closings.Closing.{Closing}
@@ -13,7 +13,7 @@ use Rattle.fol_core.specs.Meaning.{Meaning}
 use Rattle.fol_lock.specs.Seat.{AreNew, Continues, IsIdle, LockId}
 use Rattle.fol_lock.specs.Seat as locks
 use Rattle.fol_live.specs.Seat.{HasFront, Shown}
-use Rattle.fol_live.specs.Seats.{AreNewSeats, AreOf, ClosesAll, ClosingFault, Knows, newcomer, numbers_of}
+use Rattle.fol_live.specs.Seats.{AreNewSeats, AreOf, ClosesAll, ClosingFault, Knows, numbers_of}
 use Rattle.std.specs.Prelude.{Result, Ok, Err, IfOk, IfErr, OnOk, false}
 use Rattle.fol_model.specs.Counting.{some_below}
 use Rattle.fol_model.specs.Outputs.{Outputs}

@@ -1,5 +1,5 @@
 -- Four seats with the numbers 0 to 3 are all seats of a world of four.
-use Rattle.std.proofs.Common.{◌≡◌, ℕ, zero, suc, arith, List, [], ◌∷◌}
+use Rattle.std.proofs.Common.{◌≡◌, zero, suc, arith, List, [], ◌∷◌}
 use Rattle.fol_live.specs.Seat.{Shown}
 use Rattle.fol_live.specs.Seats.{AreAllSeats}
 

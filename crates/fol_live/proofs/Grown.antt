@@ -1,5 +1,5 @@
 -- How each call of a core lengthens its history.
-use Rattle.std.proofs.Common.{◌≡◌, ℕ, refl, sym, ◌∙◌, List, [], ◌∷◌, ◌++◌}
+use Rattle.std.proofs.Common.{◌≡◌, ℕ, refl, sym, ◌∙◌, [], ◌∷◌}
 use Rattle.std.specs.Prelude.{Result, Ok, Err, IfOk, OnErr}
 use Rattle.std.specs.declared.alloc.AllocError.{AllocError}
 use Rattle.std.proofs.lemmas.List.{append-nil}
@@ -9,7 +9,7 @@ use Rattle.fol_model.specs.declared.events.Entry.{Entry}
 use Rattle.fol_model.specs.declared.events.Event.{Event}
 use Rattle.fol_model.specs.declared.events.Loaded.{Loaded}
 use Rattle.fol_model.specs.declared.events.Loaded.TheVariants as loads
-use Rattle.fol_core.specs.Meaning.{Meaning, Records, Stays, Unchanged}
+use Rattle.fol_core.specs.Meaning.{Meaning, Records, Stays}
 use Rattle.std.specs.Prelude.{OnOk, Bool, true, false}
 use Rattle.fol_model.specs.declared.events.Unloaded.{Unloaded}
 use Rattle.fol_model.specs.declared.events.Unloaded.TheVariants as unloads

@@ -1,5 +1,5 @@
 -- From the Begin of a seat's tick to its release.
-use Rattle.std.proofs.Common.{◌≡◌, ℕ, refl, sym, ◌∙◌, true, false, List, [], ◌∷◌}
+use Rattle.std.proofs.Common.{◌≡◌, ℕ, refl, sym, ◌∙◌, false, List, [], ◌∷◌}
 use Rattle.std.specs.Prelude.{Ok}
 use Rattle.std.specs.List.{AllByRecursion}
 use Rattle.fol_model.specs.declared.events.Entry.{Entry}
@@ -10,7 +10,6 @@ use Rattle.fol_tick.specs.Calls.{HostCall, loaded, unloaded}
 use Rattle.fol_tick.specs.Runs.{Finishes, MayRun}
 use Rattle.fol_tick_laws.proofs.OpenTicks.{may_run_open, opens, out_when_run}
 use Rattle.fol_live.specs.declared.answers.LiveBegin.TheVariants.{Got}
-use Rattle.fol_live.specs.Busy.{is_busy}
 use Rattle.fol_live.specs.Calls.{Begins}
 use Rattle.fol_live.specs.Goes.{Serves, entries_of}
 use Rattle.fol_live.specs.Held.{HoldsRun, HoldsTick}

@@ -1,5 +1,5 @@
 -- What a turn adds to what its seat knows, by what the core recorded in it.
-use Rattle.std.proofs.Common.{◌≡◌, ◌∙◌, ap, List, [], ◌∷◌, ◌++◌, append_assoc}
+use Rattle.std.proofs.Common.{◌∙◌, ap, List, [], ◌∷◌, ◌++◌, append_assoc}
 use Rattle.fol_model.specs.declared.events.Event.{Event}
 use Rattle.fol_model.specs.declared.events.Entry.{Entry}
 use Rattle.fol_core.specs.Meaning.{Records, Stays}

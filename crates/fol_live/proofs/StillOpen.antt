@@ -1,16 +1,15 @@
 -- A tick of a seat stays open, whatever other seats record.
 use Rattle.std.proofs.Common.{◌≡◌, ℕ, refl, sym, ◌∙◌, ap, subst, true, false, inl, inr, List, [], ◌∷◌, ◌++◌, append_assoc, length}
-use Rattle.std.specs.Prelude.{◌≢◌, nat_eq}
+use Rattle.std.specs.Prelude.{nat_eq}
 use Rattle.std.specs.List.{AllByRecursion}
-use Rattle.std.proofs.lemmas.Bool.{cases_eq, eq-eqb, ne_eqb}
-use Rattle.std.proofs.lemmas.List.{append-nil}
+use Rattle.std.proofs.lemmas.Bool.{cases_eq, eq-eqb}
 use Rattle.fol_model.specs.declared.openings.Opening.{Opening}
 use Rattle.fol_model.specs.declared.events.Entry.{Entry}
 use Rattle.fol_model.specs.declared.events.Event.TheVariants.{Begin}
 use Rattle.fol_model.specs.GridNumbers.{IsGrid}
 use Rattle.fol_model.specs.OpenTick.{NoEnd, is_end}
 use Rattle.fol_model.specs.World.{start}
-use Rattle.fol_model.specs.Run.{Run, after_all, world}
+use Rattle.fol_model.specs.Run.{Run, world}
 use Rattle.fol_laws.proofs.OwnedRuns.{owned}
 use Rattle.fol_data.specs.declared.tick.Tick.{Tick}
 use Rattle.fol_core.specs.Meaning.{Meaning}

@@ -1,5 +1,5 @@
 -- A tick that is out by what its seat has seen is out when the seat has its turn.
-use Rattle.std.proofs.Common.{◌≡◌, ℕ}
+use Rattle.std.proofs.Common.{◌≡◌}
 use Rattle.fol_data.specs.declared.tick.Tick.{Tick}
 use Rattle.fol_core.specs.Meaning.{Meaning}
 use Rattle.fol_core.specs.Ticks.{IsOut}

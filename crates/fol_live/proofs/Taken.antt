@@ -1,5 +1,5 @@
 -- A turn, from what the lock and the core say of it.
-use Rattle.std.proofs.Common.{◌≡◌, ℕ, refl, sym, ◌∙◌, ap, subst, List, [], ◌∷◌, ◌++◌, length, append_assoc, length-append, arith, Bool, false}
+use Rattle.std.proofs.Common.{◌≡◌, ℕ, refl, sym, ◌∙◌, ap, subst, List, [], ◌∷◌, ◌++◌, length, length-append, arith}
 use Rattle.std.specs.Prelude.{All, Some, Option}
 use Rattle.std.specs.Option.{unwrap_or}
 use Rattle.fol_model.specs.declared.openings.Opening.{Opening}

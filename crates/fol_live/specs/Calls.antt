@@ -1,6 +1,6 @@
 -- What the calls of a shared world do: each is one turn, in which the core did what its own call says. `now` is what the seat shows
 -- while it has the turn, and the words of a core speak of the cores that have just the history that it has seen then, and after.
-use Rattle.std.specs.Prelude.{ℕ, ◌≡◌, List, [], ◌∷◌, ◌++◌, Result, IfOk, IfErr, OnOk, OnErr, length}
+use Rattle.std.specs.Prelude.{ℕ, ◌≡◌, List, Result, IfOk, IfErr, OnOk, OnErr, length}
 use Rattle.std.specs.declared.alloc.AllocError.{AllocError}
 use Rattle.fol_model.specs.declared.places.ChunkPos.{ChunkPos}
 use Rattle.fol_model.specs.declared.events.Entry.{Entry}

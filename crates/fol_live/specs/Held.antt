@@ -1,5 +1,5 @@
 -- A seat that holds a tick.
-use Rattle.std.specs.Prelude.{ℕ, ◌≡◌, true, List, Ok}
+use Rattle.std.specs.Prelude.{◌≡◌, true, List, Ok}
 use Rattle.fol_data.specs.declared.tick.Tick.{Tick}
 use Rattle.fol_tick.specs.Calls.{HostCall}
 use Rattle.fol_tick.specs.Runs.{Finishes, MayRun}

@@ -1,5 +1,5 @@
 -- What a turn adds to what its seat knows.
-use Rattle.std.specs.Prelude.{ℕ, ◌≡◌, List, [], ◌∷◌, ◌++◌}
+use Rattle.std.specs.Prelude.{◌≡◌, List, [], ◌∷◌, ◌++◌}
 use Rattle.fol_model.specs.declared.events.Event.{Event}
 use Rattle.fol_model.specs.declared.events.Entry.{Entry}
 use Rattle.fol_core.specs.Meaning.{Records, Stays}

@@ -1,6 +1,5 @@
 -- One turn of a seat: it waits, has the turn, and gives it back.
-use Rattle.std.specs.Prelude.{ℕ, ◌≡◌, List, [], ◌∷◌, ◌++◌}
-use Rattle.std.specs.List.{AllByRecursion}
+use Rattle.std.specs.Prelude.{◌≡◌, List, [], ◌++◌}
 use Rattle.fol_model.specs.declared.events.Entry.{Entry}
 use Rattle.fol_live.specs.Kept.{Keeps}
 use Rattle.fol_live.specs.Seat.{Shown}

@@ -1,8 +1,8 @@
 -- All seats together tell that the history is legal.
-use Rattle.std.proofs.Common.{◌≡◌, ℕ, ◌≤◌, refl, sym, ◌∙◌, ap, arith, Bool, true, false, inl, inr, List, [], ◌∷◌, ◌++◌, filter, IsTrue, append_assoc}
-use Rattle.std.specs.Prelude.{◌≢◌, nat_eq, nat_le, flat_map, map}
+use Rattle.std.proofs.Common.{◌≡◌, ℕ, ◌≤◌, refl, sym, ◌∙◌, ap, arith, true, false, inl, inr, List, [], ◌∷◌, ◌++◌, IsTrue}
+use Rattle.std.specs.Prelude.{◌≢◌, nat_eq, nat_le}
 use Rattle.std.specs.List.{AllByRecursion, list_all}
-use Rattle.std.proofs.lemmas.Bool.{cases_Bool, cases_eq, true≢false, eq-eqb, ne_eqb, le-leb, and_from}
+use Rattle.std.proofs.lemmas.Bool.{cases_eq, true≢false, eq-eqb, ne_eqb, le-leb, and_from}
 use Rattle.fol_model.specs.declared.openings.Opening.{Opening}
 use Rattle.fol_model.specs.declared.scripts.Command.{Command}
 use Rattle.fol_model.specs.declared.regions.State.TheVariants.{Ticking}
@@ -10,9 +10,9 @@ use Rattle.fol_model.specs.declared.events.Entry.{Entry}
 use Rattle.fol_model.specs.declared.events.Event.{Event}
 use Rattle.fol_model.specs.declared.events.Event.TheVariants.{Load, Unload, Post, PhaseOpen, Begin, End, PhaseClose, Finish, Stop}
 use Rattle.fol_model.specs.GridNumbers.{IsGrid}
-use Rattle.fol_model.specs.World.{World, start}
-use Rattle.fol_model.specs.Run.{Run, RunFrom, Allowed, after, after_all, world}
-use Rattle.fol_model.specs.Legal.{Legal, Order, idle, is_of, order, orders, orders_of, worker_of, WholeTicks}
+use Rattle.fol_model.specs.World.{start}
+use Rattle.fol_model.specs.Run.{Run, RunFrom, after, after_all, world}
+use Rattle.fol_model.specs.Legal.{Legal, Order, idle, is_of, orders, orders_of, worker_of, WholeTicks}
 use Rattle.fol_laws.proofs.WholeRuns.{good_run}
 use Rattle.fol_core.proofs.FinishedRuns.{not_finished}
 use Rattle.fol_seat_laws.specs.Signed.{IsBegunBelow, IsSigned, is_phase, is_call, is_named, is_start, is_stop, own_of}

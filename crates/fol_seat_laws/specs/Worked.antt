@@ -6,7 +6,7 @@ use Rattle.fol_model.specs.declared.scripts.Command.{Command}
 use Rattle.fol_model.specs.declared.events.Event.TheVariants.{Finish}
 use Rattle.fol_model.specs.declared.events.Entry.{Entry}
 use Rattle.fol_model.specs.GridNumbers.{IsGrid}
-use Rattle.fol_model.specs.World.{World, start}
+use Rattle.fol_model.specs.World.{start}
 use Rattle.fol_model.specs.Run.{Run, world}
 use Rattle.fol_model.specs.Legal.{Legal, idle, order, orders}
 use Rattle.fol_seat_laws.specs.Signed.{IsBegunBelow, IsSigned, is_phase, is_call, own_of}

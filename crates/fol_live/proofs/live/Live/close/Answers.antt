@@ -1,11 +1,9 @@
-use Rattle.std.proofs.Common.{◌≡◌, ◌∙◌, sym, ap, refl, subst, length, arith, List, map, ◌++◌, [], ℕ, All, Contains}
-use Rattle.std.specs.Prelude.{IfOk, OnOk}
+use Rattle.std.proofs.Common.{◌≡◌, ◌∙◌, sym, ap, subst, length, List, map, ℕ, Contains}
 use Rattle.std.specs.Vec.Iter.{into_iter_items}
 use Rattle.fol_core.specs.Meaning.{Meaning}
-use Rattle.fol_lock.specs.Lock.{seat_count}
 use Rattle.fol_live.specs.Lives.{live_id}
 use Rattle.fol_live.specs.Seat.{Shown}
-use Rattle.fol_live.specs.Seats.{AreAllSeats, ClosesAll, numbers_of}
+use Rattle.fol_live.specs.Seats.{numbers_of}
 use Rattle.fol_live.proofs.Dealing.{all_idle, all_taken, are_of, closes_all, closing_fault, same_numbers}
 use Rattle.fol_live.proofs.Taken.{view}
 use Rattle.fol_live.proofs.live.Live.close.Goals as goal

@@ -1,5 +1,4 @@
 use Rattle.std.proofs.Common.{◌≡◌, ◌∙◌, sym, ap, subst, length}
-use Rattle.fol_model.specs.declared.events.Event.{Event}
 use Rattle.fol_core.specs.Answers.{end_event}
 use Rattle.fol_core.specs.Ticks.{IsOut}
 use Rattle.fol_core.specs.Meaning.{Meaning, world_of}

@@ -1,10 +1,5 @@
-use Rattle.std.proofs.Common.{◌≡◌, ◌∙◌, sym, ap, refl, subst, length, arith, List, map, ◌++◌, [], vec_len}
-use Rattle.std.specs.List.{AllByRecursion}
+use Rattle.std.proofs.Common.{◌≡◌, ◌∙◌, sym, ap, refl, length, arith, List, map}
 use Rattle.std.specs.Vec.Iter.{into_iter_items}
-use Rattle.fol_model.specs.declared.openings.Opening.{Opening}
-use Rattle.fol_lock.specs.Seat.{AreNew}
-use Rattle.fol_live.specs.Seat.{Shown}
-use Rattle.fol_live.specs.Seats.{AreNewSeats}
 use Rattle.fol_live.proofs.Dealing.{all_dealt, new_fresh, new_seats}
 use Rattle.fol_live.proofs.Taken.{SeatOfLock, view}
 use Rattle.fol_live.proofs.live.Live.start.Goals as goal
