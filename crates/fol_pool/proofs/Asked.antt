@@ -15,7 +15,7 @@ use Rattle.fol_model.specs.declared.tasks.Task.{Task}
 use Rattle.fol_model.specs.declared.tasks.Ran.{Ran}
 use Rattle.fol_model.specs.World.{World}
 use Rattle.fol_model.specs.Run.{after}
-use Rattle.fol_model.specs.Legal.{Doing, ticking, load_outcome, unload_outcome, worker_of}
+use Rattle.fol_model.specs.Legal.{ticking, load_outcome, unload_outcome}
 use Rattle.fol_tick.specs.Calls.{HostCall, action_called, outcome_of_load, outcome_of_unload, told}
 use Rattle.fol_tick.specs.Calls as calls
 use Rattle.fol_seat_laws.specs.Signed.{IsSelfBegun, IsSigned, own_of}

@@ -1,6 +1,5 @@
 -- How a worker's seat goes on.
-use Rattle.std.proofs.Common.{◌≡◌, ℕ, ◌≤◌, refl, sym, ◌∙◌, ap, subst, inl, inr, Bool, true, false, List, [], ◌∷◌, ◌++◌}
-use Rattle.std.specs.Prelude.{◌||◌}
+use Rattle.std.proofs.Common.{◌≡◌, ℕ, refl, sym, ◌∙◌, inl, inr, Bool, true, false, List, [], ◌∷◌, ◌++◌}
 use Rattle.std.specs.List.{AllByRecursion}
 use Rattle.std.proofs.lemmas.Bool.{cases_Bool, or_cases, true≢false}
 use Rattle.std.proofs.lemmas.List.{append-nil}
@@ -8,13 +7,13 @@ use Rattle.fol_lock.proofs.Logs.{given_by-append}
 use Rattle.fol_model.specs.declared.openings.Opening.{Opening}
 use Rattle.fol_model.specs.declared.events.Entry.{Entry}
 use Rattle.fol_model.specs.declared.events.Event.TheVariants as events
-use Rattle.fol_model.specs.World.{World, start}
-use Rattle.fol_model.specs.Run.{after, after_all, world}
+use Rattle.fol_model.specs.World.{start}
+use Rattle.fol_model.specs.Run.{after_all, world}
 use Rattle.fol_model.specs.Legal.{Doing, idle}
 use Rattle.fol_laws.proofs.LongerRuns.{world_more}
-use Rattle.fol_core.specs.Answers.{is_over, StopRecords}
+use Rattle.fol_core.specs.Answers.{is_over}
 use Rattle.fol_core.specs.Meaning.{world_of}
-use Rattle.fol_seat_laws.specs.Signed.{IsSelfBegun, IsSigned, is_phase, own_of}
+use Rattle.fol_seat_laws.specs.Signed.{IsSelfBegun, IsSigned, is_phase}
 use Rattle.fol_seat_laws.specs.Turns.{Turns}
 use Rattle.fol_seat_laws.proofs.Stopping.{after_both, all_running}
 use Rattle.fol_seat_laws.proofs.Turning.{others_begin_none, turns_both, turns_past_all}

@@ -1,7 +1,6 @@
 -- What the caller's seat does by one call.
-use Rattle.std.proofs.Common.{◌≡◌, ℕ, refl, ◌∙◌, true, List, [], ◌∷◌, ◌++◌}
-use Rattle.std.specs.Prelude.{◌≢◌, Result, Ok}
-use Rattle.std.specs.declared.alloc.AllocError.{AllocError}
+use Rattle.std.proofs.Common.{◌≡◌, ℕ, refl, ◌∙◌, true, [], ◌∷◌, ◌++◌}
+use Rattle.std.specs.Prelude.{◌≢◌, Ok}
 use Rattle.fol_model.specs.declared.actions.Action.{Action}
 use Rattle.fol_model.specs.declared.events.Accept.TheVariants as accepts
 use Rattle.fol_model.specs.declared.events.Entry.{Entry}
@@ -15,14 +14,11 @@ use Rattle.fol_model.specs.declared.places.ChunkPos.{ChunkPos}
 use Rattle.fol_model.specs.declared.scripts.Command.{Command}
 use Rattle.fol_model.specs.declared.scripts.Command.TheVariants as commands
 use Rattle.fol_model.specs.Legal.{order, orders_of}
-use Rattle.fol_core.specs.declared.answers.Close.{Close}
 use Rattle.fol_core.specs.declared.answers.Close.TheVariants as closes
-use Rattle.fol_core.specs.declared.answers.Finish.{Finish}
 use Rattle.fol_core.specs.declared.answers.Finish.TheVariants as finishes
 use Rattle.fol_core.specs.declared.answers.Posting.{Posting}
 use Rattle.fol_core.specs.declared.answers.Posting.TheVariants as postings
 use Rattle.fol_seat_laws.specs.Signed.{is_call}
-use Rattle.fol_live.specs.declared.answers.LivePhase.{LivePhase}
 use Rattle.fol_live.specs.declared.answers.LivePhase.TheVariants as phases
 use Rattle.fol_live.specs.Calls.{Closes, Finishes, Loads, Opens, Posts, Turn, Unloads}
 use Rattle.fol_live.specs.Goes.{Goes, goes_both}

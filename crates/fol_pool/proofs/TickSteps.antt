@@ -1,6 +1,6 @@
 -- A tick of a worker, from its Begin to its End.
-use Rattle.std.proofs.Common.{◌≡◌, ℕ, ◌≤◌, refl, sym, ◌∙◌, ap, subst, inl, inr, Bool, true, false, List, [], ◌∷◌, ◌++◌, filter, length}
-use Rattle.std.specs.Prelude.{◌+◌, nat_eq, Result, Ok, Err, IfOk, OnErr}
+use Rattle.std.proofs.Common.{◌≡◌, ℕ, refl, sym, ◌∙◌, Bool, true, false, List, [], ◌∷◌, ◌++◌, filter, length}
+use Rattle.std.specs.Prelude.{◌+◌, nat_eq, Result, Ok, Err}
 use Rattle.std.specs.List.{AllByRecursion, list_any}
 use Rattle.std.specs.declared.alloc.AllocError.{AllocError}
 use Rattle.std.proofs.lemmas.Bool.{eq-eqb}
@@ -13,9 +13,9 @@ use Rattle.fol_model.specs.declared.tasks.Ran.{Ran}
 use Rattle.fol_model.specs.declared.events.Accept.{Accept}
 use Rattle.fol_model.specs.End.{answers, run_down, ticked}
 use Rattle.fol_model.specs.QueuedTask.{begun}
-use Rattle.fol_model.specs.World.{World, due, start}
-use Rattle.fol_model.specs.Run.{after, after_all, world}
-use Rattle.fol_model.specs.Legal.{Doing, asking, idle, ticking, worker_of}
+use Rattle.fol_model.specs.World.{due, start}
+use Rattle.fol_model.specs.Run.{world}
+use Rattle.fol_model.specs.Legal.{asking, idle, ticking}
 use Rattle.fol_laws.proofs.OutcomeLaws.{due_tasks_rise}
 use Rattle.fol_chunks.specs.Contents.{flat_of, is_recorded}
 use Rattle.fol_data.specs.declared.tick.Tick.{Tick}
@@ -23,11 +23,11 @@ use Rattle.fol_tick.specs.Calls.{HostCall, hosted, told}
 use Rattle.fol_tick.specs.Calls as calls
 use Rattle.fol_tick.specs.Runs.{Finishes}
 use Rattle.fol_core.specs.Answers.{end_event}
-use Rattle.fol_core.specs.Meaning.{Meaning, world_of}
+use Rattle.fol_core.specs.Meaning.{world_of}
 use Rattle.fol_core.specs.Ticks.{IsBegun, IsTick}
 use Rattle.fol_tick_laws.proofs.BegunTicks.{due_is}
 use Rattle.fol_tick_laws.proofs.FinishedTicks.{all_ran, all_served}
-use Rattle.fol_seat_laws.specs.Signed.{is_phase, own_of}
+use Rattle.fol_seat_laws.specs.Signed.{is_phase}
 use Rattle.fol_seat_laws.specs.Turns.{Turns}
 use Rattle.fol_seat_laws.proofs.Turning.{turned, turns_both, turns_more}
 use Rattle.fol_live.specs.Busy.{busy_after, is_busy}
@@ -41,7 +41,7 @@ use Rattle.fol_live.proofs.Held.{held, run_out}
 use Rattle.fol_live.proofs.Hosted.{goes_still, goes_turn}
 use Rattle.fol_pool.specs.Works.{Calm, HasRun, Holds, SameSeat, Works}
 use Rattle.fol_pool.proofs.Asked.{turns_asked}
-use Rattle.fol_pool.proofs.Going.{begun_rest, calm_goes, goes_looks, same_goes, signed_rest, stopped_before, stopped_to, turns_still, turns_to, works_still}
+use Rattle.fol_pool.proofs.Going.{begun_rest, calm_goes, goes_looks, signed_rest, stopped_before, stopped_to, turns_still, turns_to, works_still}
 use Rattle.fol_pool.proofs.ToldAgain.{told_again}
 
 -- ---- the Begin

@@ -1,19 +1,18 @@
 -- All seats together, when the world is closed.
-use Rattle.std.proofs.Common.{◌≡◌, ℕ, zero, suc, ◌+◌, ◌<◌, ◌≤◌, refl, sym, ◌∙◌, ap, subst, true, inl, inr, List, [], ◌∷◌, ◌++◌, length, map, arith, append_assoc, append-nil, All, Contains}
+use Rattle.std.proofs.Common.{◌≡◌, ℕ, zero, suc, ◌+◌, ◌<◌, ◌≤◌, refl, sym, ◌∙◌, ap, subst, true, inl, inr, List, [], ◌∷◌, ◌++◌, length, arith, append_assoc, append-nil, All, Contains}
 use Rattle.std.specs.Prelude.{Bool, Result, Ok, Err, IfOk, OnOk}
 use Rattle.std.specs.List.{AllByRecursion}
 use Rattle.std.proofs.lemmas.Bool.{cases_eq}
 use Rattle.std.proofs.lemmas.List.{map-append}
 use Rattle.std.proofs.lemmas.List.Elements.{All-contains, All-from_recursion, Contains-append_left, Contains-append_right, Contains-push, recursion_from_All}
 use Rattle.fol_lock.specs.Seat.{LockId}
-use Rattle.fol_lock.specs.Log.{StartsWith}
 use Rattle.fol_lock.proofs.Logs.{given_by-append}
 use Rattle.fol_model.specs.declared.closings.Closing.{Closing}
 use Rattle.fol_model.specs.declared.events.Entry.{Entry}
 use Rattle.fol_model.specs.declared.events.Event.TheVariants as events
 use Rattle.fol_model.specs.declared.openings.Opening.{Opening}
 use Rattle.fol_model.specs.declared.scripts.Command.{Command}
-use Rattle.fol_model.specs.Legal.{Legal, order, orders}
+use Rattle.fol_model.specs.Legal.{Legal, orders}
 use Rattle.fol_model.specs.Outputs.{Outputs}
 use Rattle.fol_seat_laws.specs.Signed.{IsBegunBelow, IsSelfBegun, own_of}
 use Rattle.fol_seat_laws.specs.Worked.{Called, Worked}
@@ -24,7 +23,6 @@ use Rattle.fol_live.specs.Seats.{AreAllSeats, ClosesAll, Knows, newcomer, number
 use Rattle.fol_pool.specs.Script.{HasFinished}
 use Rattle.fol_pool.specs.Team.{AreBack}
 use Rattle.fol_pool.specs.Works.{IsBack, SameSeat}
-use Rattle.fol_pool.proofs.Going.{all_behind, all_both}
 use Rattle.fol_pool.proofs.Newcomers.{NewFrom}
 
 append_cancel : (xs ys zs : List Entry) → xs ++ ys ≡ xs ++ zs → ys ≡ zs

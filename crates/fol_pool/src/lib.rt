@@ -14,8 +14,6 @@ mod patience;
 mod phase;
 mod script;
 mod team;
-#[cfg(test)]
-mod tests;
 mod tick;
 mod work;
 

@@ -1,5 +1,4 @@
-use Rattle.std.proofs.Common.{◌≡◌, sym, ◌∙◌}
-use Rattle.fol_model.specs.declared.events.Loaded.TheVariants as loads
+use Rattle.std.proofs.Common.{sym, ◌∙◌}
 use Rattle.fol_pool.proofs.Issuing.{issued_load}
 use Rattle.fol_pool.proofs.commands.load.Goals as goal
 

@@ -1,5 +1,4 @@
-use Rattle.std.proofs.Common.{◌≡◌, sym, ◌∙◌}
-use Rattle.fol_core.specs.declared.answers.Posting.TheVariants as postings
+use Rattle.std.proofs.Common.{sym, ◌∙◌}
 use Rattle.fol_pool.proofs.Issuing.{issued_post}
 use Rattle.fol_pool.proofs.commands.post.Goals as goal
 

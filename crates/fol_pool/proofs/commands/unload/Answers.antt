@@ -1,5 +1,4 @@
-use Rattle.std.proofs.Common.{◌≡◌, sym, ◌∙◌}
-use Rattle.fol_model.specs.declared.events.Unloaded.TheVariants as unloads
+use Rattle.std.proofs.Common.{sym, ◌∙◌}
 use Rattle.fol_pool.proofs.Issuing.{issued_unload}
 use Rattle.fol_pool.proofs.commands.unload.Goals as goal
 

@@ -1,8 +1,5 @@
-use Rattle.std.proofs.Common.{◌≡◌, ◌∙◌, sym, ap, arith, List, length}
-use Rattle.std.specs.Vec.Iter.{into_iter_items}
-use Rattle.fol_model.specs.declared.scripts.Command.{Command}
-use Rattle.fol_pool.proofs.Carrying.{carries_end, carries_on, first_limit, has_finished, later_limits}
-use Rattle.fol_pool.proofs.Going.{back_self, back_then, same_self, same_then}
+use Rattle.std.proofs.Common.{◌∙◌, sym, ap, length}
+use Rattle.fol_pool.proofs.Going.{back_self, same_self}
 use Rattle.fol_pool.proofs.lead.carry_out.Goals as goal
 
 pub loop-command-init : goal.loop-command-init

@@ -1,10 +1,7 @@
-use Rattle.std.proofs.Common.{◌≡◌, ◌∙◌, ◌+◌, arith, ℕ, List, length}
+use Rattle.std.proofs.Common.{◌≡◌, ◌∙◌, arith}
 use Rattle.fol_model.specs.GridNumbers.{IsGrid}
-use Rattle.fol_model.specs.declared.openings.Opening.{Opening}
-use Rattle.fol_model.specs.declared.scripts.Command.{Command}
 use Rattle.fol_lock.specs.Seat.{LockId}
 use Rattle.fol_live.specs.Lives.{live_id}
-use Rattle.fol_live.specs.Seat.{Shown}
 use Rattle.fol_live.specs.Seats.{newcomer}
 use Rattle.fol_pool.specs.Works.{SameSeat}
 use Rattle.fol_pool.proofs.Newcomers.{Dealt, all_ready, dealt}

@@ -1,6 +1,4 @@
-use Rattle.std.proofs.Common.{◌≡◌, ◌<◌, ◌∙◌, sym, ap, subst, refl, arith, List, [], ◌∷◌, ◌++◌, length, vec_len}
-use Rattle.fol_live.specs.Seat.{Shown}
-use Rattle.fol_pool.specs.Team.{AreBack}
+use Rattle.std.proofs.Common.{arith}
 use Rattle.fol_pool.specs.Works.{IsBack}
 use Rattle.std.proofs.Crossing.{crosses}
 use borrow.Author.Rules.{rules}
