@@ -23,7 +23,10 @@ const WORKER_DOUBLINGS: u32 = 8;
 const CALLER_DOUBLINGS: u32 = 1;
 
 /// How many seats may be in the lock before a worker stays away at once.
-const BEARABLE_CROWD: u64 = 1;
+const BEARABLE_CROWD: u64 = 2;
+
+/// How many more entries of others a tick that is worth a worker of its own sees than the wait for it.
+const WORTH: u64 = 2;
 
 /// How much pressure a worker bears before it stays away from any crowd, and how much it remembers at most.
 const BEARABLE_PRESSURE: u32 = 8;
@@ -35,7 +38,7 @@ const MOST_PRESSURE: u32 = 40;
 pub(crate) struct Patience {
     /// How many misses there were in a row.
     misses: u32,
-    /// How much more often others were in the lock, of late, than not.
+    /// How much more often, of late, a tick was not worth a worker of its own.
     pressure: u32,
     doublings: u32,
     parker: Parker,
@@ -61,8 +64,22 @@ impl Patience {
         }
     }
 
-    /// There was something to do, so the next miss is met by a short stay; but under pressure by a long one.
+    /// There was something to do, so the next miss is met by a short stay.
     pub(crate) fn found(&mut self) {
+        self.misses = 0;
+    }
+
+    /// A tick was run. Others recorded so many entries from the end of the last one to its begin, and so many more before its own end.
+    ///
+    /// Where others got no further during the tick than while its worker waited to begin it, ticks are so short that all of them wait for
+    /// the lock, and one worker fewer is faster. Under such pressure the next miss is met by a long stay.
+    pub(crate) fn found_beside(&mut self, before: u64, during: u64) {
+        let is_worth = during >= before.saturating_add(WORTH);
+        self.pressure = if is_worth || during == 0 {
+            self.pressure.saturating_sub(2)
+        } else {
+            self.pressure.saturating_add(1).min(MOST_PRESSURE)
+        };
         self.misses = if self.pressure > BEARABLE_PRESSURE {
             AWAKE.saturating_add(self.pressure / 4)
         } else {
@@ -82,14 +99,9 @@ impl Patience {
         }
     }
 
-    /// Whether so many seats in the lock are too many: more than bearable at once, or others there again and again.
-    pub(crate) fn is_crowded(&mut self, crowd: u64) -> bool {
-        if crowd == 0 {
-            self.pressure = self.pressure.saturating_sub(1);
-            return false;
-        }
-        self.pressure = self.pressure.saturating_add(1).min(MOST_PRESSURE);
-        crowd > BEARABLE_CROWD || self.pressure > BEARABLE_PRESSURE
+    /// Whether so many seats in the lock are too many: more than bearable, or under pressure any.
+    pub(crate) fn is_crowded(&self, crowd: u64) -> bool {
+        crowd > BEARABLE_CROWD || (crowd > 0 && self.pressure > BEARABLE_PRESSURE)
     }
 
     /// Sleeps, where each doubling makes it twice as long, up to a limit.

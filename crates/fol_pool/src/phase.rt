@@ -38,7 +38,7 @@ pub(crate) fn end_phase<R: Wait, G: Gate + Sync>(
         let (back, tried) = tick(rt, alloc, live, worker, gate);
         worker = back;
         match tried {
-            Tried::Done => patience.found(),
+            Tried::Done { .. } => patience.found(),
             Tried::Over => return (worker, Err(GivesUp)),
             Tried::Idle => match live.close_phase(rt, caller) {
                 Ok(Close::Closed) => return (worker, Ok(())),

@@ -14,7 +14,8 @@ use std::sync::Wait;
 /// What trying a tick came to.
 #[derive(Clone, Copy)]
 pub(crate) enum Tried {
-    Done,
+    /// A tick was run: its Begin stands at this place of the history, and its End is the last of so many entries.
+    Done { begun: u64, length: u64 },
     /// No region owed a tick.
     Idle,
     /// The history is over, or memory was not found, and the world was stopped.
@@ -80,8 +81,9 @@ fn end<R: Wait>(rt: &R, alloc: Global, live: &Live, mut seat: Seat, tick: Tick) 
     ensures same { SameSeat seat result.0 }
     ensures works { Works result.0 }
 {
+    let begun = tick.begun;
     match live.release(rt, alloc, &mut seat, tick) {
-        Ok(_) => (seat, Tried::Done),
+        Ok(length) => (seat, Tried::Done { begun, length }),
         Err(_) => {
             live.stop(rt, &mut seat);
             (seat, Tried::Over)

@@ -43,10 +43,14 @@ pub(crate) fn work<R: Wait, G: Gate + Sync>(
             patience.step_back(rt);
             continue;
         }
+        let front = seat.front();
         let (back, tried) = tick(rt, alloc, live, seat, gate);
         seat = back;
         match tried {
-            Tried::Done => patience.found(),
+            Tried::Done { begun, length } => patience.found_beside(
+                begun.saturating_sub(front),
+                length.saturating_sub(begun).saturating_sub(2),
+            ),
             Tried::Idle => patience.step_back(rt),
             Tried::Over => return seat,
         }
