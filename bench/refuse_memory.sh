@@ -27,6 +27,8 @@ make_library() {
 #include <stdatomic.h>
 #include <stdio.h>
 #include <stdlib.h>
+#include <sys/syscall.h>
+#include <unistd.h>
 
 extern void *__libc_malloc(size_t);
 extern void *__libc_realloc(void *, size_t);
@@ -61,6 +63,13 @@ __attribute__((destructor)) static void end(void) {
         fprintf(file, "%lu\n", count);
         fclose(file);
     }
+}
+
+/* a program with threads ends by _exit, which runs no destructor */
+void _exit(int status) {
+    end();
+    syscall(SYS_exit_group, status);
+    __builtin_unreachable();
 }
 
 static int refuses(char *caller) {
