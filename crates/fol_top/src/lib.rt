@@ -6,7 +6,7 @@
 //! spell, and the region rules hold at each point of that history.
 //!
 //! The work falls into small parts in the order of a run: `command` reads the words, `inputs` the files, `texts` what the files spell,
-//! or `made` makes the texts, `fol_solo` carries the script out, and `output` writes in the `form` that was asked for. `program` puts
+//! or `made` makes the texts, `fol_pool` carries the script out, and `output` writes in the `form` that was asked for. `program` puts
 //! them together, and `complaint` tells a fault to the sink of errors. The main program serves this crate its files and its standard streams.
 #![tactic(auto)]
 
