@@ -8,6 +8,7 @@ use Rattle.std.specs.Ordering.{nat_cmp}
 use Rattle.std.specs.declared.cmp.Ordering.TheVariants.{Less}
 use Rattle.std.proofs.lemmas.Bool.{cases_Bool, and_parts, leb-true}
 use Rattle.std.proofs.lemmas.List.Folds.{list_any_none}
+use Rattle.std.proofs.Math.IntN.{+ℤ_idr}
 use Rattle.std.proofs.Math.Path.{fun_ext}
 use Rattle.fol_model.specs.declared.places.ChunkPos.{ChunkPos}
 use Rattle.fol_model.specs.declared.places.BlockPos.{BlockPos}
@@ -49,9 +50,12 @@ misfit_stays chunks b h n =
 pub step_stays : (rec : Recorded) (e : Entity) → rec (chunk_of (ahead e.vx e.vz e.at)) ≡ false → e ≡ stepped rec e
 step_stays rec e h = elim (cases_Bool (rec (chunk_of e.at))) [ inl t ↦ rw (t, h) refl | inr t ↦ rw t refl ]
 
-pub step_moves : (rec : Recorded) (e r : Entity) (x z : ℤ) → rec (chunk_of e.at) ≡ true → x ≡ e.at.x +ℤ e.vx → z ≡ e.at.z +ℤ e.vz
-    → r ≡ (if rec (chunk_of (record { x = x; y = e.at.y; z = z })) then record e { at = record { x = x; y = e.at.y; z = z } } else e) → r ≡ stepped rec e
-step_moves rec e r x z t p q h = rw t (rw (p, q) at h)
+pub step_moves : (rec : Recorded) (e r : Entity) (x z : ℤ) → x ≡ e.at.x +ℤ e.vx → z ≡ e.at.z +ℤ e.vz
+    → r ≡ (if rec (chunk_of e.at) && rec (chunk_of (record { x = x; y = e.at.y; z = z })) then record e { at = record { x = x; y = e.at.y; z = z } } else e) → r ≡ stepped rec e
+step_moves rec e r x z p q h = rw (p, q) at h
+
+pub step_stands : (rec : Recorded) (e : Entity) → e.vx ≡ pos 0 → e.vz ≡ pos 0 → e ≡ stepped rec e
+step_stands rec e p q = rw (p, q, +ℤ_idr e.at.x, +ℤ_idr e.at.z) (elim (cases_Bool (rec (chunk_of e.at))) [ inl t ↦ rw t refl | inr t ↦ rw t refl ])
 
 stepped_id : (rec : Recorded) (e : Entity) → (stepped rec e).id ≡ e.id
 stepped_id rec e = elim (cases_Bool (rec (chunk_of e.at) && rec (chunk_of (ahead e.vx e.vz e.at)))) [ inl t ↦ rw t refl | inr t ↦ rw t refl ]

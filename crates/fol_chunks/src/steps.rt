@@ -1,19 +1,19 @@
 //! The movement of entities at the end of a tick.
 
-ghost use Rattle.std.specs.Prelude.{◌≡◌, IsTrue, All, map, if◌then◌else◌};
+ghost use Rattle.std.specs.Prelude.{◌≡◌, ◌&&◌, IsTrue, All, map, if◌then◌else◌};
 ghost use Rattle.fol_model.specs.Geometry.{is_chunk, chunk_of as chunk_around};
 ghost use Rattle.fol_chunks.specs.Contents.{is_recorded};
 ghost use Rattle.fol_chunks.specs.Rows.{stepped};
 
 use fol_keyed::ChunkList;
-use fol_model::{BlockPos, Entity, chunk_of};
+use fol_model::{BlockPos, ChunkPos, Entity, chunk_of};
 
 /// The entity after its movement: ahead by its speed, where it is and stays in recorded chunks.
 fn step(entity: Entity, recorded: &ChunkList) -> Entity
     requires { All (λ c. IsTrue (is_chunk c)) recorded.now.chunks.now }
     ensures { result ≡ stepped (is_recorded recorded.now.chunks.now) entity }
 {
-    if !recorded.has(chunk_of(entity.at)) {
+    if entity.vx == 0 && entity.vz == 0 {
         return entity;
     }
     match (
@@ -33,11 +33,11 @@ fn step(entity: Entity, recorded: &ChunkList) -> Entity
     }
 }
 
-/// The entity at a block, where the block's chunk is recorded.
+/// The entity at a block, where its chunk and the block's are recorded.
 fn moved_to(entity: Entity, at: BlockPos, recorded: &ChunkList) -> Entity
-    ensures { result ≡ (if is_recorded recorded.now.chunks.now (chunk_around at) then record entity { at = at } else entity) }
+    ensures { result ≡ (if is_recorded recorded.now.chunks.now (chunk_around entity.at) && is_recorded recorded.now.chunks.now (chunk_around at) then record entity { at = at } else entity) }
 {
-    if recorded.has(chunk_of(at)) {
+    if has_both(recorded, chunk_of(entity.at), chunk_of(at)) {
         Entity {
             id: entity.id,
             at,
@@ -47,6 +47,13 @@ fn moved_to(entity: Entity, at: BlockPos, recorded: &ChunkList) -> Entity
     } else {
         entity
     }
+}
+
+/// Whether both chunks are recorded. Often they are the same.
+fn has_both(recorded: &ChunkList, here: ChunkPos, there: ChunkPos) -> bool
+    ensures { result ≡ (is_recorded recorded.now.chunks.now here && is_recorded recorded.now.chunks.now there) }
+{
+    recorded.has(here) && (here == there || recorded.has(there))
 }
 
 /// Moves every entity.

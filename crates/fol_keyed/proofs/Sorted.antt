@@ -5,13 +5,13 @@ use Rattle.std.specs.List.{IsDistinct, AllByRecursion, insert, remove, AllWithin
 use Rattle.std.specs.List.Sorted.{IsSortedBy, IsStrictlySortedBy, IsBinarySearchResult, IsSearchInRange, IsPartitionPoint}
 use Rattle.std.specs.Result.{MatchResult}
 use Rattle.std.specs.Cmp.{IsTotalOrder, tied_itself}
-use Rattle.std.specs.Ordering.{is_lt, ordering_reverse}
+use Rattle.std.specs.Ordering.{is_gt, is_lt, ordering_reverse}
 use Rattle.std.specs.declared.cmp.Ordering.{Ordering}
 use Rattle.std.specs.declared.cmp.Ordering.TheVariants.{Less, Equal, Greater}
 use Rattle.std.proofs.lemmas.List.Sorted.{searchable_from_sorted}
 use Rattle.std.proofs.lemmas.Map.Keys.{Less-from_sorted}
 use Rattle.std.proofs.lemmas.Bool.{cases_Bool, ltb-true, ltb-false}
-use Rattle.std.proofs.lemmas.List.{get_or-take, get_or-drop}
+use Rattle.std.proofs.lemmas.List.{get_or-take, get_or-drop, get_or_default}
 use Rattle.std.proofs.lemmas.List.Elements.{All-contains, All-weaker, recursion_from_All}
 use Rattle.fol_keyed.proofs.Keyed.{contains_cases}
 
@@ -21,6 +21,19 @@ turned r s e h = rw (e, h) refl
 
 greater_first : (r s : Ordering) → r ≡ ordering_reverse s → s ≡ Greater → r ≡ Less
 greater_first r s e h = rw (e, h) refl
+
+less_first : (r s : Ordering) → r ≡ ordering_reverse s → s ≡ Less → r ≡ Greater
+less_first r s e h = rw (e, h) refl
+
+lt_is_Less : (r : Ordering) → is_lt r ≡ true → r ≡ Less
+lt_is_Less Less h = refl
+lt_is_Less Equal h = cc
+lt_is_Less Greater h = cc
+
+gt_is_Greater : (r : Ordering) → is_gt r ≡ true → r ≡ Greater
+gt_is_Greater Less h = cc
+gt_is_Greater Equal h = cc
+gt_is_Greater Greater h = refl
 
 module _ {X : Type 0} (P : X → Type 0) where
   front_all : (xs : List X) (i : ℕ) → i ≤ length xs → AllWithin P xs 0 i → All P (take i xs)
@@ -143,3 +156,28 @@ module _ {X K : Type 0} (key : X → K) (cmp : K → K → Ordering) (o : IsTota
         | inl t ↦ let w : cmp (key x) k ≡ Less = ap (λ (z : X). cmp (key z) k) (sym e) ∙ p.0 j x (omega arith) (ltb-true j i t) in cc
         | inr t ↦ let w : cmp (key x) k ≡ Greater = ap (λ (z : X). cmp (key z) k) (sym e) ∙ p.1 j x (ltb-false j i t) l in cc
       ]
+
+  -- what stands up to one that is below a key is below it too
+  pub all_below : (xs : List X) (i : ℕ) (d : X) (k : K) → IsStrictlySortedBy by_key xs → i < length xs → is_lt (cmp (key (get_or xs i d)) k) ≡ true → AllWithin (λ x. cmp (key x) k ≡ Less) xs 0 (i + 1)
+  all_below xs i d k s l h = λ j e m n.
+      elim (cases_Bool (nat_lt j i)) [
+        | inl t ↦ o.trans (key (get_or xs j e)) (key (get_or xs i e)) k (Less-from_sorted by_key xs j i e s (ltb-true j i t) l) (at_default e)
+        | inr t ↦ let same : j ≡ i = omega (arith, ltb-false j i t) in rw same (at_default e)
+      ]
+    where
+      at_default : (e : X) → cmp (key (get_or xs i e)) k ≡ Less
+      at_default e = rw (get_or_default xs i e d l) (lt_is_Less (cmp (key (get_or xs i d)) k) h)
+
+  -- what stands from one on that is above a key is above it too
+  pub all_above : (xs : List X) (i : ℕ) (d : X) (k : K) → IsStrictlySortedBy by_key xs → i < length xs → is_gt (cmp (key (get_or xs i d)) k) ≡ true → AllWithin (λ x. cmp (key x) k ≡ Greater) xs i (length xs)
+  all_above xs i d k s l h = λ j e m n.
+      elim (cases_Bool (nat_lt i j)) [
+        | inl t ↦ above (key (get_or xs j e)) (key (get_or xs i e)) (Less-from_sorted by_key xs i j e s (ltb-true i j t) n) (at_default e)
+        | inr t ↦ let same : j ≡ i = omega (arith, ltb-false i j t) in rw same (at_default e)
+      ]
+    where
+      at_default : (e : X) → cmp (key (get_or xs i e)) k ≡ Greater
+      at_default e = rw (get_or_default xs i e d l) (gt_is_Greater (cmp (key (get_or xs i d)) k) h)
+
+      above : (a b : K) → cmp b a ≡ Less → cmp b k ≡ Greater → cmp a k ≡ Greater
+      above a b p q = less_first (cmp a k) (cmp k a) (o.antisymm a k) (o.trans k b a (greater_first (cmp k b) (cmp b k) (o.antisymm k b) q) p)

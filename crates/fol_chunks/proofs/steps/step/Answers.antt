@@ -1,16 +1,20 @@
-use Rattle.std.proofs.Common.{◌≡◌, true, sym, ◌∙◌, ap, inl, inr, rules, w32}
+use Rattle.std.proofs.Common.{◌≡◌, sym, ◌∙◌, ap, rules, to_z, w32}
 use Rattle.std.specs.Prelude.{◌+ℤ◌, FitsSigned}
-use Rattle.std.proofs.lemmas.Bool.{cases_Bool}
 use Rattle.std.proofs.lemmas.Int.{to_z-of_z}
-use Rattle.fol_model.specs.declared.places.ChunkPos.{ChunkPos}
 use Rattle.fol_model.specs.FlatTick.{ahead}
 use Rattle.fol_chunks.specs.Contents.{is_recorded}
-use Rattle.fol_chunks.proofs.Movement.{step_moves, step_stays, misfit_stays}
+use Rattle.fol_chunks.proofs.Movement.{step_moves, step_stands, step_stays, misfit_stays}
 use Rattle.fol_chunks.proofs.steps.step.Goals as goal
+
+pub returns-then-entity-eq0-2 : goal.returns-then-entity-eq0-2
+returns-then-entity-eq0-2 c =
+    let vx : FitsSigned w32 c.args.entity.vx = search rules in
+    let vz : FitsSigned w32 c.args.entity.vz = search rules in
+    step_stands (is_recorded c.args.recorded.now.chunks.now) c.args.entity
+    (sym (to_z-of_z w32 c.args.entity.vx vx) ∙ ap (to_z w32) c.if-entity-eq0.true) (sym (to_z-of_z w32 c.args.entity.vz vz) ∙ ap (to_z w32) c.if-entity-eq0-2.true)
 
 pub returns-in-Some-Some : goal.returns-in-Some-Some
 returns-in-Some-Some c =
-    let recorded : c.has.result ≡ true = elim (cases_Bool c.has.result) [ inl e ↦ e | inr e ↦ let w = rw e at c.if-not-has.false in cc ] in
     let x : FitsSigned w32 c.args.entity.at.x = search rules in
     let vx : FitsSigned w32 c.args.entity.vx = search rules in
     let z : FitsSigned w32 c.args.entity.at.z = search rules in
@@ -21,8 +25,7 @@ returns-in-Some-Some c =
     let new_x : FitsSigned w32 c.in-Some-Some.x = search rules in
     let new_z : FitsSigned w32 c.in-Some-Some.z = search rules in
     let moved = rw (to_z-of_z w32 c.in-Some-Some.x new_x, to_z-of_z w32 c.args.entity.at.y y, to_z-of_z w32 c.in-Some-Some.z new_z) at c.moved_to.ensures in
-    step_moves (is_recorded c.args.recorded.now.chunks.now) c.args.entity _ c.in-Some-Some.x c.in-Some-Some.z
-    (ap (λ (q : ChunkPos). is_recorded c.args.recorded.now.chunks.now q) (sym c.chunk_of.ensures) ∙ sym c.has.ensures ∙ recorded) sum_x sum_z moved
+    step_moves (is_recorded c.args.recorded.now.chunks.now) c.args.entity _ c.in-Some-Some.x c.in-Some-Some.z sum_x sum_z moved
 
 pub returns-in_default : goal.returns-in_default
 returns-in_default c =

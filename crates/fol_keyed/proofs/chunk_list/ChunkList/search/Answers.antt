@@ -6,7 +6,7 @@ use Rattle.fol_keyed.specs.Order.{chunk_cmp}
 use Rattle.fol_keyed.proofs.Places.{same_chunk-true, same_chunk-self, chunk_cmp_total, chunk_cmp_tells}
 use Rattle.fol_keyed.proofs.Searched.{search_tells}
 use Rattle.fol_keyed.proofs.Sorted.{searched_by}
-use Rattle.fol_keyed.proofs.chunk_list.ChunkList.has.Goals as goal
+use Rattle.fol_keyed.proofs.chunk_list.ChunkList.search.Goals as goal
 
 pub returns : goal.returns
 returns c =
