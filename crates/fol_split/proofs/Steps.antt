@@ -1,6 +1,6 @@
 -- What a pool is after a section was taken, and after several were.
-use Rattle.std.proofs.Common.{◌≡◌, ℕ, zero, suc, ◌+◌, ◌≤◌, ◌<◌, refl, sym, ◌∙◌, ap, arith, Bool, true, false, cond, not, ◌&&◌, ◌||◌, inl, inr, List, [], ◌∷◌, ◌++◌, length, append_assoc, length-append, take, get_or}
-use Rattle.std.specs.Prelude.{ℤ, Some, None}
+use Rattle.std.proofs.Common.{◌≡◌, ℕ, ◌+◌, ◌≤◌, ◌<◌, refl, sym, ◌∙◌, ap, arith, Bool, true, false, cond, not, ◌&&◌, ◌||◌, inl, inr, List, [], ◌∷◌, ◌++◌, length, append_assoc, length-append, take, get_or}
+use Rattle.std.specs.Prelude.{ℤ, Some}
 use Rattle.std.specs.Option.{unwrap_or}
 use Rattle.std.specs.Map.{lookup}
 use Rattle.std.specs.List.{IsDistinct}
@@ -9,7 +9,7 @@ use Rattle.std.specs.Ordering.{int_eq}
 use Rattle.std.proofs.lemmas.Bool.{cases_Bool, and_parts, or_cases, true≢false, not-true}
 use Rattle.std.proofs.lemmas.List.Folds.{list_any-append, list_any_more}
 use Rattle.std.proofs.lemmas.List.Sorted.{list_any-IsPermutation}
-use Rattle.std.proofs.lemmas.Map.Keys.{IsDistinct-IsPermutation, IsDistinct-push, apart_from_distinct, IsDistinct-tail}
+use Rattle.std.proofs.lemmas.Map.Keys.{IsDistinct-IsPermutation, IsDistinct-push}
 use Rattle.std.proofs.lemmas.Map.Made.{length-le_from_is_member}
 use Rattle.fol_model.specs.declared.places.SectionPos.{SectionPos}
 use Rattle.fol_model.specs.Geometry.{same_section, is_among}
@@ -171,45 +171,62 @@ pool_again order found entries after s pool h step = record {
 pub found_few : (order found : List SectionPos) (entries : List ((ℤ × ℤ) × Bool)) → IsPool order found entries → length found ≤ length order
 found_few order found entries pool = length-le_from_is_member same_section_equiv found order pool.distinct pool.within
 
--- a section is none of those before it
-pub fresh : (xs : List SectionPos) (i : ℕ) (d : SectionPos) → IsDistinct same_section xs → i < length xs → is_among (take i xs) (get_or xs i d) ≡ false
-fresh [] i d h l = absurd (omega arith)
-fresh (x ∷ xs) zero d h l = refl
-fresh (x ∷ xs) (suc i) d h l =
-    let e : same_section (get_or xs i d) x ≡ false = same_section-swap (get_or xs i d) x ∙ apart_from_distinct same_section (x ∷ xs) 0 (suc i) d h (omega arith) l in
-    rw e (fresh xs i d (IsDistinct-tail same_section x xs h) (omega arith))
+-- nothing is free where there is no entry
+pub free-none : (entries : List ((ℤ × ℤ) × Bool)) → entries ≡ [] → (t : SectionPos) → is_free entries t ≡ false
+unfolding is_free entry_of
+free-none entries e t = rw e refl
 
--- each of the first i sections has its entry, and no other
-abbrev pub HasFirst : List ((ℤ × ℤ) × Bool) → List SectionPos → ℕ → Type 0
-HasFirst entries sections i = (t : SectionPos) → entry_of entries t ≡ cond (is_among (take i sections) t) (Some true) None
-
--- and so for one more
-pub has_more : (before after : List ((ℤ × ℤ) × Bool)) (sections : List SectionPos) (i : ℕ) (d : SectionPos) → i < length sections → HasFirst before sections i
-    → ((q : ℤ × ℤ) → lookup (λ key. int_eq q.0 key.0 && int_eq q.1 key.1) after
-    ≡ cond (int_eq (get_or sections i d).x q.0 && int_eq (get_or sections i d).z q.1) (Some true) (lookup (λ key. int_eq q.0 key.0 && int_eq q.1 key.1) before))
-    → HasFirst after sections (i + 1)
-unfolding entry_of same_section
-has_more before after sections i d l has step t =
-    let more = list_any_more (same_section t) sections i d l in
-    let swap = same_section-swap t (get_or sections i d) in
-    step (t.x, t.z) ∙ ap (λ o. cond (int_eq (get_or sections i d).x t.x && int_eq (get_or sections i d).z t.z) (Some true) o) (has t)
-    ∙ joined (int_eq (get_or sections i d).x t.x && int_eq (get_or sections i d).z t.z) (is_among (take i sections) t)
-    ∙ ap (λ b. cond b (Some true) None) (sym (more ∙ ap (λ b. is_among (take i sections) t || b) swap))
+-- a write of an entry that says that a section is free
+pub free-put : (before after : List ((ℤ × ℤ) × Bool)) (s : SectionPos)
+    → ((q : ℤ × ℤ) → lookup (λ key. int_eq q.0 key.0 && int_eq q.1 key.1) after ≡ cond (int_eq s.x q.0 && int_eq s.z q.1) (Some true) (lookup (λ key. int_eq q.0 key.0 && int_eq q.1 key.1) before))
+    → (t : SectionPos) → is_free after t ≡ (is_free before t || same_section s t)
+unfolding is_free entry_of same_section
+free-put before after s h t = ap (λ o. unwrap_or o false) (h (t.x, t.z)) ∙ elim (cases_Bool (int_eq s.x t.x && int_eq s.z t.z)) [
+  | inl e ↦ rw e (sym (or_always (unwrap_or (lookup (λ key. int_eq t.x key.0 && int_eq t.z key.1) before) false)))
+  | inr e ↦ rw e (sym (or_never (unwrap_or (lookup (λ key. int_eq t.x key.0 && int_eq t.z key.1) before) false)))
+]
   where
-    joined : (same first : Bool) → cond same (Some true) (cond first (Some true) None) ≡ cond (first || same) (Some true) None
-    joined true true = refl
-    joined true false = refl
-    joined false true = refl
-    joined false false = refl
+    or_always : (b : Bool) → (b || true) ≡ true
+    or_always true = refl
+    or_always false = refl
 
--- then just the sections are free
-pub free_if_first : (entries : List ((ℤ × ℤ) × Bool)) (sections : List SectionPos) (i : ℕ) → HasFirst entries sections i → (t : SectionPos) → is_free entries t ≡ is_among (take i sections) t
-unfolding is_free
-free_if_first entries sections i has t = ap (λ o. unwrap_or o false) (has t) ∙ value (is_among (take i sections) t)
+    or_never : (b : Bool) → (b || false) ≡ b
+    or_never true = refl
+    or_never false = refl
+
+-- one section more is free
+pub one_freed : (before after : List ((ℤ × ℤ) × Bool)) (sections : List SectionPos) (i : ℕ) (d : SectionPos) → i < length sections → ((t : SectionPos) → is_free before t ≡ is_among (take i sections) t)
+    → ((t : SectionPos) → is_free after t ≡ (is_free before t || same_section (get_or sections i d) t)) → (t : SectionPos) → is_free after t ≡ is_among (take (i + 1) sections) t
+one_freed before after sections i d l was step t =
+    step t ∙ ap (λ b. b || same_section (get_or sections i d) t) (was t) ∙ ap (λ b. is_among (take i sections) t || b) (same_section-swap (get_or sections i d) t)
+    ∙ sym (list_any_more (same_section t) sections i d l)
+
+pub none_taken : (b : Bool) → (b && true) ≡ b
+none_taken true = refl
+none_taken false = refl
+
+-- one section more is not free
+pub one_taken : (first before after : List ((ℤ × ℤ) × Bool)) (sections : List SectionPos) (i : ℕ) (d : SectionPos) → i < length sections
+    → ((t : SectionPos) → is_free before t ≡ (is_free first t && not (is_among (take i sections) t)))
+    → ((t : SectionPos) → is_free after t ≡ (is_free before t && not (same_section (get_or sections i d) t))) → (t : SectionPos) → is_free after t ≡ (is_free first t && not (is_among (take (i + 1) sections) t))
+one_taken first before after sections i d l was step t =
+    step t ∙ ap (λ b. b && not (same_section (get_or sections i d) t)) (was t) ∙ ap (λ b. (is_free first t && not (is_among (take i sections) t)) && not b) (same_section-swap (get_or sections i d) t)
+    ∙ both (is_free first t) (is_among (take i sections) t) (same_section t (get_or sections i d))
+    ∙ ap (λ b. is_free first t && not b) (sym (list_any_more (same_section t) sections i d l))
   where
-    value : (b : Bool) → unwrap_or (cond b (Some true) None) false ≡ b
-    value true = refl
-    value false = refl
+    both : (f a b : Bool) → ((f && not a) && not b) ≡ (f && not (a || b))
+    both true true b = refl
+    both true false b = refl
+    both false a b = refl
+
+-- nothing of a pool is free once its sections are taken
+pub none_left : (order found : List SectionPos) (entries after : List ((ℤ × ℤ) × Bool)) → IsPool order found entries → ((t : SectionPos) → is_free after t ≡ (is_free entries t && not (is_among order t))) → (t : SectionPos) → is_free after t ≡ false
+none_left order found entries after pool step t = step t ∙ ap (λ b. b && not (is_among order t)) (pool.free t) ∙ gone (is_among order t) (not (is_among found t))
+  where
+    gone : (a b : Bool) → ((a && b) && not a) ≡ false
+    gone true true = refl
+    gone true false = refl
+    gone false b = refl
 
 -- the same by another test
 pub takes_like : (a b : Taken) (p q : SectionPos → Bool) → Takes a b p → ((s : SectionPos) → q s ≡ p s) → Takes a b q

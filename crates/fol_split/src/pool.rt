@@ -1,6 +1,6 @@
 //! The sections that are to be split, and which of them were taken.
 
-ghost use Rattle.std.specs.Prelude.{◌≡◌, not, ◌&&◌, ◌+◌, ◌<◌, ◌≤◌, IsTrue, IfOk, [], length, take, drop, nat_abs};
+ghost use Rattle.std.specs.Prelude.{◌≡◌, not, ◌&&◌, ◌||◌, false, ◌+◌, ◌<◌, ◌≤◌, IsTrue, IfOk, [], length, take, drop, nat_abs};
 ghost use Rattle.std.specs.List.{All, IsDistinct, slice_index_or};
 ghost use Rattle.std.specs.List.Sorted.{IsStrictlySortedBy, IsPermutation};
 ghost use Rattle.std.specs.HashMap.{hash_map_len, spare};
@@ -19,7 +19,7 @@ use std::marker::Model;
 #[derive(Drop)]
 pub struct Pool {
     order: Vec<SectionPos>,
-    /// Whether the section at `(x, z)` is free. A section that is not in the pool has no entry.
+    /// Whether the section at `(x, z)` is free. A section that is not in the pool has no entry, or one that says that it is not free.
     free: HashMap<(i32, i32), bool>,
     found: Vec<SectionPos>,
 }
@@ -112,16 +112,19 @@ impl Pool {
     }
 
     /// A pool of these sections, of which none was taken.
+    ///
+    /// Costs what was in the pool and what is in it now: entries of other sections stay until room is short.
     pub fn load(&mut self, sections: &[SectionPos])
         requires few { length sections.now ≤ MOST_SECTIONS }
         requires distinct { IsDistinct same_section sections.now }
         ensures { IsLoaded self.new sections.now }
     {
+        take_all(&mut self.free, &self.order);
         self.found.clear();
         self.order.clear();
         let _ = self.order.extend_from_slice(sections);
         sort_tail(&mut self.order, 0);
-        self.free.clear();
+        make_room(&mut self.free, self.order.len());
         free_all(&mut self.free, &self.order);
     }
 
@@ -206,15 +209,52 @@ fn sort_tail(sections: &mut Vec<SectionPos>, start: usize)
     sections[start..].sort_unstable_by_key(|s| (s.z, s.x));
 }
 
-/// Makes each of the sections free in a table of none.
-fn free_all(free: &mut HashMap<(i32, i32), bool>, sections: &[SectionPos])
-    requires empty { free.old.entries ≡ [] }
-    requires room { length sections.now ≤ spare free.old }
-    requires distinct { IsDistinct same_section sections.now }
-    ensures free { (s : SectionPos) → is_free free.new.entries s ≡ is_among sections.now s }
-    ensures room { spare free.old ≤ hash_map_len free.new + spare free.new }
+/// Makes none of the sections free.
+fn take_all(free: &mut HashMap<(i32, i32), bool>, sections: &[SectionPos])
+    ensures after { (t : SectionPos) → is_free free.new.entries t ≡ (is_free free.old.entries t && not (is_among sections.now t)) }
+    ensures room { hash_map_len free.new + spare free.new ≡ hash_map_len free.old + spare free.old }
 {
     for s in sections {
-        let _ = free.insert((s.x, s.z), true);
+        let _ = take_free(free, *s);
+    }
+}
+
+/// Makes room for so many entries more in a table in which nothing is free, if need be by leaving all entries out.
+fn make_room(free: &mut HashMap<(i32, i32), bool>, more: usize)
+    requires none { (s : SectionPos) → is_free free.old.entries s ≡ false }
+    requires room { more ≤ hash_map_len free.old + spare free.old }
+    ensures none { (s : SectionPos) → is_free free.new.entries s ≡ false }
+    ensures room { more ≤ spare free.new }
+    ensures most { hash_map_len free.old + spare free.old ≤ hash_map_len free.new + spare free.new }
+{
+    if free.capacity() - free.len() < more {
+        free.clear();
+    }
+}
+
+/// Makes a section free.
+fn free_one(free: &mut HashMap<(i32, i32), bool>, s: SectionPos)
+    requires { 0 < spare free.old }
+    ensures free { (t : SectionPos) → is_free free.new.entries t ≡ (is_free free.old.entries t || same_section s t) }
+    ensures room { spare free.old ≤ spare free.new + 1 }
+    ensures most { hash_map_len free.old + spare free.old ≤ hash_map_len free.new + spare free.new }
+{
+    match free.get_mut(&(s.x, s.z)) {
+        Some(entry) => *entry = true,
+        None => {
+            let _ = free.insert((s.x, s.z), true);
+        }
+    }
+}
+
+/// Makes each of the sections free in a table in which nothing is.
+fn free_all(free: &mut HashMap<(i32, i32), bool>, sections: &[SectionPos])
+    requires none { (s : SectionPos) → is_free free.old.entries s ≡ false }
+    requires room { length sections.now ≤ spare free.old }
+    ensures free { (s : SectionPos) → is_free free.new.entries s ≡ is_among sections.now s }
+    ensures room { hash_map_len free.old + spare free.old ≤ hash_map_len free.new + spare free.new }
+{
+    for s in sections {
+        free_one(free, *s);
     }
 }
