@@ -1,8 +1,8 @@
 -- Wishes that are accepted while their region still ticks.
-use Rattle.std.proofs.Common.{◌≡◌, ℕ, ◌+◌, ◌≤◌, ◌<◌, ◌^◌, refl, sym, ◌∙◌, ap, arith, true, false, not, inl, inr, List, length}
+use Rattle.std.proofs.Common.{◌≡◌, ℕ, ◌+◌, ◌≤◌, ◌<◌, ◌^◌, refl, sym, ◌∙◌, ap, arith, true, false, inl, inr, List, length}
 use Rattle.std.specs.Prelude.{nat_eq, nat_lt, Option, Some}
 use Rattle.std.proofs.Math.Path.{fun_ext}
-use Rattle.std.proofs.lemmas.Bool.{cases_Bool, eqb-true, ltb-true, and_parts, true≢false}
+use Rattle.std.proofs.lemmas.Bool.{cases_Bool, eqb-true, ltb-true, true≢false}
 use Rattle.fol_model.specs.declared.places.ChunkPos.{ChunkPos}
 use Rattle.fol_model.specs.declared.regions.State.TheVariants.{Ticking}
 use Rattle.fol_model.specs.declared.actions.Action.{Action}
@@ -22,20 +22,20 @@ use Rattle.fol_laws.proofs.TickedBefore.{ticked_before}
 use Rattle.fol_laws.proofs.TickingKept.{Kept, kept_posted}
 use Rattle.fol_regions.specs.Table.{grid_state}
 use Rattle.fol_regions.specs.Changes.{add_change}
-use Rattle.fol_chunks.specs.Contents.{Contents, is_recorded}
+use Rattle.fol_chunks.specs.Contents.{Contents}
 use Rattle.fol_store.specs.Bag.{Bag, disturbed}
 use Rattle.fol_store.specs.Stock.{bag_of, jobs_of, next_of}
 use Rattle.fol_core.specs.declared.tables.Tables.{Tables}
 use Rattle.fol_core.specs.Agenda.{Covers}
 use Rattle.fol_core.specs.Bags.{IsBagOf}
-use Rattle.fol_core.specs.Follows.{CanCover, CanFollow, CanHold, changed_bags, followed}
+use Rattle.fol_core.specs.Follows.{CanCover, CanFollow, CanHold, changed_bags, followed, gaining}
 use Rattle.fol_core.specs.Hands.{at_rest, in_hands, ticker, went}
 use Rattle.fol_core.specs.Underway.{Underway}
-use Rattle.fol_core.proofs.Added.{AddedBags, added_bags, off_owed}
+use Rattle.fol_core.proofs.Added.{AddedBags, added_bags, gained_bags, off_owed}
 use Rattle.fol_core.proofs.GridRuns.{grid_after}
 use Rattle.fol_core.proofs.HandSteps.{hands_same, rest_same}
 use Rattle.fol_core.proofs.Held.{count_most}
-use Rattle.fol_core.proofs.UnsettledBags.{have_bags, known_bag, unsettled_bag}
+use Rattle.fol_core.proofs.UnsettledBags.{have_bags, known_bag}
 
 -- ---- a bag that may have to be gathered anew
 pub disturbed_bag : (g : GridState) (tick owed : ℕ → ℕ) (recorded : ℕ → Recorded) (r : ℕ) (c : ChunkPos) (b : Bag) → IsBagOf g tick owed recorded r b → IsBagOf g tick owed recorded r (disturbed c b)
@@ -44,7 +44,7 @@ disturbed_bag g tick owed recorded r c b is = record {
   taken = is.taken;
   counter = is.counter;
   owes = is.owes;
-  whole = λ d w. is.whole d (and_parts b.whole (not (is_recorded b.chunks c)) w).0;
+  listed = λ d w. is.listed d w;
   out = is.out;
 }
 
@@ -65,9 +65,9 @@ module _ (t : Tables) (v : Contents) (w : World) (since : ℕ → ℕ) (r n : �
   all_bags : AddedBags g (add g c) c (add_change g c) w.owed (owed_after_add g c w.owed) w.tick w.recorded (bag_of t.store)
   all_bags = added_bags g c u.ends.ending.sound.rules u.ends.ending.sound.grid limits w.owed w.tick w.recorded (bag_of t.store) u.midway.stored.bags u.ends.new_ticks
 
-  off_bags : (q : ℕ) → IsBagOf (add g c) w.tick (owed_after_add g c w.owed) w.recorded q (followed home (add_change g c) (bag_of t.store) q)
-  off_bags = unsettled_bag (add g c) w.tick (owed_after_add g c w.owed) w.recorded home (changed_bags (add_change g c) (bag_of t.store))
-      (add_keeps g c u.ends.ending.sound.rules u.ends.ending.sound.grid limits).given all_bags.bags
+  off_bags : (q : ℕ) → IsBagOf (add g c) w.tick (owed_after_add g c w.owed) w.recorded q (followed (gaining g.grid g c) (add_change g c) (bag_of t.store) q)
+  off_bags = gained_bags g (add g c) c (add_change g c) w.owed (owed_after_add g c w.owed) w.tick w.recorded (bag_of t.store) refl all_bags
+      (add_keeps g c u.ends.ending.sound.rules u.ends.ending.sound.grid limits).given
 
   follows : CanFollow t.store (add_change g c) home
   follows = record {
@@ -78,10 +78,10 @@ module _ (t : Tables) (v : Contents) (w : World) (since : ℕ → ℕ) (r n : �
         (all_bags.bags home) ((add_keeps g c u.ends.ending.sound.rules u.ends.ending.sound.grid limits).owner_lives (section_of g.grid c) p);
   }
 
-  can_cover : CanCover t.agenda.items (add g c) (add_change g c) (followed home (add_change g c) (bag_of t.store))
+  can_cover : CanCover t.agenda.items (add g c) (add_change g c) (followed (gaining g.grid g c) (add_change g c) (bag_of t.store))
   can_cover = record {
-    bags = have_bags (add g c) w.tick (owed_after_add g c w.owed) w.recorded (followed home (add_change g c) (bag_of t.store)) off_bags;
-    covers = λ q x. let e = off_owed home (changed_bags (add_change g c) (bag_of t.store)) q in all_bags.covers t.agenda.items u.midway.covers q (rw e at x);
+    bags = have_bags (add g c) w.tick (owed_after_add g c w.owed) w.recorded (followed (gaining g.grid g c) (add_change g c) (bag_of t.store)) off_bags;
+    covers = λ q x. let e = off_owed (gaining g.grid g c) (changed_bags (add_change g c) (bag_of t.store)) q in all_bags.covers t.agenda.items u.midway.covers q (rw e at x);
   }
 
   few_holds : g.holds c < 2 ^ 62
@@ -101,7 +101,7 @@ module _ (t : Tables) (v : Contents) (w : World) (since : ℕ → ℕ) (r n : �
   }
 
   -- ---- after it
-  pub held_bags : (f : ℕ → Bag) → f ≡ followed ((add (grid_state t.regions) c).owner (section_of t.grid c)) (add_change (grid_state t.regions) c) (bag_of t.store)
+  pub held_bags : (f : ℕ → Bag) → f ≡ followed (gaining t.grid (grid_state t.regions) c) (add_change (grid_state t.regions) c) (bag_of t.store)
       → (q : ℕ) → IsBagOf (add g c) w.tick (owed_after_add g c w.owed) w.recorded q (f q)
   held_bags f b q = let b' = rw (u.midway.regions, u.midway.grid) at b in rw b' (off_bags q)
 

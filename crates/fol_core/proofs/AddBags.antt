@@ -135,7 +135,7 @@ module _ (g : GridState) (c : ChunkPos) (rules : Rules g) (ok : IsGrid g.grid) (
     pub taken : (h t).taken ≡ false
     pub counter : (h t).tick ≡ tick t
     pub owes : (h t).owed ≡ greatest_below (is_near_calm g c) owed g.next
-    pub whole : ext.owner home ≢ t → (h t).whole ≡ true → (h t).chunks ≡ filter (is_chunk_of ext t) all_chunks
+    pub listed : ext.owner home ≢ t → (h t).listed ≡ true → (h t).chunks ≡ filter (is_chunk_of ext t) all_chunks
 
   target_rests : (target_state g c ≢ Ticking) × (target_state g c ≢ Dead)
   target_rests = elim (cases_Bool (some_below (target_waits g c) g.next)) [ inl w ↦ rw w ((λ e. absurd (cc)), (λ e. absurd (cc))) | inr w ↦ rw w ((λ e. absurd (cc)), (λ e. absurd (cc))) ]
@@ -149,7 +149,7 @@ module _ (g : GridState) (c : ChunkPos) (rules : Rules g) (ok : IsGrid g.grid) (
     taken = ap (λ (b : Bag). b.taken) at;
     counter = ap (λ (b : Bag). b.tick) at ∙ sym (zero t (omega arith));
     owes = ap (λ (b : Bag). b.owed) at ∙ sym (greatest_none (is_near_calm g c) owed g.next (λ k m. absurd (true≢false (sym m ∙ none k))));
-    whole = λ away w. ap (λ (b : Bag). b.chunks) at ∙ sym (filter_none (is_chunk_of ext t) all_chunks (λ q. false_from_ne_true (is_chunk_of ext t q) (λ h.
+    listed = λ away w. ap (λ (b : Bag). b.chunks) at ∙ sym (filter_none (is_chunk_of ext t) all_chunks (λ q. false_from_ne_true (is_chunk_of ext t q) (λ h.
         let p = and_parts (nat_lt 0 (ext.holds q)) (nat_eq (ext.owner (section_of g.grid q)) t) h in
         let o : ext.owner (section_of g.grid q) ≡ t = eqb-true _ t p.1 in
         let held = loaded_before q (λ x. away (rw x at o)) p.0 in
@@ -190,12 +190,12 @@ module _ (g : GridState) (c : ChunkPos) (rules : Rules g) (ok : IsGrid g.grid) (
           taken = j.taken ∙ (bags t).taken ∙ not-true (is_ticking (g.state t)) (and_parts (is_near g c t) (not (is_ticking (g.state t))) k).1;
           counter = j.counter ∙ (bags t).counter here;
           owes = le_antisymm high low;
-          whole = λ away w. let z = j.whole w in
+          listed = λ away w. let z = j.listed w in
               let only : (r : ℕ) → is_near_calm g c r ≡ true → r ≡ t = λ r m. elim (cases_eq r t) [
                 | inl e ↦ e
                 | inr d ↦ absurd (true≢false (sym (among_drawn r d m) ∙ ap (among r) z.0))
               ] in
-              j.chunks ∙ (bags t).whole (near_lives g c rules ok limits t (and_parts (is_near g c t) (not (is_ticking (g.state t))) k).0) z.1 ∙ sym (same_filter (is_chunk_of ext t) (is_chunk_of g t) all_chunks (chunks_stay t
+              j.chunks ∙ (bags t).listed (near_lives g c rules ok limits t (and_parts (is_near g c t) (not (is_ticking (g.state t))) k).0) z.1 ∙ sym (same_filter (is_chunk_of ext t) (is_chunk_of g t) all_chunks (chunks_stay t
               (λ s p e. elim (cases_Bool (is_near_calm g c (g.owner s))) [ inl m ↦ only (g.owner s) m | inr m ↦ sym (present_stays s p m) ∙ e ])
               (λ s p e. present_joins s (ap (is_near_calm g c) e ∙ k))
               away));
@@ -214,7 +214,7 @@ module _ (g : GridState) (c : ChunkPos) (rules : Rules g) (ok : IsGrid g.grid) (
             taken = ch.taken ∙ sym still;
             counter = λ x. ch.counter;
             owes = λ x. ch.owes ∙ sym most;
-            whole = λ d away w. ch.whole away w;
+            listed = λ d away w. ch.listed away w;
             out = λ x. absurd (quiet.0 (sym target ∙ x));
           })
       | inr d ↦ elim (cases_Bool (is_near_calm g c r)) [
@@ -226,7 +226,7 @@ module _ (g : GridState) (c : ChunkPos) (rules : Rules g) (ok : IsGrid g.grid) (
               taken = ap (λ (b : Bag). b.taken) none ∙ rw dead refl;
               counter = λ x. absurd (true≢false (sym x ∙ rw dead refl));
               owes = λ x. absurd (true≢false (sym x ∙ rw dead refl));
-              whole = λ x. absurd (x dead);
+              listed = λ x. absurd (x dead);
               out = λ x. absurd (dead_ticks (sym dead ∙ x));
             }
         | inr k ↦ let stays : Stays g c rules ok limits r = record { apart = d; calm = k } in
@@ -238,7 +238,7 @@ module _ (g : GridState) (c : ChunkPos) (rules : Rules g) (ok : IsGrid g.grid) (
               taken = b.taken ∙ rw state refl;
               counter = λ x. b.counter (rw state at x);
               owes = λ x. b.owes (rw state at x) ∙ sym (same r d);
-              whole = λ l away w. let l' : g.state r ≢ Dead = λ x. l (state ∙ x) in b.whole l' w ∙ sym (same_filter (is_chunk_of ext r) (is_chunk_of g r) all_chunks (other_chunks r l' stays away));
+              listed = λ l away w. let l' : g.state r ≢ Dead = λ x. l (state ∙ x) in b.listed l' w ∙ sym (same_filter (is_chunk_of ext r) (is_chunk_of g r) all_chunks (other_chunks r l' stays away));
               out = λ x. b.out (sym state ∙ x);
             })
       ]

@@ -1,34 +1,35 @@
 -- A hold more: bags, counters and stack after it.
 use Rattle.std.proofs.Common.{◌≡◌, ◌≢◌, ℕ, ◌+◌, ◌≤◌, ◌<◌, refl, sym, ◌∙◌, ap, arith, true, false, inl, inr, ◌⊎◌, List, [], ◌∷◌, ◌++◌, length, ◌&&◌, not}
 use Rattle.std.specs.Prelude.{nat_eq, nat_lt}
-use Rattle.std.proofs.lemmas.Bool.{cases_Bool, cases_eq, eqb-true, eq-eqb, ne_eqb, and_parts, and_from, and_right, or_right, true≢false}
+use Rattle.std.proofs.lemmas.Bool.{cases_Bool, cases_eq, eqb-true, eq-eqb, ne_eqb, leb-true, lt-ltb, ltb-true, and_parts, and_from, and_right, or_right, true≢false}
 use Rattle.fol_model.specs.declared.places.ChunkPos.{ChunkPos}
 use Rattle.fol_model.specs.declared.regions.State.{State}
 use Rattle.fol_model.specs.declared.regions.State.TheVariants.{Transient, Ready, Ticking, Dead}
-use Rattle.fol_model.specs.Geometry.{is_chunk, same_chunk, section_of}
+use Rattle.fol_model.specs.Geometry.{is_chunk, is_within, same_chunk, section_of}
 use Rattle.fol_model.specs.GridNumbers.{IsGrid}
-use Rattle.fol_model.specs.Universe.{all_chunks, numbers_below}
-use Rattle.fol_model.specs.GridState.{GridState, is_ready, is_ticking}
+use Rattle.fol_model.specs.Universe.{all_chunks, all_sections, numbers_below}
+use Rattle.fol_model.specs.GridState.{GridState, is_loaded, is_present, is_ready, is_ticking}
 use Rattle.fol_model.specs.Counting.{greatest_below, some_below}
 use Rattle.fol_model.specs.Counters.{owed_after_add}
-use Rattle.fol_model.specs.Add.{add, counted, extended, is_full, is_near, is_near_calm, is_near_ticking, target, target_state, target_waits, wanted}
+use Rattle.fol_model.specs.Add.{add, counted, extended, is_full, is_wanted, is_near, is_near_calm, is_near_ticking, target, target_state, target_waits, wanted}
 use Rattle.fol_model.specs.ActionStep.{Recorded, at_id}
 use Rattle.fol_model.specs.Outputs.{is_chunk_of}
 use Rattle.fol_model.specs.Rules.{Rules}
 use Rattle.fol_laws.proofs.AddEffect.{state_stays, state_target, target_transient}
 use Rattle.fol_laws.proofs.AddTarget.{calm_below, near_lives, target_is}
 use Rattle.fol_laws.proofs.FunctionsChanged.{at_here}
+use Rattle.fol_laws.proofs.ListCounts.{count_by-none}
 use Rattle.fol_laws.proofs.NumbersBelow.{some_below-is, some_below-gives}
 use Rattle.fol_laws.proofs.SamePlaces.{same_chunk-true}
 use Rattle.fol_regions.specs.Changes.{Changes, add_change, drawn_in, into, nothing}
 use Rattle.fol_store.specs.Bag.{Bag, new_bag}
 use Rattle.fol_core.specs.Bags.{CanJoin, IsBagOf, Follow, joined_bags, opened_bags, unsettled_at}
 use Rattle.fol_core.specs.Agenda.{Covers, owes}
-use Rattle.fol_core.specs.Follows.{changed_bags, target_in}
+use Rattle.fol_core.specs.Follows.{changed_bags, followed, gaining, target_in}
 use Rattle.fol_core.proofs.JoinedBags.{among, behind, in_front, joined_into}
 use Rattle.fol_core.proofs.AddBags as parts
 use Rattle.fol_core.proofs.AddBags.{filter_none, same_filter}
-use Rattle.fol_core.proofs.UnsettledBags.{IsBagBut, bag_but}
+use Rattle.fol_core.proofs.UnsettledBags.{IsBagBut, bag_but, unsettled_bag}
 
 among_last : (r t : ℕ) (xs : List ℕ) → r ≡ t → among r (xs ++ t ∷ []) ≡ true
 among_last r t xs e = behind r xs (t ∷ []) (let z : nat_eq r t ≡ true = eq-eqb r t e in rw z refl)
@@ -58,21 +59,33 @@ ready_of Dead a b e = absurd (b refl)
 -- all of it, for the grid h and the change ch of a hold more
 pub record AddedBags (g h : GridState) (c : ChunkPos) (ch : Changes) (owed owed' tick : ℕ → ℕ) (recorded : ℕ → Recorded) (f : ℕ → Bag) : Type 0 where
   pub bags : (r : ℕ) → IsBagBut h tick owed' recorded (h.owner (section_of g.grid c)) r (changed_bags ch f r)
+  -- a chunk that was held already is no chunk more
+  pub held : is_loaded g c ≡ true → (r : ℕ) → IsBagOf h tick owed' recorded r (changed_bags ch f r)
   pub follow : Follow g.next ch.created
   pub few : length ch.created ≤ 1
   pub joins : CanJoin ch.merges (opened_bags 0 0 ch.created f)
   pub covers : (xs : List ℕ) → Covers xs g f → Covers (xs ++ target_in ch.merges) h (changed_bags ch f)
   pub next : h.next ≡ g.next + length ch.created
 
+-- the bags after a hold more, where the region that has a chunk more has to be gathered anew
+pub gained_bags : (g h : GridState) (c : ChunkPos) (ch : Changes) (owed owed' tick : ℕ → ℕ) (recorded : ℕ → Recorded) (f : ℕ → Bag) → h ≡ add g c → AddedBags g h c ch owed owed' tick recorded f
+    → ((r : ℕ) → h.state r ≢ Dead → 0 < r) → (r : ℕ) → IsBagOf h tick owed' recorded r (followed (gaining g.grid g c) ch f r)
+unfolding gaining
+gained_bags g h c ch owed owed' tick recorded f e added given r = elim (cases_Bool (is_loaded g c)) [
+  | inl l ↦ rw l (added.held l r)
+  | inr l ↦ rw (l, ← e) (unsettled_bag h tick owed' recorded (h.owner (section_of g.grid c)) (changed_bags ch f) given added.bags r)
+]
+
 module _ (g : GridState) (c : ChunkPos) (rules : Rules g) (ok : IsGrid g.grid) (limits : is_chunk c ≡ true) where
   module _ (owed tick : ℕ → ℕ) (recorded : ℕ → Recorded) (f : ℕ → Bag) (bags : (r : ℕ) → IsBagOf g tick owed recorded r (f r)) (zero : (r : ℕ) → g.next ≤ r → tick r ≡ 0) where
     -- a region that owes what it owed
     owes_same : (owed' : ℕ → ℕ) → ((r : ℕ) → owed' r ≡ owed r) → (r : ℕ) → IsBagOf g tick owed' recorded r (f r)
-    owes_same owed' same r = let b = bags r in record { here = b.here; taken = b.taken; counter = b.counter; owes = λ x. b.owes x ∙ sym (same r); whole = b.whole; out = b.out }
+    owes_same owed' same r = let b = bags r in record { here = b.here; taken = b.taken; counter = b.counter; owes = λ x. b.owes x ∙ sym (same r); listed = b.listed; out = b.out }
 
     full_bags : (owed' : ℕ → ℕ) → ((r : ℕ) → owed' r ≡ owed r) → AddedBags g g c nothing owed owed' tick recorded f
     full_bags owed' same = record {
       bags = λ r. bag_but g tick owed' recorded (g.owner (section_of g.grid c)) r (f r) (owes_same owed' same r);
+      held = λ l r. owes_same owed' same r;
       follow = tt;
       few = omega arith;
       joins = tt;
@@ -89,6 +102,29 @@ module _ (g : GridState) (c : ChunkPos) (rules : Rules g) (ok : IsGrid g.grid) (
       | inr s ↦ rw s refl
     ]
 
+    -- a hold more of a chunk that was held gives no region a chunk more
+    same_chunks : is_loaded g c ≡ true → (r : ℕ) (q : ChunkPos) → is_chunk_of (counted g c) r q ≡ is_chunk_of g r q
+    same_chunks l r q = elim (cases_Bool (same_chunk c q)) [
+      | inl s ↦ let e : c ≡ q = same_chunk-true c q s in
+          let a : is_loaded g q ≡ true = sym (ap (is_loaded g) e) ∙ l in
+          let b : nat_lt 0 (g.holds c + 1) ≡ true = lt-ltb 0 (g.holds c + 1) (omega arith) in
+          rw (s, a, b) refl
+      | inr s ↦ rw s refl
+    ]
+
+    -- and it needs no section
+    none_wanted : is_loaded g c ≡ true → nat_eq (wanted g c) 0 ≡ true
+    unfolding wanted
+    none_wanted l = let p : 0 < g.holds c = ltb-true 0 (g.holds c) l in
+        eq-eqb (wanted g c) 0 (count_by-none (is_wanted g c) (λ s. elim (cases_Bool (is_within (section_of g.grid c) g.grid.create s)) [
+          | inl e ↦ let here : is_present g s ≡ true = lt-ltb _ _ (rules.margin c s p (leb-true _ _ e)) in rw here refl
+          | inr e ↦ elim (cases_Bool (is_present g s)) [ inl here ↦ rw here refl | inr here ↦ rw (here, e) refl ]
+        ]) all_sections)
+
+    -- so it is none that makes a region grow
+    not_grown : {P : Type 0} → nat_eq (wanted g c) 0 ≡ false → is_loaded g c ≡ true → P
+    not_grown w l = absurd (true≢false (sym (none_wanted l) ∙ w))
+
     counted_bags : (owed' : ℕ → ℕ) → ((r : ℕ) → owed' r ≡ owed r) → AddedBags g (counted g c) c nothing owed owed' tick recorded f
     counted_bags owed' same = record {
       bags = λ r. let b = owes_same owed' same r in record {
@@ -96,7 +132,15 @@ module _ (g : GridState) (c : ChunkPos) (rules : Rules g) (ok : IsGrid g.grid) (
         taken = b.taken;
         counter = b.counter;
         owes = b.owes;
-        whole = λ d away w. b.whole d w ∙ sym (same_filter (is_chunk_of (counted g c) r) (is_chunk_of g r) all_chunks (counted_chunks r away));
+        listed = λ d away w. b.listed d w ∙ sym (same_filter (is_chunk_of (counted g c) r) (is_chunk_of g r) all_chunks (counted_chunks r away));
+        out = b.out;
+      };
+      held = λ l r. let b = owes_same owed' same r in record {
+        here = b.here;
+        taken = b.taken;
+        counter = b.counter;
+        owes = b.owes;
+        listed = λ d w. b.listed d w ∙ sym (same_filter (is_chunk_of (counted g c) r) (is_chunk_of g r) all_chunks (same_chunks l r));
         out = b.out;
       };
       follow = tt;
@@ -139,7 +183,7 @@ module _ (g : GridState) (c : ChunkPos) (rules : Rules g) (ok : IsGrid g.grid) (
           owes_from g f r (sym (ap is_ready state) ∙ p.0) (sym (ap (λ (b : Bag). nat_lt 0 b.owed) (ch.others r d k)) ∙ p.1)
     ]
 
-    module _ (owed' : ℕ → ℕ) (same : (r : ℕ) → r ≢ t → owed' r ≡ owed r) (most : owed' t ≡ greatest_below (is_near_calm g c) owed g.next) where
+    module _ (grows : nat_eq (wanted g c) 0 ≡ false) (owed' : ℕ → ℕ) (same : (r : ℕ) → r ≢ t → owed' r ≡ owed r) (most : owed' t ≡ greatest_below (is_near_calm g c) owed g.next) where
       extended_old : is_near_calm g c t ≡ true → AddedBags g ext c (ext_change []) owed owed' tick recorded f
       extended_old k =
           let h : ℕ → Bag = joined_bags (into t drawn) f in
@@ -149,6 +193,7 @@ module _ (g : GridState) (c : ChunkPos) (rules : Rules g) (ok : IsGrid g.grid) (
           let n : nat_eq t g.next ≡ false = ne_eqb t g.next (λ e. omega arith) in
           record {
             bags = parts.changed_bag g c rules ok limits owed tick recorded f bags owed' h same most ch;
+            held = λ l. not_grown grows l;
             follow = tt;
             few = omega arith;
             joins = parts.drawn_join g c rules ok limits owed tick recorded f bags k;
@@ -179,6 +224,7 @@ module _ (g : GridState) (c : ChunkPos) (rules : Rules g) (ok : IsGrid g.grid) (
           let changed : changed_bags (ext_change (g.next ∷ [])) f ≡ h = rw (empty, e) refl in
           record {
             bags = λ r. rw changed (parts.changed_bag g c rules ok limits owed tick recorded f bags owed' h same most ch r);
+            held = λ l. not_grown grows l;
             follow = (refl, tt);
             few = omega arith;
             joins = rw empty tt;
@@ -237,10 +283,10 @@ module _ (g : GridState) (c : ChunkPos) (rules : Rules g) (ok : IsGrid g.grid) (
           | inl k ↦ let below : t < g.next = calm_below g c rules ok limits t k in
               let n : nat_eq t g.next ≡ false = ne_eqb t g.next (λ e. omega arith) in
               let ch = change_old room w n in
-              rw (e, ch) (extended_old (owed_after_add g c owed) other most k)
+              rw (e, ch) (extended_old w (owed_after_add g c owed) other most k)
           | inr new ↦ let n : nat_eq t g.next ≡ true = eq-eqb t g.next new.0 in
               let ch = change_new room w n in
-              rw (e, ch) (extended_new (owed_after_add g c owed) other most new.0 new.1)
+              rw (e, ch) (extended_new w (owed_after_add g c owed) other most new.0 new.1)
         ]
       ]
     ]

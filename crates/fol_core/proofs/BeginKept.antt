@@ -27,7 +27,7 @@ use Rattle.fol_chunks.specs.Contents.{is_recorded, outside, within}
 use Rattle.fol_queues.specs.Waiting.{option_filter, task_in}
 use Rattle.fol_regions.specs.Table.{grid_state}
 use Rattle.fol_sections.specs.Places.{count_at}
-use Rattle.fol_store.specs.Bag.{Bag, taken_out}
+use Rattle.fol_store.specs.Bag.{Bag, is_whole, taken_out}
 use Rattle.fol_store.specs.Stock.{bag_of, flat_of, jobs_of, next_of}
 use Rattle.fol_core.specs.declared.tables.Course.{Course}
 use Rattle.fol_core.specs.declared.tables.Tables.{Tables}
@@ -65,19 +65,19 @@ begin_next g id = refl
 not_ready : (g : GridState) (id : ℕ) → is_ready ((begin g id).state id) ≡ false
 not_ready g id = ap is_ready (begin_here g id)
 
-begun_bag : (g : GridState) (id : ℕ) (tick owed : ℕ → ℕ) (recorded : ℕ → Recorded) (n : ℕ) (f : ℕ → Bag) → g.state id ≡ Ready → (f id).whole ≡ true → ((r : ℕ) → IsBagOf g tick owed recorded r (f r))
+begun_bag : (g : GridState) (id : ℕ) (tick owed : ℕ → ℕ) (recorded : ℕ → Recorded) (n : ℕ) (f : ℕ → Bag) → g.state id ≡ Ready → (f id).listed ≡ true → ((r : ℕ) → IsBagOf g tick owed recorded r (f r))
     → (r : ℕ) → IsBagOf (begin g id) tick (at_id owed id n) (at_id recorded id (λ c. is_loaded g c && nat_eq (g.owner (section_of g.grid c)) id)) r (at_id f id (taken_out (f id)) r)
-begun_bag g id tick owed recorded n f ready whole is r = elim (cases_eq r id) [
+begun_bag g id tick owed recorded n f ready listed is r = elim (cases_eq r id) [
   | inl e ↦ let ticks = begin_here g id in
       let here = at_here f id (taken_out (f id)) in
-      let old = (is id).whole (λ d. cc) whole in
+      let old = (is id).listed (λ d. cc) listed in
       let rec = at_here recorded id (λ c. is_loaded g c && nat_eq (g.owner (section_of g.grid c)) id) in
       rw (e, here) (record {
         here = rw ticks refl;
         taken = rw ticks refl;
         counter = λ x. absurd (true≢false (sym x ∙ rw ticks refl));
         owes = λ x. absurd (true≢false (sym x ∙ rw ticks refl));
-        whole = λ d x. old ∙ ap (λ p. filter p all_chunks) (sym (same_chunks g id id));
+        listed = λ d x. old ∙ ap (λ p. filter p all_chunks) (sym (same_chunks g id id));
         out = λ x. old ∙ ap (λ p. filter p all_chunks) (sym rec);
       })
   | inr d ↦ let state = state_else g id r d in
@@ -90,7 +90,7 @@ begun_bag g id tick owed recorded n f ready whole is r = elim (cases_eq r id) [
         taken = b.taken ∙ rw state refl;
         counter = λ x. b.counter (rw state at x);
         owes = λ x. b.owes (rw state at x) ∙ sym o;
-        whole = λ l x. b.whole (λ y. l (state ∙ y)) x ∙ ap (λ p. filter p all_chunks) (sym (same_chunks g id r));
+        listed = λ l x. b.listed (λ y. l (state ∙ y)) x ∙ ap (λ p. filter p all_chunks) (sym (same_chunks g id r));
         out = λ x. b.out (sym state ∙ x) ∙ ap (λ p. filter p all_chunks) (sym rec);
       })
 ]
@@ -117,7 +117,7 @@ module _ (o : Opening) (h : List Entry) (t : Tables) (s : Stands o h t) (id : �
         let y : owes (world o h).grid (bag_of t.store) r ≡ true = rw (st, b) at x in s.fits.agenda.covers r y
   ])
 
-  module _ (settled : (bag_of t.store id).whole ≡ true) where
+  module _ (settled : (bag_of t.store id).listed ≡ true) where
     good : Good o (world o h)
     good = good_of o h t s
 
@@ -125,7 +125,7 @@ module _ (o : Opening) (h : List Entry) (t : Tables) (s : Stands o h t) (id : �
     positive = good.sound.rules.given id (λ d. let r = ready in cc)
 
     recs : is_recorded (bag_of t.store id).chunks ≡ is_chunk_of (world o h).grid id
-    recs = ap is_recorded ((s.fits.stored.bags id).whole (λ d. let r = ready in cc) settled) ∙ kept_listed (is_chunk_of (world o h).grid id) (loaded_within (world o h).grid id good.sound.rules)
+    recs = ap is_recorded ((s.fits.stored.bags id).listed (λ d. let r = ready in cc) settled) ∙ kept_listed (is_chunk_of (world o h).grid id) (loaded_within (world o h).grid id good.sound.rules)
 
     loaded_job : (n : ℕ) (j : Job) → (world o h).jobs n ≡ Some j → is_loaded (world o h).grid j.chunk ≡ true
     loaded_job n j e = lt-ltb 0 ((world o h).grid.holds j.chunk) (chunk_held (world o h) n j good.sound e)
@@ -194,6 +194,11 @@ owing_now g f id e l = elim (cases_Bool (nat_lt 0 id && nat_lt id g.next)) [
 
 -- the room that was reserved for a region
 pub room_for : (room : Option Room) (t : Tables) (v : Vec Entry) (id : ℕ) → HasRoom room t v → room_of room ≡ Some id
-    → (t.course.size < 2 ^ 50) × (vec_len v + 2 ≤ vec_capacity v) × (owes (grid_state t.regions) (bag_of t.store) id ≡ true → (bag_of t.store id).whole ≡ true)
+    → (t.course.size < 2 ^ 50) × (vec_len v + 2 ≤ vec_capacity v) × (owes (grid_state t.regions) (bag_of t.store) id ≡ true → (bag_of t.store id).listed ≡ true)
 room_for None t v id r e = absurd (cc)
-room_for (Some room) t v id r e = (r.size, r.history, (let P : ℕ → Type 0 = λ n. owes (grid_state t.regions) (bag_of t.store) n ≡ true → (bag_of t.store n).whole ≡ true in subst P (same_Some room.id id e) r.whole))
+room_for (Some room) t v id r e = (
+  r.size,
+  r.history,
+  (let P : ℕ → Type 0 = λ n. owes (grid_state t.regions) (bag_of t.store) n ≡ true → is_whole (bag_of t.store n) ≡ true in
+      λ o. (and_parts (bag_of t.store id).listed (bag_of t.store id).calm (subst P (same_Some room.id id e) r.whole o)).0),
+)

@@ -35,7 +35,7 @@ begun_jobs : (w : World) (worker id n : ℕ) → (begun w worker id).jobs n ≡ 
 unfolding begun
 begun_jobs w worker id n = refl
 
-module _ (o : Opening) (h : List Entry) (t : Tables) (s : Stands o h t) (id : ℕ) (owing : owes (grid_state t.regions) (bag_of t.store) id ≡ true) (settled : (bag_of t.store id).whole ≡ true) where
+module _ (o : Opening) (h : List Entry) (t : Tables) (s : Stands o h t) (id : ℕ) (owing : owes (grid_state t.regions) (bag_of t.store) id ≡ true) (settled : (bag_of t.store id).listed ≡ true) where
   rests_now : (bag_of t.store id).owed ≡ (world o h).owed id
   rests_now = (s.fits.stored.bags id).owes (sym (s.fits.stored.bags id).here ∙ ready_here o h t s id owing)
 
@@ -74,7 +74,7 @@ module _ (o : Opening) (h : List Entry) (t : Tables) (s : Stands o h t) (id : �
     region = r;
     begun = b;
     of = record {
-      chunks = rw r (chunks ∙ (s.fits.stored.bags id).whole (λ d. let e = ready_now o h t s id owing in cc) settled);
+      chunks = rw r (chunks ∙ (s.fits.stored.bags id).listed (λ d. let e = ready_now o h t s id owing in cc) settled);
       due = rw (w, r) (begin_due o h t s id owing settled worker tick.due rises due');
       counter = rw r (counter ∙ counts_now);
       owed = rw r (owed ∙ ap (λ n. n - 1) rests_now);

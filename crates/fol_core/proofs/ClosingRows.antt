@@ -32,6 +32,7 @@ use Rattle.fol_core.specs.Stands.{Stands}
 use Rattle.fol_core.proofs.BlockRuns.{BlocksWithin, blocks_within, first_within}
 use Rattle.fol_core.proofs.CalmStore.{all_flat, all_jobs, calm, have_rows, live_in, rows_of_bags, ticking_lives}
 use Rattle.fol_core.proofs.EntityRows.{are_places, entity_rows_are, few_ids}
+use Rattle.fol_core.proofs.OwnerRows.{owners_stand}
 use Rattle.fol_core.proofs.LeastFound.{first_below, first_found, first_none, first_some}
 use Rattle.fol_core.proofs.Longer.{good_of}
 use Rattle.fol_core.proofs.RowsInOrder.{block_rows_are, task_rows_are}
@@ -66,10 +67,6 @@ module _ (o : Opening) (h : List Entry) (t : Tables) (s : Stands o h t) (live : 
     regions_are = ap (λ (g : GridState). map (row_in g (bag_of t.store)) live) s.fits.regions ∙ ap (map (row_in (world o h).grid (bag_of t.store))) live_now
         ∙ rows_of_bags (world o h) t.store (since o h) good.sound s.fits.stored still
 
-    owners_are : owners_in (grid_state t.regions) ≡ owner_rows (world o h)
-    unfolding owner_rows
-    owners_are = ap owners_in s.fits.regions
-
     -- ---- what lies in the store
     flat_now : flat_of t.store ≡ (world o h).flat
     flat_now = all_flat (world o h) t.store (since o h) good.sound s.fits.stored still
@@ -102,7 +99,7 @@ module _ (o : Opening) (h : List Entry) (t : Tables) (s : Stands o h t) (live : 
         opening = opening;
         history = history;
         regions = region ∙ regions_are;
-        owners = owner ∙ owners_are;
+        owners = owner ∙ owners_stand o h t s;
         tasks = tasks_right c.blocks c.entities c.tasks are;
         entities = entities_right c.blocks c.entities c.tasks are;
         blocks = blocks_right c.blocks c.entities c.tasks are;

@@ -33,15 +33,6 @@ module _ {K X : Type 0} (c : K → K → Ordering) where
       ∙ update_all_push (eq_by_cmp c) (get c old) (get c m) (map f (take i ys)) (f (get_or ys i d)) q (h q)
       ∙ ap (λ (xs : List (K × X)). update_all (eq_by_cmp c) (get c old) xs q) (sym (ap (map f) (take_more ys i d l) ∙ map-append f (take i ys) (get_or ys i d ∷ [])))
 
-  -- the entries of the next element of a list
-  pub puts_many : {Y : Type 0} (old m n : BTreeMap K X) (f : Y → List (K × X)) (ys : List Y) (i : ℕ) (d : Y) → i < length ys → PutsAll c old m (flat_map f (take i ys))
-      → PutsAll c m n (f (get_or ys i d)) → PutsAll c old n (flat_map f (take (i + 1) ys))
-  puts_many old m n f ys i d l h k q = puts_more old m n (flat_map f (take i ys)) (f (get_or ys i d)) h k q
-      ∙ ap (λ (xs : List (K × X)). update_all (eq_by_cmp c) (get c old) xs q) (sym (
-      ap (flat_map f) (take_more ys i d l)
-      ∙ flat_map-append f (take i ys) (get_or ys i d ∷ [])
-      ∙ ap (λ zs. flat_map f (take i ys) ++ zs) (flat_map-cons {A = K × X} f (get_or ys i d) [] ∙ append-nil (f (get_or ys i d)))))
-
   module _ (t : (a b : K) → eq_by_cmp c a b ≡ true → a ≡ b) (f : K → Option X) where
     abbrev pub IsRight : K × X → Type 0
     IsRight e = f e.0 ≡ Some e.1

@@ -41,7 +41,7 @@ gathered_bag g tick owed recorded r b c is e = record {
   taken = e.taken ∙ is.taken;
   counter = λ x. e.counter ∙ is.counter x;
   owes = λ x. e.owes ∙ is.owes x;
-  whole = λ d w. elim (e.whole w) [ inl k ↦ k.1 ∙ is.whole d k.0 | inr k ↦ k ];
+  listed = λ d w. elim (e.listed w) [ inl k ↦ k.1 ∙ is.listed d k.0 | inr k ↦ k ];
   out = λ x. e.out (is.taken ∙ rw x refl) ∙ is.out x;
 }
 

@@ -35,14 +35,14 @@ use Rattle.fol_store.specs.Stock.{Stock, bag_of, flat_of, next_of}
 use Rattle.fol_core.specs.declared.tables.Tables.{Tables}
 use Rattle.fol_core.specs.Hands.{at_rest, in_hands, since}
 use Rattle.fol_core.specs.Bags.{IsBagOf}
-use Rattle.fol_core.specs.Follows.{CanCover, CanFollow, CanHold, changed_bags, followed}
+use Rattle.fol_core.specs.Follows.{CanCover, CanFollow, CanHold, changed_bags, followed, gaining}
 use Rattle.fol_core.specs.Room.{HasGrown}
 use Rattle.fol_core.specs.Stands.{Stands}
-use Rattle.fol_core.proofs.Added.{AddedBags, added_bags, off_owed}
+use Rattle.fol_core.proofs.Added.{AddedBags, added_bags, gained_bags, off_owed}
 use Rattle.fol_core.proofs.HandSteps.{hands_by, rest_by}
 use Rattle.fol_core.proofs.Longer.{good_of}
 use Rattle.fol_core.proofs.TicketRuns.{tickets_most}
-use Rattle.fol_core.proofs.UnsettledBags.{have_bags, known_bag, unsettled_bag}
+use Rattle.fol_core.proofs.UnsettledBags.{have_bags, known_bag}
 
 -- v has one hold more of c than w, unless it is Full; tickets and tasks are not said
 pub record HeldMore (w v : World) (c : ChunkPos) : Type 0 where
@@ -116,9 +116,9 @@ module _ (o : Opening) (h : List Entry) (t : Tables) (s : Stands o h t) where
     all_bags : AddedBags g (add g c) c (add_change g c) w.owed (owed_after_add g c w.owed) w.tick w.recorded (bag_of t.store)
     all_bags = added_bags g c good.sound.rules good.sound.grid limits w.owed w.tick w.recorded (bag_of t.store) s.fits.stored.bags zero_new
 
-    off_bags : (r : ℕ) → IsBagOf (add g c) w.tick (owed_after_add g c w.owed) w.recorded r (followed ((add g c).owner (section_of g.grid c)) (add_change g c) (bag_of t.store) r)
-    off_bags = unsettled_bag (add g c) w.tick (owed_after_add g c w.owed) w.recorded ((add g c).owner (section_of g.grid c)) (changed_bags (add_change g c) (bag_of t.store))
-        (add_keeps g c good.sound.rules good.sound.grid limits).given all_bags.bags
+    off_bags : (r : ℕ) → IsBagOf (add g c) w.tick (owed_after_add g c w.owed) w.recorded r (followed (gaining g.grid g c) (add_change g c) (bag_of t.store) r)
+    off_bags = gained_bags g (add g c) c (add_change g c) w.owed (owed_after_add g c w.owed) w.tick w.recorded (bag_of t.store) refl all_bags
+        (add_keeps g c good.sound.rules good.sound.grid limits).given
 
     can_follow : 1 ≤ t.store.slots → CanFollow t.store (add_change g c) ((add g c).owner (section_of g.grid c))
     can_follow l = record {
@@ -130,10 +130,10 @@ module _ (o : Opening) (h : List Entry) (t : Tables) (s : Stands o h t) where
           ((add_keeps g c good.sound.rules good.sound.grid limits).owner_lives (section_of g.grid c) p);
     }
 
-    can_cover : CanCover t.agenda.items (add g c) (add_change g c) (followed ((add g c).owner (section_of g.grid c)) (add_change g c) (bag_of t.store))
+    can_cover : CanCover t.agenda.items (add g c) (add_change g c) (followed (gaining g.grid g c) (add_change g c) (bag_of t.store))
     can_cover = record {
-      bags = have_bags (add g c) w.tick (owed_after_add g c w.owed) w.recorded (followed ((add g c).owner (section_of g.grid c)) (add_change g c) (bag_of t.store)) off_bags;
-      covers = λ r x. let e = off_owed ((add g c).owner (section_of g.grid c)) (changed_bags (add_change g c) (bag_of t.store)) r in
+      bags = have_bags (add g c) w.tick (owed_after_add g c w.owed) w.recorded (followed (gaining g.grid g c) (add_change g c) (bag_of t.store)) off_bags;
+      covers = λ r x. let e = off_owed (gaining g.grid g c) (changed_bags (add_change g c) (bag_of t.store)) r in
           all_bags.covers t.agenda.items s.fits.agenda.covers r (rw e at x);
     }
 
@@ -158,7 +158,7 @@ module _ (o : Opening) (h : List Entry) (t : Tables) (s : Stands o h t) where
       pub held_rest : (n : ℕ) (x : Option Job) → at_rest (after w e).grid (since o h) n x ≡ at_rest w.grid (since o h) n x
       held_rest = rest_by w e good.sound ok no_begin no_end (since o h)
 
-      pub held_bags : (f : ℕ → Bag) → f ≡ followed ((add (grid_state t.regions) c).owner (section_of t.grid c)) (add_change (grid_state t.regions) c) (bag_of t.store) → (r : ℕ) → IsBagOf (after w e).grid (after w e).tick (after w e).owed (after w e).recorded r (f r)
+      pub held_bags : (f : ℕ → Bag) → f ≡ followed (gaining t.grid (grid_state t.regions) c) (add_change (grid_state t.regions) c) (bag_of t.store) → (r : ℕ) → IsBagOf (after w e).grid (after w e).tick (after w e).owed (after w e).recorded r (f r)
       held_bags f b r = let b' = rw (s.fits.regions, s.fits.grid) at b in rw (m.grid, m.tick, m.owed, m.recorded, b') (off_bags r)
 
       pub held_next : (n : ℕ) → n ≡ next_of t.store + length (add_change (grid_state t.regions) c).created → n ≡ (after w e).grid.next

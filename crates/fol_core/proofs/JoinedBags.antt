@@ -28,13 +28,13 @@ module _ (t u : ℕ) (f : ℕ → Bag) where
   one = joined_bag (record { «from» = u; into = t }) f
 
   one_other : (r : ℕ) → r ≢ t → r ≢ u → one r ≡ f r
-  one_other r a b = at_other (at_id f u no_bag) t (record (f t) { owed = max (f t).owed (f u).owed; whole = false }) r a ∙ at_other f u no_bag r b
+  one_other r a b = at_other (at_id f u no_bag) t (record (f t) { owed = max (f t).owed (f u).owed; listed = false }) r a ∙ at_other f u no_bag r b
 
   one_gone : u ≢ t → one u ≡ no_bag
-  one_gone d = at_other (at_id f u no_bag) t (record (f t) { owed = max (f t).owed (f u).owed; whole = false }) u d ∙ at_here f u no_bag
+  one_gone d = at_other (at_id f u no_bag) t (record (f t) { owed = max (f t).owed (f u).owed; listed = false }) u d ∙ at_here f u no_bag
 
-  one_into : one t ≡ record (f t) { owed = max (f t).owed (f u).owed; whole = false }
-  one_into = at_here (at_id f u no_bag) t (record (f t) { owed = max (f t).owed (f u).owed; whole = false })
+  one_into : one t ≡ record (f t) { owed = max (f t).owed (f u).owed; listed = false }
+  one_into = at_here (at_id f u no_bag) t (record (f t) { owed = max (f t).owed (f u).owed; listed = false })
 
 -- the regions us become part of t, and f becomes h
 pub record JoinedInto (t : ℕ) (us : List ℕ) (f h : ℕ → Bag) : Type 0 where
@@ -47,7 +47,7 @@ pub record JoinedInto (t : ℕ) (us : List ℕ) (f h : ℕ → Bag) : Type 0 whe
   pub own : (f t).owed ≤ (h t).owed
   pub theirs : (r : ℕ) → among r us ≡ true → (f r).owed ≤ (h t).owed
   pub some : ((h t).owed ≡ (f t).owed) ⊎ ((r : ℕ) × (among r us ≡ true) × ((h t).owed ≡ (f r).owed))
-  pub whole : (h t).whole ≡ true → (us ≡ []) × ((f t).whole ≡ true)
+  pub listed : (h t).listed ≡ true → (us ≡ []) × ((f t).listed ≡ true)
 
 max_cases : (a b : ℕ) → (max a b ≡ a) ⊎ (max a b ≡ b)
 max_cases a b = elim (cases_lt a b) [ inl l ↦ inr (omega arith) | inr l ↦ inl (omega arith) ]
@@ -82,14 +82,14 @@ module _ (t : ℕ) where
     own = omega arith;
     theirs = λ r m. absurd (true≢false (sym m));
     some = inl refl;
-    whole = λ w. (refl, w);
+    listed = λ w. (refl, w);
   }
   joined_into (u ∷ us) f d a =
       let n = or_parts (nat_eq t u) (among t us) d in
       let ut : u ≢ t = λ e. eqb-false t u n.0 (sym e) in
       let g : ℕ → Bag = joined_bag (record { «from» = u; into = t }) f in
       let k = joined_into us g n.1 a.1 in
-      let at : g t ≡ record (f t) { owed = max (f t).owed (f u).owed; whole = false } = one_into t u f in
+      let at : g t ≡ record (f t) { owed = max (f t).owed (f u).owed; listed = false } = one_into t u f in
       let owed : (g t).owed ≡ max (f t).owed (f u).owed = ap (λ (b : Bag). b.owed) at in
       let same : (r : ℕ) → among r us ≡ true → g r ≡ f r = λ r m. one_other t u f r (λ e. true≢false (sym m ∙ rw e n.1)) (λ e. true≢false (sym m ∙ rw e a.0)) in
       record {
@@ -114,7 +114,7 @@ module _ (t : ℕ) where
           ]
           | inr x ↦ inr (x.0, or_right (nat_eq x.0 u) (among x.0 us) x.1, x.2 ∙ ap (λ (b : Bag). b.owed) (same x.0 x.1))
         ];
-        whole = λ w. let z = k.whole w in absurd (true≢false (sym z.1 ∙ ap (λ (b : Bag). b.whole) at));
+        listed = λ w. let z = k.listed w in absurd (true≢false (sym z.1 ∙ ap (λ (b : Bag). b.listed) at));
       }
 
   pub can_join : (us : List ℕ) (f : ℕ → Bag) → among t us ≡ false → Apart us → (f t).here ≡ true → ((r : ℕ) → among r us ≡ true → (f r).here ≡ true) → CanJoin (into t us) f

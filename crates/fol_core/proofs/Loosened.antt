@@ -11,7 +11,7 @@ use Rattle.fol_model.specs.Drop.{drop_hold}
 use Rattle.fol_laws.proofs.FunctionsChanged.{at_here}
 use Rattle.fol_laws.proofs.SamePlaces.{same_chunk-true}
 use Rattle.fol_regions.specs.Answers.{remove_answer}
-use Rattle.fol_sections.specs.declared.answers.Removed.TheVariants.{Gone}
+use Rattle.fol_sections.specs.declared.answers.Removed.TheVariants.{Gone, Lowered, NotLoaded}
 use Rattle.fol_store.specs.Bag.{Bag}
 use Rattle.fol_core.specs.Released.{Loosens}
 
@@ -26,24 +26,24 @@ pub twice : (f : ℕ → Bag) (r : ℕ) (a b : Bag) → at_id (at_id f r a) r b 
 twice f r a b = fun_ext (λ q. elim (cases_Bool (nat_eq r q)) [ inl k ↦ rw k refl | inr k ↦ rw k refl ])
 
 pub loosens_self : (g : GridState) (r : ℕ) (f : ℕ → Bag) → Loosens g g r f f
-loosens_self g r f = record { whole = (f r).whole; bags = own_place f r (f r) refl; kept = λ h. h; loaded = λ h c. refl }
+loosens_self g r f = record { listed = (f r).listed; bags = own_place f r (f r) refl; kept = λ h. h; loaded = λ h c. refl }
 
 pub loosens_then : (g h i : GridState) (r : ℕ) (f k m : ℕ → Bag) → Loosens g h r f k → Loosens h i r k m → Loosens g i r f m
 loosens_then g h i r f k m a b =
-    let here : k r ≡ record (f r) { whole = a.whole } = ap (λ (x : ℕ → Bag). x r) a.bags ∙ at_here f r (record (f r) { whole = a.whole }) in
-    let wholly : b.whole ≡ true → a.whole ≡ true = λ w. sym (ap (λ (x : Bag). x.whole) here) ∙ b.kept w in
+    let here : k r ≡ record (f r) { listed = a.listed } = ap (λ (x : ℕ → Bag). x r) a.bags ∙ at_here f r (record (f r) { listed = a.listed }) in
+    let wholly : b.listed ≡ true → a.listed ≡ true = λ w. sym (ap (λ (x : Bag). x.listed) here) ∙ b.kept w in
     record {
-      whole = b.whole;
-      bags = b.bags ∙ ap (λ (x : ℕ → Bag). at_id x r (record (x r) { whole = b.whole })) a.bags
-          ∙ twice f r (record (f r) { whole = a.whole }) (record (at_id f r (record (f r) { whole = a.whole }) r) { whole = b.whole })
-          ∙ ap (λ (x : Bag). at_id f r (record x { whole = b.whole })) (at_here f r (record (f r) { whole = a.whole }));
+      listed = b.listed;
+      bags = b.bags ∙ ap (λ (x : ℕ → Bag). at_id x r (record (x r) { listed = b.listed })) a.bags
+          ∙ twice f r (record (f r) { listed = a.listed }) (record (at_id f r (record (f r) { listed = a.listed }) r) { listed = b.listed })
+          ∙ ap (λ (x : Bag). at_id f r (record x { listed = b.listed })) (at_here f r (record (f r) { listed = a.listed }));
       kept = λ w. a.kept (wholly w);
       loaded = λ w c. b.loaded w c ∙ a.loaded (wholly w) c;
     }
 
 -- ---- one hold less
 module _ (g : GridState) (c : ChunkPos) where
-  stays_loaded : (n : ℕ) → nat_eq (g.holds c) n ≡ false → n ≡ 1 → (q : ChunkPos) → is_loaded (drop_hold g c) q ≡ is_loaded g q
+  pub stays_loaded : (n : ℕ) → nat_eq (g.holds c) n ≡ false → n ≡ 1 → (q : ChunkPos) → is_loaded (drop_hold g c) q ≡ is_loaded g q
   unfolding drop_hold
   stays_loaded n d e q = elim (cases_Bool (same_chunk c q)) [
     | inl s ↦
@@ -61,22 +61,35 @@ module _ (g : GridState) (c : ChunkPos) where
     | inr s ↦ rw s refl
   ]
 
-  -- the last hold did not fall
-  pub not_gone : remove_answer g c ≢ Gone → (q : ChunkPos) → is_loaded (drop_hold g c) q ≡ is_loaded g q
-  not_gone h = elim (cases_Bool (nat_eq (g.holds c) 1)) [
+  -- the last hold falls exactly where there is one
+  pub gone_one : remove_answer g c ≡ Gone → nat_eq (g.holds c) 1 ≡ true
+  gone_one h = elim (cases_Bool (nat_eq (g.holds c) 1)) [
+    | inl e ↦ e
+    | inr e ↦ elim (cases_Bool (nat_eq (g.holds c) 0)) [
+      | inl z ↦ let x : NotLoaded ≡ Gone = rw z at h in absurd (cc)
+      | inr z ↦ let x : Lowered ≡ Gone = rw (z, e) at h in absurd (cc)
+    ]
+  ]
+
+  pub not_gone_one : remove_answer g c ≢ Gone → nat_eq (g.holds c) 1 ≡ false
+  not_gone_one h = elim (cases_Bool (nat_eq (g.holds c) 1)) [
     | inl e ↦
         let one : g.holds c ≡ 1 = eqb-true _ _ e in
         let z : nat_eq (g.holds c) 0 ≡ false = rw one refl in
         absurd (h (rw (z, e) refl))
-    | inr e ↦ stays_loaded 1 e refl
+    | inr e ↦ e
   ]
 
-  pub loosens_still : (r : ℕ) (f : ℕ → Bag) → remove_answer g c ≢ Gone → Loosens g (drop_hold g c) r f f
-  loosens_still r f h = record { whole = (f r).whole; bags = own_place f r (f r) refl; kept = λ w. w; loaded = λ w q. not_gone h q }
+  -- the last hold did not fall
+  pub not_gone : remove_answer g c ≢ Gone → (q : ChunkPos) → is_loaded (drop_hold g c) q ≡ is_loaded g q
+  not_gone h = stays_loaded 1 (not_gone_one h) refl
 
-  pub loosens_gone : (r : ℕ) (f k : ℕ → Bag) → k ≡ at_id f r (record (f r) { whole = false }) → Loosens g (drop_hold g c) r f k
-  loosens_gone r f k e = record { whole = false; bags = e; kept = λ w. absurd (true≢false (sym w)); loaded = λ w q. absurd (true≢false (sym w)) }
+  pub loosens_still : (r : ℕ) (f : ℕ → Bag) → remove_answer g c ≢ Gone → Loosens g (drop_hold g c) r f f
+  loosens_still r f h = record { listed = (f r).listed; bags = own_place f r (f r) refl; kept = λ w. w; loaded = λ w q. not_gone h q }
+
+  pub loosens_gone : (r : ℕ) (f k : ℕ → Bag) → k ≡ at_id f r (record (f r) { listed = false }) → Loosens g (drop_hold g c) r f k
+  loosens_gone r f k e = record { listed = false; bags = e; kept = λ w. absurd (true≢false (sym w)); loaded = λ w q. absurd (true≢false (sym w)) }
 
 -- whether the bag was taken stays
 pub loosens_taken : (g h : GridState) (r : ℕ) (f k : ℕ → Bag) → Loosens g h r f k → (f r).taken ≡ true → (k r).taken ≡ true
-loosens_taken g h r f k l t = ap (λ (x : ℕ → Bag). (x r).taken) l.bags ∙ ap (λ (b : Bag). b.taken) (at_here f r (record (f r) { whole = l.whole })) ∙ t
+loosens_taken g h r f k l t = ap (λ (x : ℕ → Bag). (x r).taken) l.bags ∙ ap (λ (b : Bag). b.taken) (at_here f r (record (f r) { listed = l.listed })) ∙ t

@@ -1,5 +1,5 @@
 -- A tick that was made before its Begin is one that could have been made at it.
-use Rattle.std.proofs.Common.{◌≡◌, ℕ, ◌-◌, refl, sym, ◌∙◌, ap, subst, true, List, ◌∷◌, ◌++◌, append_assoc}
+use Rattle.std.proofs.Common.{◌≡◌, ℕ, ◌-◌, sym, ◌∙◌, ap, subst, true, List, ◌∷◌, ◌++◌, append_assoc}
 use Rattle.std.specs.Prelude.{nat_eq, filter, Option}
 use Rattle.std.proofs.lemmas.Bool.{and_parts, ltb-true}
 use Rattle.std.proofs.Math.Path.{fun_ext}

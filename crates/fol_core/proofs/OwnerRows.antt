@@ -1,123 +1,154 @@
--- The rows of the owners, from a map of them.
-use Rattle.std.proofs.Common.{◌≡◌, ◌≢◌, ℕ, ◌<◌, refl, sym, ◌∙◌, ap, Bool, true, inl, inr, List, [], ◌∷◌}
-use Rattle.std.specs.Prelude.{ℤ, nat_eq, nat_lt, flat_map, map, filter, if◌then◌else◌, Option, Some, None}
+-- The rows of the owners, from the rows of each region's sections.
+use Rattle.std.proofs.Common.{◌≡◌, ℕ, ◌+◌, ◌<◌, refl, sym, ◌∙◌, ap, arith, Bool, true, false, cond, inl, inr, List, [], ◌∷◌, ◌++◌, length, get_or, take, not, append_assoc}
+use Rattle.std.specs.Prelude.{All, nat_eq, nat_lt, flat_map, map, filter}
 use Rattle.std.specs.List.{AllByRecursion, list_any}
-use Rattle.std.specs.List.Sorted.{IsStrictlySortedBy}
-use Rattle.std.specs.BTreeMap.{BTreeMap, IsOrdered}
-use Rattle.std.specs.Ordering.{eq_by_cmp}
+use Rattle.std.specs.List.Sorted.{IsPermutation, IsSortedBy, IsStrictlySortedBy}
+use Rattle.std.specs.Cmp.{ranks}
+use Rattle.std.specs.Ordering.{is_lt, nat_cmp}
 use Rattle.std.specs.declared.cmp.Ordering.TheVariants.{Less}
 use Rattle.std.proofs.Math.Path.{fun_ext}
-use Rattle.std.proofs.lemmas.Bool.{cases_Bool, and_from, eqb-true, eq-eqb, lt-ltb, ltb-true, or_cases, or_left, or_right}
+use Rattle.std.proofs.lemmas.Bool.{cases_Bool, eqb-true, lt-ltb, ltb-true, true≢false}
+use Rattle.std.proofs.lemmas.Grind.{flat_map-append}
+use Rattle.std.proofs.lemmas.List.{append-nil, get_or-map, length-map, take_more}
 use Rattle.std.proofs.lemmas.List.Concat.{flat_map-cons}
-use Rattle.std.proofs.lemmas.List.Folds.{flat_map-map}
+use Rattle.std.proofs.lemmas.List.Elements.{All-from_recursion, recursion_from_All}
+use Rattle.std.proofs.lemmas.List.Kept.{IsStrictlySortedBy-filter}
+use Rattle.std.proofs.lemmas.List.Sorted.{All-permutation, IsPermutation-append_right, IsPermutation-map, IsPermutation-refl, IsPermutation-sym, IsPermutation-trans, length_permutation}
 use Rattle.fol_model.specs.declared.places.SectionPos.{SectionPos}
-use Rattle.fol_model.specs.declared.regions.State.TheVariants.{Dead}
 use Rattle.fol_model.specs.declared.closings.OwnerRow.{OwnerRow}
-use Rattle.fol_model.specs.GridState.{GridState, is_present}
+use Rattle.fol_model.specs.GridState.{GridState, is_dead, is_present}
 use Rattle.fol_model.specs.Rules.{Rules}
-use Rattle.fol_model.specs.Universe.{all_sections, section_cmp}
-use Rattle.fol_laws.proofs.Coordinates.{list_any-map, list_any-flat_map}
-use Rattle.fol_laws.proofs.Listed as laws
-use Rattle.fol_laws.proofs.SectionOrder.{sections_listed, sections_sorted, sections_tell}
-use Rattle.fol_laws.proofs.SortedRows.{all_append}
-use Rattle.fol_core.specs.Closings.{PutsAll, owner_entries, owner_entry, owner_row, owners_in, place_cmp}
+use Rattle.fol_model.specs.Universe.{all_sections, numbers_below, section_cmp}
+use Rattle.fol_laws.proofs.NumberOrder.{numbers_sorted}
+use Rattle.fol_laws.proofs.SectionOrder.{sections_sorted, sections_tell}
+use Rattle.fol_regions.proofs.InOrder.{filter_either, sorted_is}
+use Rattle.fol_model.specs.declared.events.Entry.{Entry}
+use Rattle.fol_model.specs.declared.openings.Opening.{Opening}
+use Rattle.fol_model.specs.Outputs.{owner_rows}
+use Rattle.fol_model.specs.Run.{world}
+use Rattle.fol_regions.specs.Table.{grid_state}
+use Rattle.fol_core.specs.Closings.{owner_row, owners_in, owners_of}
+use Rattle.fol_core.specs.Stands.{Stands}
+use Rattle.fol_core.specs.declared.tables.Tables.{Tables}
 use Rattle.fol_core.proofs.CalmStore.{dead_not, in_live, live_in}
-use Rattle.fol_core.proofs.EntriesPut.{entries_are, entry_of, puts_right, turned}
-use Rattle.fol_core.proofs.KeyedRows.{Tells, map_filter, map_flat, passing}
-use Rattle.fol_core.proofs.RowsInOrder.{tells_by}
+use Rattle.fol_core.proofs.KeyedRows.{map_flat, map_passing, passing}
 
-abbrev spot : SectionPos → ℤ × ℤ
-spot s = (s.z, s.x)
-
-abbrev section_at : ℤ × ℤ → SectionPos
-section_at q = record { x = q.1; z = q.0 }
-
-tells_places : Tells place_cmp (eq_by_cmp place_cmp)
-unfolding section_cmp
-tells_places = record {
-  is = λ a b e. ap spot (laws.same_by section_cmp sections_tell (section_at a) (section_at b) e);
-  self = λ a. laws.own section_cmp sections_tell (section_at a);
-  one_way = λ a b h k. (tells_by section_cmp sections_tell).one_way (section_at a) (section_at b) h k;
-}
-
-before_spots : (s : SectionPos) (ss : List SectionPos) → AllByRecursion (λ q. section_cmp s q ≡ Less) ss → AllByRecursion (λ q. place_cmp (spot s) q ≡ Less) (map spot ss)
-unfolding section_cmp
-before_spots s [] h = tt
-before_spots s (q ∷ ss) h = (h.0, before_spots s ss h.1)
-
-sorted_spots : (ss : List SectionPos) → IsStrictlySortedBy section_cmp ss → IsStrictlySortedBy place_cmp (map spot ss)
-unfolding IsStrictlySortedBy
-sorted_spots [] h = tt
-sorted_spots (s ∷ ss) h = (before_spots s ss h.0, sorted_spots ss h.1)
-
--- a list that has the number has one that passes where the number does
-any_at : (p : ℕ → Bool) (k : ℕ) (xs : List ℕ) → p k ≡ true → list_any (nat_eq k) xs ≡ true → list_any p xs ≡ true
-any_at p k [] h m = m
-any_at p k (x ∷ xs) h m = elim (or_cases (nat_eq k x) (list_any (nat_eq k) xs) m) [
-  | inl e ↦ or_left (p x) _ (ap p (sym (eqb-true k x e)) ∙ h)
-  | inr e ↦ or_right (p x) _ (any_at p k xs h e)
+-- a number is not among those that rise above it
+not_later : (k : ℕ) (ks : List ℕ) → AllByRecursion (λ n. nat_cmp k n ≡ Less) ks → list_any (nat_eq k) ks ≡ false
+not_later k [] h = refl
+not_later k (n ∷ ks) h = elim (cases_Bool (nat_eq k n)) [
+  | inl e ↦ let s : k ≡ n = eqb-true k n e in let l : nat_cmp n n ≡ Less = rw s at h.0 in absurd (let z = below_itself n l in z)
+  | inr e ↦ rw e (not_later k ks h.1)
 ]
+  where
+    below_itself : (n : ℕ) → nat_cmp n n ≡ Less → ⊥
+    below_itself n l = let h = ranks n n in let b : n < n = rw l at h in absurd (omega arith)
+
+-- the rows of the next region are added
+pub rows_more : (f : ℕ → List OwnerRow) (old now new : List OwnerRow) (ids : List ℕ) (i d : ℕ) → i < length ids → now ≡ old ++ flat_map f (take i ids) → new ≡ now ++ f (get_or ids i d)
+    → new ≡ old ++ flat_map f (take (i + 1) ids)
+rows_more f old now new ids i d l so_far added =
+    let next : flat_map f (take (i + 1) ids) ≡ flat_map f (take i ids) ++ f (get_or ids i d) = ap (flat_map f) (take_more ids i d l) ∙ flat_map-append f (take i ids) (get_or ids i d ∷ [])
+    ∙ ap (λ zs. flat_map f (take i ids) ++ zs) (flat_map-cons {A = OwnerRow} f (get_or ids i d) [] ∙ append-nil (f (get_or ids i d))) in
+    added ∙ ap (λ xs. xs ++ f (get_or ids i d)) so_far ∙ append_assoc old (flat_map f (take i ids)) (f (get_or ids i d)) ∙ ap (λ xs. old ++ xs) (sym next)
 
 module _ (g : GridState) where
-  abbrev owned_at : SectionPos → Option ℕ
-  owned_at s = if nat_lt 0 (g.owner s) then Some (g.owner s) else None
+  abbrev row : SectionPos → OwnerRow
+  row s = record { at = s; region = g.owner s }
 
-  abbrev owned : ℤ × ℤ → Option ℕ
-  owned q = owned_at (section_at q)
+  abbrev sections_of : ℕ → List SectionPos
+  sections_of id = filter (λ s. nat_eq (g.owner s) id) all_sections
 
-  right_one : (id : ℕ) → 0 < id → (ss : List SectionPos) → AllByRecursion (λ (e : (ℤ × ℤ) × ℕ). owned e.0 ≡ Some e.1) (map (owner_entry id) (filter (λ s. nat_eq (g.owner s) id) ss))
-  right_one id above [] = tt
-  right_one id above (s ∷ ss) = elim (cases_Bool (nat_eq (g.owner s) id)) [
-    | inl e ↦ let o : g.owner s ≡ id = eqb-true _ _ e in let l : nat_lt 0 id ≡ true = lt-ltb _ _ above in rw e (rw (o, l) refl, right_one id above ss)
-    | inr e ↦ rw e (right_one id above ss)
-  ]
+  abbrev owned_among : List ℕ → SectionPos → Bool
+  owned_among ids s = list_any (nat_eq (g.owner s)) ids
 
-  right_all : (live : List ℕ) → AllByRecursion (λ id. 0 < id) live → AllByRecursion (λ (e : (ℤ × ℤ) × ℕ). owned e.0 ≡ Some e.1) (flat_map (owner_entries g) live)
-  right_all [] h = tt
-  right_all (id ∷ live) h = rw (flat_map-cons {A = (ℤ × ℤ) × ℕ} (owner_entries g) id live)
-      (all_append (λ (e : (ℤ × ℤ) × ℕ). owned e.0 ≡ Some e.1) (owner_entries g id) (flat_map (owner_entries g) live) (right_one id h.0 all_sections) (right_all live h.1))
+  -- the sections of distinct regions, one region behind the other, are those of all of them in another order
+  parted : (ids : List ℕ) → IsStrictlySortedBy nat_cmp ids → IsPermutation (flat_map sections_of ids) (filter (owned_among ids) all_sections)
+  unfolding IsStrictlySortedBy
+  parted [] up = rw (none all_sections) (IsPermutation-refl [])
+    where
+      none : (ss : List SectionPos) → filter (owned_among []) ss ≡ []
+      none [] = refl
+      none (s ∷ ss) = none ss
+  parted (id ∷ ids) up =
+      rw (flat_map-cons {A = SectionPos} sections_of id ids)
+      (IsPermutation-trans (sections_of id ++ flat_map sections_of ids) (sections_of id ++ filter (owned_among ids) all_sections) (filter (owned_among (id ∷ ids)) all_sections)
+      (IsPermutation-append_right (sections_of id) (flat_map sections_of ids) (filter (owned_among ids) all_sections) (parted ids up.1))
+      (filter_either (owned_among (id ∷ ids)) (λ s. nat_eq (g.owner s) id) (owned_among ids) one all_sections))
+    where
+      one : (s : SectionPos) → cond (owned_among (id ∷ ids) s) 1 0 ≡ cond (nat_eq (g.owner s) id) 1 0 + cond (owned_among ids s) 1 0
+      one s = elim (cases_Bool (nat_eq (g.owner s) id)) [
+        | inl e ↦ let n : owned_among ids s ≡ false = let z = not_later id ids up.0 in let k : g.owner s ≡ id = eqb-true (g.owner s) id e in ap (λ i. list_any (nat_eq i) ids) k ∙ z in rw (e, n) refl
+        | inr e ↦ rw e (omega arith)
+      ]
 
-  owner_is : (s : SectionPos) (x : ℕ) → owned_at s ≡ Some x → (g.owner s ≡ x) × (0 < g.owner s)
-  owner_is s x h = elim (cases_Bool (nat_lt 0 (g.owner s))) [
-    | inl e ↦ let k : Some (g.owner s) ≡ Some x = rw e at h in (cc, ltb-true _ _ e)
-    | inr e ↦ let k : None ≡ Some x = rw e at h in absurd (cc)
-  ]
+  -- a row says who owns its section
+  abbrev IsRow : OwnerRow → Type 0
+  IsRow r = r ≡ row r.at
+
+  all_rows : (ss : List SectionPos) → AllByRecursion IsRow (map row ss)
+  all_rows [] = tt
+  all_rows (s ∷ ss) = (refl, all_rows ss)
+
+  rows_back : (rs : List OwnerRow) → AllByRecursion IsRow rs → rs ≡ map row (map (λ r. r.at) rs)
+  rows_back [] h = refl
+  rows_back (r ∷ rs) h = λ i. h.0 i ∷ rows_back rs h.1 i
+
+  places_back : (ss : List SectionPos) → map (λ r. r.at) (map row ss) ≡ ss
+  places_back [] = refl
+  places_back (s ∷ ss) = ap (λ (qs : List SectionPos). s ∷ qs) (places_back ss)
+
+  places_sorted : (rs : List OwnerRow) → IsSortedBy (λ a b. is_lt (section_cmp a.at b.at)) rs → IsSortedBy (λ a b. is_lt (section_cmp a b)) (map (λ r. r.at) rs)
+  places_sorted rs up k d low high =
+      let e : OwnerRow = row d in
+      let n : k + 1 < length rs = let e = length-map rs (λ (r : OwnerRow). r.at) in omega (arith, e, high) in
+      let a = get_or-map (λ (r : OwnerRow). r.at) rs (k + 1) e d n in
+      let b = get_or-map (λ (r : OwnerRow). r.at) rs k e d (omega arith) in
+      rw (a, b) (up k e low n)
+
+  -- rows in order, which are those of these sections in another order
+  pub rows_are : (ss : List SectionPos) (rs : List OwnerRow) → IsStrictlySortedBy section_cmp ss → IsPermutation (map row ss) rs → IsSortedBy (λ a b. is_lt (section_cmp a.at b.at)) rs → rs ≡ map row ss
+  rows_are ss rs rising moved up =
+      let each : AllByRecursion IsRow rs = recursion_from_All IsRow rs (All-permutation IsRow (map row ss) rs moved (All-from_recursion IsRow (map row ss) (all_rows ss))) in
+      let places : IsPermutation ss (map (λ r. r.at) rs) = rw (places_back ss) at (IsPermutation-map (λ (r : OwnerRow). r.at) (map row ss) rs moved) in
+      let same : map (λ r. r.at) rs ≡ ss = sorted_is section_cmp sections_tell (map (λ r. r.at) rs) ss (places_sorted rs up) rising (IsPermutation-sym ss (map (λ r. r.at) rs) places) in
+      rows_back rs each ∙ ap (map row) same
 
   module _ (rules : Rules g) where
-    in_all : (s : SectionPos) → 0 < g.owner s → list_any (eq_by_cmp section_cmp s) all_sections ≡ true
-    in_all s l = sections_listed.members s ∙ rules.section_limits s l
+    owners_live : (s : SectionPos) → owned_among (live_in g) s ≡ is_present g s
+    owners_live s = elim (cases_Bool (nat_lt 0 (g.owner s))) [
+      | inl e ↦ rw e (in_live g (g.owner s) rules (rules.owner_lives s (ltb-true 0 (g.owner s) e)))
+      | inr e ↦ rw e (none_owned e (live_in g) above)
+    ]
+      where
+        above : AllByRecursion (λ id. 0 < id) (live_in g)
+        above = passing (λ r. not (is_dead (g.state r))) (λ id. 0 < id) (λ id h. rules.given id (dead_not (g.state id) h)) (numbers_below g.next)
 
-    listed_once : (s : SectionPos) (x : ℕ) → g.owner s ≡ x → 0 < g.owner s → list_any (λ (e : (ℤ × ℤ) × ℕ). eq_by_cmp place_cmp e.0 (spot s)) (owner_entries g x) ≡ true
-    unfolding section_cmp
-    listed_once s x o l =
-        list_any-map (λ (e : (ℤ × ℤ) × ℕ). eq_by_cmp place_cmp e.0 (spot s)) (owner_entry x) (filter (λ q. nat_eq (g.owner q) x) all_sections)
-        ∙ ap (λ (p : SectionPos → Bool). list_any p (filter (λ q. nat_eq (g.owner q) x) all_sections)) (fun_ext (λ q. turned section_cmp (tells_by section_cmp sections_tell) q s))
-        ∙ laws.filter_members section_cmp sections_tell (λ q. nat_eq (g.owner q) x) all_sections s
-        ∙ and_from (nat_eq (g.owner s) x) (list_any (eq_by_cmp section_cmp s) all_sections) (eq-eqb _ _ o) (in_all s l)
+        none_owned : nat_lt 0 (g.owner s) ≡ false → (ids : List ℕ) → AllByRecursion (λ id. 0 < id) ids → owned_among ids s ≡ false
+        none_owned e [] h = refl
+        none_owned e (id ∷ ids) h = elim (cases_Bool (nat_eq (g.owner s) id)) [
+          | inl k ↦ let o : g.owner s ≡ id = eqb-true (g.owner s) id k in let l : 0 < g.owner s = omega (arith, h.0, o) in absurd (true≢false (sym (lt-ltb 0 (g.owner s) l) ∙ e))
+          | inr k ↦ rw k (none_owned e ids h.1)
+        ]
 
-    all_owned : (q : ℤ × ℤ) (x : ℕ) → owned q ≡ Some x → list_any (λ (e : (ℤ × ℤ) × ℕ). eq_by_cmp place_cmp e.0 q) (flat_map (owner_entries g) (live_in g)) ≡ true
-    all_owned q x h =
-        let o = owner_is (section_at q) x h in
-        let d : g.state x ≢ Dead = let z = rules.owner_lives (section_at q) o.1 in rw o.0 at z in
-        list_any-flat_map (λ (e : (ℤ × ℤ) × ℕ). eq_by_cmp place_cmp e.0 q) (owner_entries g) (live_in g)
-        ∙ any_at (λ id. list_any (λ (e : (ℤ × ℤ) × ℕ). eq_by_cmp place_cmp e.0 q) (owner_entries g id)) x (live_in g) (listed_once (section_at q) x o.0 o.1) (in_live g x rules d)
+    live_rises : IsStrictlySortedBy nat_cmp (live_in g)
+    live_rises = IsStrictlySortedBy-filter nat_cmp (λ r. not (is_dead (g.state r))) (numbers_below g.next) (numbers_sorted g.next)
 
-    within : (q : ℤ × ℤ) (x : ℕ) → owned q ≡ Some x → list_any (eq_by_cmp place_cmp q) (map spot all_sections) ≡ true
-    unfolding section_cmp
-    within q x h = list_any-map (eq_by_cmp place_cmp q) spot all_sections ∙ in_all (section_at q) (owner_is (section_at q) x h).1
+    owner_is : (id : ℕ) → owners_of g id ≡ map row (sections_of id)
+    owner_is id = map_passing (owner_row id) row (λ s. nat_eq (g.owner s) id) (λ s e. let k : g.owner s ≡ id = eqb-true (g.owner s) id e in ap (λ n. record { at = s; region = n }) (sym k)) all_sections
 
-    row_of : (s : SectionPos) → map owner_row (entry_of (spot s) (owned_at s)) ≡ (if is_present g s then (let r : OwnerRow = record { at = s; region = g.owner s } in r ∷ []) else [])
-    row_of s = elim (cases_Bool (nat_lt 0 (g.owner s))) [ inl e ↦ rw e refl | inr e ↦ rw e refl ]
+    -- the rows of each region, one behind the other and then put in order, are the rows of all present sections
+    pub owners_are : (rs : List OwnerRow) → IsPermutation (flat_map (owners_of g) (live_in g)) rs → IsSortedBy (λ a b. is_lt (section_cmp a.at b.at)) rs → rs ≡ owners_in g
+    owners_are rs moved up =
+        let listed : flat_map (owners_of g) (live_in g) ≡ map row (flat_map sections_of (live_in g)) = ap (λ (f : ℕ → List OwnerRow). flat_map f (live_in g)) (fun_ext owner_is) ∙ sym (map_flat row sections_of (live_in g)) in
+        let present : filter (owned_among (live_in g)) all_sections ≡ filter (is_present g) all_sections = ap (λ (p : SectionPos → Bool). filter p all_sections) (fun_ext owners_live) in
+        let whole : IsPermutation (flat_map sections_of (live_in g)) (filter (is_present g) all_sections) = rw present at (parted (live_in g) live_rises) in
+        rows_are (filter (is_present g) all_sections) rs (IsStrictlySortedBy-filter section_cmp (is_present g) all_sections sections_sorted)
+        (IsPermutation-trans (map row (filter (is_present g) all_sections)) (map row (flat_map sections_of (live_in g))) rs
+        (IsPermutation-sym (map row (flat_map sections_of (live_in g))) (map row (filter (is_present g) all_sections)) (IsPermutation-map row (flat_map sections_of (live_in g)) (filter (is_present g) all_sections) whole))
+        (rw listed at moved)) up
 
-    above_none : AllByRecursion (λ id. 0 < id) (live_in g)
-    above_none = passing _ (λ id. 0 < id) (λ id h. rules.given id (dead_not (g.state id) h)) _
-
-    -- the entries of the map are the rows
-    pub owners_are : (old m : BTreeMap (ℤ × ℤ) ℕ) → old.entries ≡ [] → IsOrdered place_cmp m → PutsAll place_cmp old m (flat_map (owner_entries g) (live_in g)) → map owner_row m.entries ≡ owners_in g
-    owners_are old m none ordered puts =
-        let right = puts_right place_cmp tells_places.is owned old m (flat_map (owner_entries g) (live_in g)) none puts (right_all (live_in g) above_none) all_owned in
-        let all : m.entries ≡ flat_map (λ k. entry_of k (owned k)) (map spot all_sections) = entries_are place_cmp tells_places owned (map spot all_sections) m (sorted_spots all_sections sections_sorted) ordered right within in
-        ap (map owner_row) (all ∙ flat_map-map (λ k. entry_of k (owned k)) spot all_sections)
-        ∙ map_flat owner_row (λ s. entry_of (spot s) (owned_at s)) all_sections
-        ∙ ap (λ (f : SectionPos → List OwnerRow). flat_map f all_sections) (fun_ext row_of)
-        ∙ sym (map_filter (λ s. record { at = s; region = g.owner s }) (is_present g) all_sections)
+-- the tables of a core give the owners of the world after its history
+pub owners_stand : (o : Opening) (h : List Entry) (t : Tables) → Stands o h t → owners_in (grid_state t.regions) ≡ owner_rows (world o h)
+unfolding owner_rows
+owners_stand o h t s = ap owners_in s.fits.regions

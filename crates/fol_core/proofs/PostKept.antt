@@ -1,8 +1,8 @@
 -- What the tables stand for after a post.
-use Rattle.std.proofs.Common.{◌≡◌, ◌≢◌, ℕ, ◌+◌, ◌≤◌, ◌<◌, ◌^◌, refl, sym, ◌∙◌, ap, subst, arith, true, false, inl, inr, List, [], ◌∷◌, ◌++◌, not}
+use Rattle.std.proofs.Common.{◌≡◌, ◌≢◌, ℕ, ◌+◌, ◌≤◌, ◌<◌, ◌^◌, refl, sym, ◌∙◌, ap, subst, arith, true, false, inl, inr, List, [], ◌∷◌, ◌++◌}
 use Rattle.std.specs.Prelude.{nat_lt, IsNone, Option, Some, None}
 use Rattle.std.proofs.Math.Path.{fun_ext}
-use Rattle.std.proofs.lemmas.Bool.{cases_Bool, cases_eq, and_parts, and_right, le-ltb}
+use Rattle.std.proofs.lemmas.Bool.{cases_Bool, cases_eq, and_right, le-ltb}
 use Rattle.fol_model.specs.declared.places.ChunkPos.{ChunkPos}
 use Rattle.fol_model.specs.declared.openings.Opening.{Opening}
 use Rattle.fol_model.specs.declared.actions.Action.{Action}
@@ -20,11 +20,9 @@ use Rattle.fol_model.specs.Limits.{is_action, is_delay, may_post}
 use Rattle.fol_model.specs.World.{World}
 use Rattle.fol_model.specs.Run.{Allowed, world}
 use Rattle.fol_laws.proofs.FunctionsChanged.{at_here, at_other}
-use Rattle.fol_chunks.specs.Contents.{is_recorded}
 use Rattle.fol_sections.specs.Places.{count_at}
 use Rattle.fol_regions.specs.Table.{grid_state}
 use Rattle.fol_regions.specs.Changes.{add_change}
-use Rattle.fol_model.specs.Geometry.{section_of}
 use Rattle.fol_store.specs.Bag.{Bag, disturbed}
 use Rattle.fol_store.specs.Stock.{bag_of, jobs_of, next_of}
 use Rattle.fol_core.specs.declared.tables.Course.{Course}
@@ -32,7 +30,7 @@ use Rattle.fol_core.specs.declared.tables.Tables.{Tables}
 use Rattle.fol_core.specs.Hands.{at_rest, since, ticker, went}
 use Rattle.fol_core.specs.Bags.{IsBagOf}
 use Rattle.fol_core.specs.Agenda.{IsAgenda}
-use Rattle.fol_core.specs.Follows.{Holds, Posts, PostsUnless, accept_in, followed}
+use Rattle.fol_core.specs.Follows.{Holds, Posts, PostsUnless, accept_in, followed, gaining}
 use Rattle.fol_core.specs.Stands.{IsCourse, Stands}
 use Rattle.fol_core.proofs.GridRuns.{grid_after}
 use Rattle.fol_core.proofs.Held.{held_bags, held_flat, held_next, held_posted, held_rest}
@@ -76,7 +74,7 @@ disturbed_bag g tick owed recorded c r b is = record {
   taken = is.taken;
   counter = is.counter;
   owes = is.owes;
-  whole = λ d w. is.whole d (and_parts b.whole (not (is_recorded b.chunks c)) w).0;
+  listed = λ d w. is.listed d w;
   out = is.out;
 }
 
@@ -126,7 +124,7 @@ module _ (o : Opening) (h : List Entry) (t : Tables) (s : Stands o h t) (c : Chu
         let bags : (r : ℕ) → IsBagOf (posted (world o h) c d a).grid (posted (world o h) c d a).tick (posted (world o h) c d a).owed (posted (world o h) c d a).recorded r (bag_of u.store r) = λ r.
         let P : (ℕ → Bag) → Type 0 = λ b. IsBagOf (posted (world o h) c d a).grid (posted (world o h) c d a).tick (posted (world o h) c d a).owed (posted (world o h) c d a).recorded r (b r) in
         subst P (sym posts.bags) (disturbed_bag (posted (world o h) c d a).grid (posted (world o h) c d a).tick (posted (world o h) c d a).owed (posted (world o h) c d a).recorded c r _
-        (held_bags o h t s c limits e allowed (λ r. refl) (λ r. refl) m (followed ((add (grid_state t.regions) c).owner (section_of t.grid c)) (add_change (grid_state t.regions) c) (bag_of t.store)) refl r)) in
+        (held_bags o h t s c limits e allowed (λ r. refl) (λ r. refl) m (followed (gaining t.grid (grid_state t.regions) c) (add_change (grid_state t.regions) c) (bag_of t.store)) refl r)) in
         stands_more o h (record { by = by; event = Post caller c d a answer }) t (record u { course = k }) s (sym s.fits.course.finished ∙ free) allowed
         (record {
           grid = posts.grid ∙ s.fits.grid ∙ sym (grid_after (world o h) e);

@@ -52,7 +52,7 @@ module _ (g h : GridState) (tick owed later left : ℕ → ℕ) (recorded : ℕ 
     taken = is.taken ∙ rw s refl;
     counter = λ k. let k : rests g q ≡ true = rw (sym s) k in is.counter k ∙ sym t;
     owes = λ k. let k : rests g q ≡ true = rw (sym s) k in is.owes k ∙ sym o;
-    whole = λ d w. let d : g.state q ≢ Dead = λ e. d (s ∙ e) in is.whole d w ∙ sym (chunks d);
+    listed = λ d w. let d : g.state q ≢ Dead = λ e. d (s ∙ e) in is.listed d w ∙ sym (chunks d);
     out = λ k. is.out (sym s ∙ k);
   }
 
@@ -62,19 +62,19 @@ module _ (g h : GridState) (tick owed later left : ℕ → ℕ) (recorded : ℕ 
     taken = ap (λ (x : Bag). x.taken) e ∙ rw s refl;
     counter = λ k. let x : false ≡ true = rw s at k in absurd (true≢false (sym x));
     owes = λ k. let x : false ≡ true = rw s at k in absurd (true≢false (sym x));
-    whole = λ d. absurd (d s);
+    listed = λ d. absurd (d s);
     out = λ k. let x : Dead ≡ Ticking = sym s ∙ k in absurd (cc);
   }
 
   -- of a region that is at rest, with numbers that are known
   pub bag_rests : (b : Bag) → rests h q ≡ true → h.state q ≢ Ticking → b.here ≡ true → b.taken ≡ false → b.tick ≡ later q → b.owed ≡ left q
-      → (b.whole ≡ true → b.chunks ≡ filter (is_chunk_of h q) all_chunks) → IsBagOf h later left recorded q b
-  bag_rests b r n here taken t o whole = record {
+      → (b.listed ≡ true → b.chunks ≡ filter (is_chunk_of h q) all_chunks) → IsBagOf h later left recorded q b
+  bag_rests b r n here taken t o listed = record {
     here = here ∙ sym r;
     taken = taken ∙ sym (false_from_ne_true (is_ticking (h.state q)) (λ e. n (is_ticking-true (h.state q) e)));
     counter = λ k. t;
     owes = λ k. o;
-    whole = λ d w. whole w;
+    listed = λ d w. listed w;
     out = λ k. absurd (n k);
   }
 
@@ -208,10 +208,10 @@ module _ (g : GridState) (r : ℕ) (rules : Rules g) (ok : IsGrid g.grid) (ticks
     all_taken : (all r).taken ≡ false
     all_taken = joined.taken ∙ ap (λ (b : Bag). b.taken) back_here
 
-    all_whole : (all r).whole ≡ true → (us ≡ []) × ((all r).chunks ≡ filter (is_chunk_of g r) all_chunks)
-    all_whole h = let w = joined.whole h in
-        let whole : (f r).whole ≡ true = sym (ap (λ (b : Bag). b.whole) back_here) ∙ w.1 in
-        (w.0, joined.chunks ∙ ap (λ (b : Bag). b.chunks) back_here ∙ (bags r).whole (λ d. absurd (cc)) whole)
+    all_whole : (all r).listed ≡ true → (us ≡ []) × ((all r).chunks ≡ filter (is_chunk_of g r) all_chunks)
+    all_whole h = let w = joined.listed h in
+        let listed : (f r).listed ≡ true = sym (ap (λ (b : Bag). b.listed) back_here) ∙ w.1 in
+        (w.0, joined.chunks ∙ ap (λ (b : Bag). b.chunks) back_here ∙ (bags r).listed (λ d. absurd (cc)) listed)
 
     all_gone : (q : ℕ) → g.waits q r ≡ true → all q ≡ no_bag
     all_gone q w = joined.gone q (waits_other q w) (among_us q ∙ w)

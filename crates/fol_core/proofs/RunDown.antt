@@ -82,7 +82,7 @@ module _ (g : GridState) (hs : ChunkPos → ℕ) (r : ℕ) (ticks : g.state r �
   abbrev h : GridState
   h = record g { holds = hs }
 
-  own_chunks : l.whole ≡ true → filter (is_chunk_of g r) all_chunks ≡ filter (is_chunk_of h r) all_chunks
+  own_chunks : l.listed ≡ true → filter (is_chunk_of g r) all_chunks ≡ filter (is_chunk_of h r) all_chunks
   own_chunks w = ap (λ (p : ChunkPos → Bool). filter p all_chunks) (fun_ext (λ c. ap (λ (b : Bool). b && nat_eq (owner_of g c) r) (sym (l.loaded w c))))
 
   other_chunks : (q : ℕ) → q ≢ r → filter (is_chunk_of g q) all_chunks ≡ filter (is_chunk_of h q) all_chunks
@@ -91,19 +91,19 @@ module _ (g : GridState) (hs : ChunkPos → ℕ) (r : ℕ) (ticks : g.state r �
     | inr e ↦ ap (λ (b : Bool). b && nat_eq (owner_of g c) q) (sym (others c e))
   ]))
 
-  here_bag : k r ≡ record (f r) { whole = l.whole }
-  here_bag = ap (λ (x : ℕ → Bag). x r) l.bags ∙ at_here f r (record (f r) { whole = l.whole })
+  here_bag : k r ≡ record (f r) { listed = l.listed }
+  here_bag = ap (λ (x : ℕ → Bag). x r) l.bags ∙ at_here f r (record (f r) { listed = l.listed })
 
   other_bag : (q : ℕ) → q ≢ r → k q ≡ f q
-  other_bag q d = ap (λ (x : ℕ → Bag). x q) l.bags ∙ at_other f r (record (f r) { whole = l.whole }) q d
+  other_bag q d = ap (λ (x : ℕ → Bag). x q) l.bags ∙ at_other f r (record (f r) { listed = l.listed }) q d
 
-  own_loosened : IsBagOf g tick owed recorded r (f r) → IsBagOf h later owed recorded r (record (f r) { whole = l.whole })
+  own_loosened : IsBagOf g tick owed recorded r (f r) → IsBagOf h later owed recorded r (record (f r) { listed = l.listed })
   own_loosened b = record {
     here = b.here;
     taken = b.taken;
     counter = λ x. let z : false ≡ true = rw ticks at x in absurd (true≢false (sym z));
     owes = b.owes;
-    whole = λ d w. b.whole d (l.kept w) ∙ own_chunks w;
+    listed = λ d w. b.listed d (l.kept w) ∙ own_chunks w;
     out = b.out;
   }
 
@@ -113,7 +113,7 @@ module _ (g : GridState) (hs : ChunkPos → ℕ) (r : ℕ) (ticks : g.state r �
     taken = b.taken;
     counter = λ x. b.counter x ∙ sym (others_tick q d);
     owes = b.owes;
-    whole = λ n w. b.whole n w ∙ other_chunks q d;
+    listed = λ n w. b.listed n w ∙ other_chunks q d;
     out = b.out;
   }
 

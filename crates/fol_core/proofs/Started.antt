@@ -24,7 +24,7 @@ no_bag_of o r b e = record {
   taken = ap (λ (x : Bag). x.taken) e;
   counter = λ h. absurd (cc);
   owes = λ h. absurd (cc);
-  whole = λ d. absurd (d refl);
+  listed = λ d. absurd (d refl);
   out = λ h. absurd (cc);
 }
 

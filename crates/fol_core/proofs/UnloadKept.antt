@@ -1,5 +1,5 @@
 -- What the tables stand for after an unload.
-use Rattle.std.proofs.Common.{◌≡◌, ◌≢◌, ℕ, ◌+◌, ◌-◌, ◌<◌, ◌^◌, refl, sym, ◌∙◌, ap, subst, arith, true, false, inl, inr, List, [], ◌∷◌, ◌++◌}
+use Rattle.std.proofs.Common.{◌≡◌, ◌≢◌, ℕ, ◌+◌, ◌-◌, ◌<◌, ◌^◌, refl, sym, ◌∙◌, ap, subst, arith, true, false, inl, inr, ◌&&◌, List, [], ◌∷◌, ◌++◌}
 use Rattle.std.specs.Prelude.{nat_eq, nat_lt, Option, Some, None, if◌then◌else◌}
 use Rattle.std.proofs.Math.Path.{fun_ext}
 use Rattle.std.proofs.lemmas.Bool.{cases_Bool, and_right, eqb-true, ne_eqb}
@@ -31,13 +31,14 @@ use Rattle.fol_core.specs.declared.tables.Tables.{Tables}
 use Rattle.fol_core.specs.Hands.{at_rest, in_hands, since, ticker, went}
 use Rattle.fol_core.specs.Bags.{IsBagOf, unsettled_at}
 use Rattle.fol_core.specs.Agenda.{IsAgenda}
-use Rattle.fol_core.specs.Follows.{Drops, IsKnown}
+use Rattle.fol_core.specs.Follows.{Drops, IsKnown, losing}
 use Rattle.fol_core.specs.Answers.{unload_result}
 use Rattle.fol_core.specs.Stands.{Fits, IsCourse, Stands}
 use Rattle.fol_core.proofs.Added.{off_owed}
 use Rattle.fol_core.proofs.AddBags.{same_filter}
 use Rattle.fol_core.proofs.LoadKept.{SameMarks, course_more}
 use Rattle.fol_core.proofs.Longer.{good_of, stands_more}
+use Rattle.fol_core.proofs.Loosened.{stays_loaded}
 use Rattle.fol_core.proofs.UnsettledBags.{IsBagBut, bag_but, known_bag, unsettled_bag}
 
 -- only the chunk's own region may have a chunk less
@@ -50,16 +51,27 @@ dropped_chunks g c r away q = elim (cases_Bool (same_chunk c q)) [
   | inr s ↦ rw s refl
 ]
 
-drop_bag : (g : GridState) (c : ChunkPos) (tick owed : ℕ → ℕ) (recorded : ℕ → Recorded) (r : ℕ) (b : Bag) → IsBagOf g tick owed recorded r b → IsBagBut (drop_hold g c) tick owed recorded (g.owner (section_of g.grid c)) r b
+-- no region has a chunk less unless c had one hold
+kept_chunks : (g : GridState) (c : ChunkPos) (r : ℕ) → nat_eq (g.holds c) 1 ≡ false → (q : ChunkPos) → is_chunk_of (drop_hold g c) r q ≡ is_chunk_of g r q
 unfolding drop_hold
-drop_bag g c tick owed recorded r b is = let same = dropped_chunks g c r in record {
+kept_chunks g c r one q = ap (λ b. b && nat_eq (g.owner (section_of g.grid q)) r) (stays_loaded g c 1 one refl q)
+
+drop_bag : (g : GridState) (c : ChunkPos) (tick owed : ℕ → ℕ) (recorded : ℕ → Recorded) (r : ℕ) (b : Bag) → IsBagOf g tick owed recorded r b → IsBagBut (drop_hold g c) tick owed recorded (losing (section_of g.grid c) g c) r b
+unfolding drop_hold losing
+drop_bag g c tick owed recorded r b is = record {
   here = is.here;
   taken = is.taken;
   counter = is.counter;
   owes = is.owes;
-  whole = λ d away w. is.whole d w ∙ sym (same_filter (is_chunk_of (drop_hold g c) r) (is_chunk_of g r) all_chunks (same away));
+  listed = λ d away w. is.listed d w ∙ sym (same_filter (is_chunk_of (drop_hold g c) r) (is_chunk_of g r) all_chunks (chunks away));
   out = is.out;
 }
+  where
+    chunks : losing (section_of g.grid c) g c ≢ r → (q : ChunkPos) → is_chunk_of (drop_hold g c) r q ≡ is_chunk_of g r q
+    chunks away = elim (cases_Bool (nat_eq (g.holds c) 1)) [
+      | inl e ↦ dropped_chunks g c r (rw e at away)
+      | inr e ↦ kept_chunks g c r e
+    ]
 
 drop_hands : (g : GridState) (c : ChunkPos) (recorded : ℕ → Recorded) → in_hands (drop_hold g c) recorded ≡ in_hands g recorded
 unfolding drop_hold in_hands ticker
@@ -129,13 +141,13 @@ module _ (w : World) (f : ℕ → ℕ) (t u : Tables) (c : ChunkPos) (d : Course
       let course = more in
       let hands = drop_hands w.grid c w.recorded in
       let rest = drop_rest w.grid c f in
-      let b' : bag_of u.store ≡ unsettled_at (w.grid.owner (section_of w.grid.grid c)) (bag_of t.store) = rw (fits.regions, fits.grid) at drops.bags in
-      let all = unsettled_bag (drop_hold w.grid c) w.tick w.owed w.recorded (w.grid.owner (section_of w.grid.grid c)) (bag_of t.store) (drop_live w.grid c given)
+      let b' : bag_of u.store ≡ unsettled_at (losing (section_of w.grid.grid c) w.grid c) (bag_of t.store) = rw (fits.regions, fits.grid) at drops.bags in
+      let all = unsettled_bag (drop_hold w.grid c) w.tick w.owed w.recorded (losing (section_of w.grid.grid c) w.grid c) (bag_of t.store) (drop_live w.grid c given)
       (λ r. drop_bag w.grid c w.tick w.owed w.recorded r (bag_of t.store r) (fits.stored.bags r)) in
       let next : w.grid.next ≡ (drop_hold w.grid c).next = drop_next w.grid c in
       let numbers : w.grid.grid ≡ (drop_hold w.grid c).grid = drop_grid w.grid c in
-      let stack = drop_agenda t.agenda.items w.grid c (bag_of t.store) (unsettled_at (w.grid.owner (section_of w.grid.grid c)) (bag_of t.store))
-      (off_owed (w.grid.owner (section_of w.grid.grid c)) (bag_of t.store)) fits.agenda in
+      let stack = drop_agenda t.agenda.items w.grid c (bag_of t.store) (unsettled_at (losing (section_of w.grid.grid c) w.grid c) (bag_of t.store))
+      (off_owed (losing (section_of w.grid.grid c) w.grid c) (bag_of t.store)) fits.agenda in
       rw e (record {
         grid = drops.grid ∙ fits.grid ∙ numbers;
         regions = drops.regions ∙ ap (λ (g : GridState). drop_hold g c) fits.regions;
@@ -150,7 +162,7 @@ module _ (w : World) (f : ℕ → ℕ) (t u : Tables) (c : ChunkPos) (d : Course
           | inr s ↦ rw s (fits.tickets q)
         ];
         agenda = let P : (ℕ → Bag) → Type 0 = λ b. IsAgenda u.agenda.items (drop_hold w.grid c) b in subst P (sym b')
-            (let Q : List ℕ → Type 0 = λ xs. IsAgenda xs (drop_hold w.grid c) (unsettled_at (w.grid.owner (section_of w.grid.grid c)) (bag_of t.store)) in subst Q (sym drops.agenda) stack);
+            (let Q : List ℕ → Type 0 = λ xs. IsAgenda xs (drop_hold w.grid c) (unsettled_at (losing (section_of w.grid.grid c) w.grid c) (bag_of t.store)) in subst Q (sym drops.agenda) stack);
         course = rw e at course;
       })
 

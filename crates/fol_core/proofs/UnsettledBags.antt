@@ -19,7 +19,7 @@ pub record IsBagBut (g : GridState) (tick owed : ℕ → ℕ) (recorded : ℕ �
   pub taken : b.taken ≡ is_ticking (g.state r)
   pub counter : rests g r ≡ true → b.tick ≡ tick r
   pub owes : rests g r ≡ true → b.owed ≡ owed r
-  pub whole : g.state r ≢ Dead → n ≢ r → b.whole ≡ true → b.chunks ≡ filter (is_chunk_of g r) all_chunks
+  pub listed : g.state r ≢ Dead → n ≢ r → b.listed ≡ true → b.chunks ≡ filter (is_chunk_of g r) all_chunks
   pub out : g.state r ≡ Ticking → b.chunks ≡ filter (recorded r) all_chunks
 
 pub unsettled_bag : (g : GridState) (tick owed : ℕ → ℕ) (recorded : ℕ → Recorded) (n : ℕ) (h : ℕ → Bag) → ((r : ℕ) → g.state r ≢ Dead → 0 < r)
@@ -31,7 +31,7 @@ unsettled_bag g tick owed recorded n h given is r = elim (cases_Bool (nat_lt 0 n
       taken = b.taken;
       counter = b.counter;
       owes = b.owes;
-      whole = λ d w. absurd (true≢false (sym w));
+      listed = λ d w. absurd (true≢false (sym w));
       out = b.out;
     })
     | inr e ↦ let b = is r in rw (l, e) (record {
@@ -39,7 +39,7 @@ unsettled_bag g tick owed recorded n h given is r = elim (cases_Bool (nat_lt 0 n
       taken = b.taken;
       counter = b.counter;
       owes = b.owes;
-      whole = λ d w. b.whole d (eqb-false n r e) w;
+      listed = λ d w. b.listed d (eqb-false n r e) w;
       out = b.out;
     })
   ]
@@ -48,13 +48,13 @@ unsettled_bag g tick owed recorded n h given is r = elim (cases_Bool (nat_lt 0 n
     taken = b.taken;
     counter = b.counter;
     owes = b.owes;
-    whole = λ d w. b.whole d (λ e. let p : 0 < r = given r d in let z : n ≤ 0 = ltb-false 0 n l in omega arith) w;
+    listed = λ d w. b.listed d (λ e. let p : 0 < r = given r d in let z : n ≤ 0 = ltb-false 0 n l in omega arith) w;
     out = b.out;
   })
 ]
 
 pub bag_but : (g : GridState) (tick owed : ℕ → ℕ) (recorded : ℕ → Recorded) (n r : ℕ) (b : Bag) → IsBagOf g tick owed recorded r b → IsBagBut g tick owed recorded n r b
-bag_but g tick owed recorded n r b is = record { here = is.here; taken = is.taken; counter = is.counter; owes = is.owes; whole = λ d m w. is.whole d w; out = is.out }
+bag_but g tick owed recorded n r b is = record { here = is.here; taken = is.taken; counter = is.counter; owes = is.owes; listed = λ d m w. is.listed d w; out = is.out }
 
 pub not_dead : (s : State) → s ≢ Dead → not (is_dead s) ≡ true
 not_dead Transient d = refl

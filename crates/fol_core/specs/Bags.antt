@@ -19,8 +19,8 @@ pub record IsBagOf (g : GridState) (tick owed : ℕ → ℕ) (recorded : ℕ →
   pub taken : b.taken ≡ is_ticking (g.state r)
   pub counter : rests g r ≡ true → b.tick ≡ tick r
   pub owes : rests g r ≡ true → b.owed ≡ owed r
-  -- a whole bag is that of the region's loaded chunks
-  pub whole : g.state r ≢ Dead → b.whole ≡ true → b.chunks ≡ filter (is_chunk_of g r) all_chunks
+  -- a listed bag is that of the region's loaded chunks
+  pub listed : g.state r ≢ Dead → b.listed ≡ true → b.chunks ≡ filter (is_chunk_of g r) all_chunks
   -- a bag that was taken out is that of the recorded chunks
   pub out : g.state r ≡ Ticking → b.chunks ≡ filter (recorded r) all_chunks
 
@@ -36,7 +36,7 @@ StoredIn k w since = Stored k w.grid w.flat w.jobs w.tick w.owed w.recorded sinc
 
 -- one region joins another
 abbrev pub joined_bag : MergePair → (ℕ → Bag) → ℕ → Bag
-joined_bag m f = at_id (at_id f m.from no_bag) m.into (record (f m.into) { owed = max (f m.into).owed (f m.from).owed; whole = false })
+joined_bag m f = at_id (at_id f m.from no_bag) m.into (record (f m.into) { owed = max (f m.into).owed (f m.from).owed; listed = false })
 
 abbrev pub joined_bags : List MergePair → (ℕ → Bag) → ℕ → Bag
 joined_bags [] f = f
@@ -59,7 +59,7 @@ Follow next (x ∷ xs) = (x ≡ next) × Follow (next + 1) xs
 
 -- the bag has to be gathered anew
 abbrev pub unsettled : ℕ → (ℕ → Bag) → ℕ → Bag
-unsettled r f = at_id f r (record (f r) { whole = false })
+unsettled r f = at_id f r (record (f r) { listed = false })
 
 -- the same, where r is the id of a region
 abbrev pub unsettled_at : ℕ → (ℕ → Bag) → ℕ → Bag

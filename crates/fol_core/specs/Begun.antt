@@ -8,13 +8,13 @@ use Rattle.fol_model.specs.Job.{Job}
 use Rattle.fol_model.specs.Outputs.{is_chunk_of}
 use Rattle.fol_store.specs.Bag.{Bag}
 
--- how a bag of region r may differ after a gathering: it is whole for what it was, or for the region's loaded chunks
+-- how a bag of region r may differ after a gathering: it is listed for what it was, or for the region's loaded chunks
 pub record Gathered (g : GridState) (r : ℕ) (old new : Bag) : Type 0 where
   pub here : new.here ≡ old.here
   pub taken : new.taken ≡ old.taken
   pub counter : new.tick ≡ old.tick
   pub owes : new.owed ≡ old.owed
-  pub whole : new.whole ≡ true → ((old.whole ≡ true) × (new.chunks ≡ old.chunks)) ⊎ (new.chunks ≡ filter (is_chunk_of g r) all_chunks)
+  pub listed : new.listed ≡ true → ((old.listed ≡ true) × (new.chunks ≡ old.chunks)) ⊎ (new.chunks ≡ filter (is_chunk_of g r) all_chunks)
   pub out : old.taken ≡ true → new.chunks ≡ old.chunks
 
 -- the task goes with the tick and waits for a later one

@@ -1,10 +1,10 @@
 -- What the rows of a closing are made of.
-use Rattle.std.specs.Prelude.{ℕ, ℤ, ◌≡◌, ◌<◌, true, Bool, nat_eq, List, [], ◌∷◌, ◌++◌, map, filter, flat_map, Option, Some, None}
+use Rattle.std.specs.Prelude.{ℕ, ◌≡◌, ◌<◌, true, Bool, nat_eq, List, [], ◌∷◌, ◌++◌, map, filter, flat_map, Option, Some, None}
 use Rattle.std.specs.List.{AllByRecursion, list_any}
 use Rattle.std.specs.List.Sorted.{IsStrictlySortedBy}
 use Rattle.std.specs.Map.{update_all}
 use Rattle.std.specs.BTreeMap.{BTreeMap, get}
-use Rattle.std.specs.Ordering.{int_cmp, ordering_then, eq_by_cmp}
+use Rattle.std.specs.Ordering.{eq_by_cmp}
 use Rattle.std.specs.declared.cmp.Ordering.{Ordering}
 use Rattle.fol_model.specs.declared.places.SectionPos.{SectionPos}
 use Rattle.fol_model.specs.declared.entities.Entity.{Entity}
@@ -30,10 +30,6 @@ use Rattle.fol_store.specs.TaskRows.{by_number, rows_of}
 abbrev pub PutsAll : {K X : Type 0} → (K → K → Ordering) → BTreeMap K X → BTreeMap K X → List (K × X) → Type 0
 PutsAll {K} c old new es = (q : K) → get c new q ≡ update_all (eq_by_cmp c) (get c old) es q
 
--- the order of sections by their z and x
-abbrev pub place_cmp : ℤ × ℤ → ℤ × ℤ → Ordering
-place_cmp a b = ordering_then (int_cmp a.0 b.0) (int_cmp a.1 b.1)
-
 abbrev pub ticks_in : GridState → ℕ → Bool
 ticks_in g r = is_ticking (g.state r)
 
@@ -51,15 +47,13 @@ pub record HasRow (g : GridState) (bags : ℕ → Bag) (r : ℕ) : Type 0 where
 abbrev pub owners_in : GridState → List OwnerRow
 owners_in g = map (λ s. record { at = s; region = g.owner s }) (filter (is_present g) all_sections)
 
--- a section by z and x, with its region
-abbrev pub owner_entry : ℕ → SectionPos → (ℤ × ℤ) × ℕ
-owner_entry id s = ((s.z, s.x), id)
+-- the row of a section of this region
+abbrev pub owner_row : ℕ → SectionPos → OwnerRow
+owner_row id s = record { at = s; region = id }
 
-abbrev pub owner_entries : GridState → ℕ → List ((ℤ × ℤ) × ℕ)
-owner_entries g id = map (owner_entry id) (filter (λ s. nat_eq (g.owner s) id) all_sections)
-
-abbrev pub owner_row : (ℤ × ℤ) × ℕ → OwnerRow
-owner_row e = record { at = record { x = e.0.1; z = e.0.0 }; region = e.1 }
+-- a row for each section of a region, in order
+abbrev pub owners_of : GridState → ℕ → List OwnerRow
+owners_of g id = map (owner_row id) (filter (λ s. nat_eq (g.owner s) id) all_sections)
 
 -- an entity by its id, with where it stands
 abbrev pub standing_entry : Entity → ℕ × Place

@@ -1,7 +1,9 @@
 -- What follows in the store and in the stack when a hold is added.
-use Rattle.std.specs.Prelude.{ℕ, ◌≡◌, ◌+◌, ◌-◌, ◌≤◌, ◌<◌, ◌^◌, Bool, true, false, ◌||◌, Some, if◌then◌else◌, List, [], ◌∷◌, ◌++◌, length, vec_len, vec_capacity, IsTrue}
+use Rattle.std.specs.Prelude.{ℕ, ◌≡◌, ◌+◌, ◌-◌, ◌≤◌, ◌<◌, ◌^◌, Bool, true, false, ◌||◌, Some, nat_eq, if◌then◌else◌, List, [], ◌∷◌, ◌++◌, length, vec_len, vec_capacity, IsTrue}
 use Rattle.std.specs.HashMap.{spare as room_in}
 use Rattle.fol_model.specs.declared.places.ChunkPos.{ChunkPos}
+use Rattle.fol_model.specs.declared.places.SectionPos.{SectionPos}
+use Rattle.fol_model.specs.declared.grids.Grid.{Grid}
 use Rattle.fol_model.specs.declared.events.Loaded.{Loaded}
 use Rattle.fol_model.specs.declared.events.Loaded.TheVariants.{Full, Counted}
 use Rattle.fol_model.specs.declared.events.Accept.{Accept}
@@ -10,7 +12,7 @@ use Rattle.fol_model.specs.declared.actions.Action.{Action}
 use Rattle.fol_model.specs.ActionStep.{at_id}
 use Rattle.fol_model.specs.Job.{queued}
 use Rattle.fol_model.specs.Geometry.{is_chunk, same_chunk, section_of}
-use Rattle.fol_model.specs.GridState.{GridState, at_chunk, present_count}
+use Rattle.fol_model.specs.GridState.{GridState, at_chunk, is_loaded, present_count}
 use Rattle.fol_model.specs.Add.{add, is_full, wanted}
 use Rattle.fol_model.specs.Drop.{drop_hold}
 use Rattle.fol_sections.specs.Places.{count_at}
@@ -24,11 +26,19 @@ use Rattle.fol_core.specs.Bags.{CanJoin, Follow, joined_bags, opened_bags, unset
 use Rattle.fol_core.specs.Agenda.{Covers, HaveBags, IsAgenda}
 use Rattle.fol_core.specs.Same.{SameThings}
 
+-- the region that has a chunk more after a hold more of c, and 0 where c was held already
+unfoldable pub gaining : Grid → GridState → ChunkPos → ℕ
+gaining n g c = if is_loaded g c then 0 else (add g c).owner (section_of n c)
+
+-- the region of the section s of c, which has a chunk less after a hold less of c, and 0 where c had another number of holds than 1
+unfoldable pub losing : SectionPos → GridState → ChunkPos → ℕ
+losing s g c = if nat_eq (g.holds c) 1 then g.owner s else 0
+
 -- the new regions come, and then some join
 abbrev pub changed_bags : Changes → (ℕ → Bag) → ℕ → Bag
 changed_bags ch f = joined_bags ch.merges (opened_bags 0 0 ch.created f)
 
--- the region r has other chunks, too
+-- the region r, if it is one, has other chunks, too
 abbrev pub followed : ℕ → Changes → (ℕ → Bag) → ℕ → Bag
 followed r ch f = unsettled_at r (changed_bags ch f)
 
@@ -61,7 +71,7 @@ pub record CanHold (t : Tables) (c : ChunkPos) : Type 0 where
   pub few_ids : (grid_state t.regions).next < 2 ^ 62
   pub few_tickets : count_at t.tickets.entries c < 2 ^ 62
   pub bags : CanFollow t.store (add_change (grid_state t.regions) c) ((add (grid_state t.regions) c).owner (section_of t.grid c))
-  pub covers : CanCover t.agenda.items (add (grid_state t.regions) c) (add_change (grid_state t.regions) c) (followed ((add (grid_state t.regions) c).owner (section_of t.grid c)) (add_change (grid_state t.regions) c) (bag_of t.store))
+  pub covers : CanCover t.agenda.items (add (grid_state t.regions) c) (add_change (grid_state t.regions) c) (followed (gaining t.grid (grid_state t.regions) c) (add_change (grid_state t.regions) c) (bag_of t.store))
   pub room : vec_len t.agenda < vec_capacity t.agenda
   pub tickets : 1 ≤ room_in t.tickets
 
@@ -69,7 +79,7 @@ pub record CanHold (t : Tables) (c : ChunkPos) : Type 0 where
 pub record Holds (old new : Tables) (c : ChunkPos) : Type 0 where
   pub grid : new.grid ≡ old.grid
   pub regions : grid_state new.regions ≡ add (grid_state old.regions) c
-  pub bags : bag_of new.store ≡ followed ((add (grid_state old.regions) c).owner (section_of old.grid c)) (add_change (grid_state old.regions) c) (bag_of old.store)
+  pub bags : bag_of new.store ≡ followed (gaining old.grid (grid_state old.regions) c) (add_change (grid_state old.regions) c) (bag_of old.store)
   pub things : SameThings old.store new.store
   pub next : next_of new.store ≡ next_of old.store + length (add_change (grid_state old.regions) c).created
   pub spare : new.store.spare ≡ old.store.spare
@@ -83,11 +93,11 @@ load_answer_in g c = if is_full g c then Full (present_count g) (wanted g c) els
 abbrev pub tickets_after : Bool → (ChunkPos → ℕ) → ChunkPos → ChunkPos → ℕ
 tickets_after full tickets c q = if full then tickets q else (if same_chunk c q then tickets c + 1 else tickets q)
 
--- a ticket and a hold less, unless there was none; the chunk's region may have a chunk less then
+-- a ticket and a hold less, unless there was none
 pub record Drops (old new : Tables) (c : ChunkPos) (none : Bool) : Type 0 where
   pub grid : new.grid ≡ old.grid
   pub regions : grid_state new.regions ≡ (if none then grid_state old.regions else drop_hold (grid_state old.regions) c)
-  pub bags : bag_of new.store ≡ (if none then bag_of old.store else unsettled_at ((grid_state old.regions).owner (section_of old.grid c)) (bag_of old.store))
+  pub bags : bag_of new.store ≡ (if none then bag_of old.store else unsettled_at (losing (section_of old.grid c) (grid_state old.regions) c) (bag_of old.store))
   pub things : SameThings old.store new.store
   pub next : next_of new.store ≡ next_of old.store
   pub tickets : (q : ChunkPos) → count_at new.tickets.entries q ≡ at_chunk (count_at old.tickets.entries) c (count_at old.tickets.entries c - 1) q
@@ -101,7 +111,7 @@ accept_in g n c = if is_full g c then accept.Full (present_count g) (wanted g c)
 pub record Posts (old new : Tables) (c : ChunkPos) (d : ℕ) (a : Action) : Type 0 where
   pub grid : new.grid ≡ old.grid
   pub regions : grid_state new.regions ≡ add (grid_state old.regions) c
-  pub bags : bag_of new.store ≡ λ r. disturbed c (followed ((add (grid_state old.regions) c).owner (section_of old.grid c)) (add_change (grid_state old.regions) c) (bag_of old.store) r)
+  pub bags : bag_of new.store ≡ λ r. disturbed c (followed (gaining old.grid (grid_state old.regions) c) (add_change (grid_state old.regions) c) (bag_of old.store) r)
   pub flat : flat_of new.store ≡ flat_of old.store
   pub jobs : jobs_of new.store ≡ at_id (jobs_of old.store) old.course.next_job (Some (queued c d a))
   pub next : next_of new.store ≡ next_of old.store + length (add_change (grid_state old.regions) c).created

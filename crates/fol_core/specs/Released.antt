@@ -23,7 +23,7 @@ use Rattle.fol_core.specs.Bags.{CanJoin, Follow, joined_bags}
 
 -- of a part: it has the numbers of the region that fell apart, and nothing was gathered for it
 abbrev pub part_bag : ℕ → ℕ → Bag
-part_bag tick owed = record (new_bag tick owed) { whole = false }
+part_bag tick owed = record (new_bag tick owed) { listed = false }
 
 abbrev pub opened_parts : ℕ → ℕ → List ℕ → (ℕ → Bag) → ℕ → Bag
 opened_parts tick owed [] f = f
@@ -60,10 +60,10 @@ pub record CanRelease (k : Stock) (xs : List ℕ) (g : GridState) (r tick owed :
 
 -- the bag of r stays but that it may have to be gathered anew; where it has not, the same chunks are loaded
 pub record Loosens (g h : GridState) (r : ℕ) (f k : ℕ → Bag) : Type 0 where
-  pub whole : Bool
-  pub bags : k ≡ at_id f r (record (f r) { whole = whole })
-  pub kept : whole ≡ true → (f r).whole ≡ true
-  pub loaded : whole ≡ true → (c : ChunkPos) → is_loaded h c ≡ is_loaded g c
+  pub listed : Bool
+  pub bags : k ≡ at_id f r (record (f r) { listed = listed })
+  pub kept : listed ≡ true → (f r).listed ≡ true
+  pub loaded : listed ≡ true → (c : ChunkPos) → is_loaded h c ≡ is_loaded g c
 
 -- the region can be released: these are its chunks, and this is what comes back
 pub record CanEnd (t : Tables) (r : ℕ) (places : List ChunkPos) (body : RegionData) : Type 0 where

@@ -6,6 +6,7 @@ use Rattle.fol_model.specs.declared.events.Entry.{Entry}
 use Rattle.fol_model.specs.declared.tasks.Task.{Task}
 use Rattle.fol_regions.specs.Table.{grid_state}
 use Rattle.fol_regions.specs.Answers.{IsGiven}
+use Rattle.fol_store.specs.Bag.{is_whole}
 use Rattle.fol_store.specs.Stock.{Stock, bag_of, due_of}
 use Rattle.fol_core.specs.declared.tables.Course.{Course}
 use Rattle.fol_core.specs.declared.tables.Tables.{Tables}
@@ -23,7 +24,7 @@ pub record BeginRoom (room : Room) (t : Tables) (h : Vec Entry) : Type 0 where
   pub size : t.course.size < 2 ^ 50
   pub history : vec_len h + 2 ≤ vec_capacity h
   pub empty : room.due.items ≡ []
-  pub whole : owes (grid_state t.regions) (bag_of t.store) room.id ≡ true → (bag_of t.store room.id).whole ≡ true
+  pub whole : owes (grid_state t.regions) (bag_of t.store) room.id ≡ true → is_whole (bag_of t.store room.id) ≡ true
   pub due : owes (grid_state t.regions) (bag_of t.store) room.id ≡ true → due_of t.store room.id ≤ vec_capacity room.due
 
 abbrev pub HasRoom : Option Room → Tables → Vec Entry → Type 0
@@ -47,5 +48,5 @@ pub record HasGrown (t : Tables) (h : Vec Entry) (wanted : ℕ) : Type 0 where
 -- an empty list with room for the due tasks of a whole bag, where the region owes a tick
 pub record DueRoom (due : Vec Task) (k : Stock) (owes : Bool) (id : ℕ) : Type 0 where
   pub empty : due.items ≡ []
-  pub whole : owes ≡ true → (bag_of k id).whole ≡ true
+  pub whole : owes ≡ true → is_whole (bag_of k id) ≡ true
   pub room : owes ≡ true → due_of k id ≤ vec_capacity due

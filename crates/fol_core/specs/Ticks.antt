@@ -1,5 +1,5 @@
 -- The ticks that a core gives out and takes back.
-use Rattle.std.specs.Prelude.{ℕ, ◌≡◌, ◌+◌, ◌-◌, true, false, ◌&&◌, nat_eq, if◌then◌else◌, List, [], ◌∷◌, ◌++◌, filter, length, Option, Some, None}
+use Rattle.std.specs.Prelude.{ℕ, ◌≡◌, ◌+◌, ◌-◌, true, false, List, [], ◌∷◌, ◌++◌, filter, length}
 use Rattle.fol_model.specs.declared.events.Event.TheVariants.{Begin}
 use Rattle.fol_model.specs.declared.events.Entry.{Entry}
 use Rattle.fol_model.specs.declared.openings.Opening.{Opening}

@@ -10,7 +10,7 @@ ghost use Rattle.fol_regions.specs.Table.{grid_state};
 ghost use Rattle.fol_regions.specs.Answers.{IsGiven as IsGivenIn};
 ghost use Rattle.fol_queues.specs.Waiting.{jobs_of as queued_of, task_in, option_filter};
 ghost use Rattle.fol_chunks.specs.Contents.{flat_of as contents_of, is_recorded, outside, within};
-ghost use Rattle.fol_store.specs.Bag.{taken_out};
+ghost use Rattle.fol_store.specs.Bag.{is_whole, taken_out};
 ghost use Rattle.fol_store.specs.Gathered.{AreFree};
 ghost use Rattle.fol_store.specs.Stock.{bag_of, due_of, flat_of, jobs_of, next_of};
 ghost use Rattle.fol_core.specs.Agenda.{Covers, HaveBags, IsAgenda, owes as owes_tick};
@@ -118,19 +118,22 @@ fn due_list(
     Ok(due)
 }
 
-/// Makes the bag of a region whole for the region's loaded chunks.
+/// Makes the bag of a region whole for the region's loaded chunks. Where these are the bag's, only what came goes into it.
 fn settle(alloc: Global, regions: &Regions, store: &mut Store, id: u64) -> Result<(), AllocError>
     requires given { IsGivenIn (grid_state regions.now) id }
     requires here { (bag_of store.old id).here ≡ true }
     requires at_home { (bag_of store.old id).taken ≡ false }
     requires free { AreFree (bag_of store.old) (filter (is_chunk_of (grid_state regions.now) id) all_chunks) }
     ensures bags { (r : ℕ) → Gathered (grid_state regions.now) r (bag_of store.old r) (bag_of store.new r) }
-    ensures whole { OnOk result ((bag_of store.new id).whole ≡ true) }
+    ensures whole { OnOk result (is_whole (bag_of store.new id) ≡ true) }
     ensures things { SameThings store.old store.new }
     ensures next { next_of store.new ≡ next_of store.old }
 {
     if store.is_whole(id) {
         return Ok(());
+    }
+    if store.is_listed(id) {
+        return store.settle(id);
     }
     let mut chunks = Vec::with_capacity(alloc, regions.chunk_count(id) as usize)?;
     regions.list_chunks(id, &mut chunks);
@@ -153,7 +156,7 @@ fn hand_out(tables: &mut Tables, id: u64, room: Vec<Task>) -> Begun
     requires given { IsGivenIn (grid_state tables.old.regions) id }
     requires owing { owes_tick (grid_state tables.old.regions) (bag_of tables.old.store) id ≡ true }
     requires here { (bag_of tables.old.store id).here ≡ true }
-    requires whole { (bag_of tables.old.store id).whole ≡ true }
+    requires whole { is_whole (bag_of tables.old.store id) ≡ true }
     requires empty { room.items ≡ [] }
     requires room { due_of tables.old.store id ≤ vec_capacity room }
     requires bags { HaveBags (begin (grid_state tables.old.regions) id) (at_id (bag_of tables.old.store) id (taken_out (bag_of tables.old.store id))) }

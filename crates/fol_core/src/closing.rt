@@ -13,10 +13,11 @@ ghost use Rattle.fol_store.specs.Stock.{bag_of};
 ghost use Rattle.fol_core.specs.Meaning.{world_of};
 ghost use Rattle.fol_core.specs.Answers.{Faults, is_ticking_in};
 ghost use Rattle.fol_core.specs.Stands.{Stands};
-ghost use Rattle.fol_core.specs.Closings.{ArePlaces, AreThings, HasRow, PutsAll, arrival_entries, owner_entries, owner_entry, owner_row, owners_in, place_cmp, place_row, places_in, row_in, standing_entry, ticks_in};
+ghost use Rattle.fol_core.specs.Closings.{ArePlaces, AreThings, HasRow, PutsAll, arrival_entries, owners_in, place_row, places_in, row_in, standing_entry, ticks_in};
 
 use crate::CloseFault;
 use crate::machine::Core;
+use crate::owners::list_owners;
 use crate::tables::Tables;
 use fol_model::{
     Action, BlockAt, Closing, Entity, EntityRow, Entry, Opening, OwnerRow, Place, RegionRow,
@@ -26,9 +27,6 @@ use fol_regions::Regions;
 use fol_store::{Rows, Store};
 use std::alloc::{AllocError, Global};
 use std::collections::BTreeMap;
-
-/// The region of a section by its `z` and `x`.
-type Owners = BTreeMap<(i32, i32), u64>;
 
 /// The place of an entity by its id.
 type Places = BTreeMap<u32, Place>;
@@ -108,7 +106,7 @@ fn grid_rows(
     ensures owners { IfOk result (λ rows. rows.owners.items ≡ owners_in (grid_state regions.now)) }
 {
     let region_list = region_rows(alloc, regions, store, live)?;
-    let owner_list = owner_rows(alloc, regions, live)?;
+    let owner_list = list_owners(alloc, regions, live)?;
     Ok(GridRows {
         regions: region_list,
         owners: owner_list,
@@ -218,60 +216,6 @@ fn region_row(regions: &Regions, store: &Store, id: u64) -> RegionRow
         sections: regions.sections(id).len() as u32,
         chunks: regions.chunk_count(id) as u32,
     }
-}
-
-/// The sections of these regions, by (z, x), with their regions.
-fn owner_rows(alloc: Global, regions: &Regions, live: &[u64]) -> Result<Vec<OwnerRow>, AllocError>
-    requires live { live.now ≡ filter (λ r. not (is_dead ((grid_state regions.now).state r))) (numbers_below (grid_state regions.now).next) }
-    ensures { IfOk result (λ v. v.items ≡ owners_in (grid_state regions.now)) }
-{
-    regions.keeps_rules();
-    let mut owners = BTreeMap::new(alloc);
-    put_owners(&mut owners, regions, live)?;
-    list_owners(alloc, &owners)
-}
-
-/// Puts the sections of these regions into a map.
-fn put_owners(owners: &mut Owners, regions: &Regions, live: &[u64]) -> Result<(), AllocError>
-    requires given { All (λ id. (0 < id) × (id < (grid_state regions.now).next)) live.now }
-    ensures { OnOk result (PutsAll place_cmp owners.old owners.new (flat_map (owner_entries (grid_state regions.now)) live.now)) }
-{
-    for id in live {
-        put_sections(owners, regions.sections(*id), *id)?;
-    }
-    Ok(())
-}
-
-/// Puts sections of one region into a map.
-fn put_sections(owners: &mut Owners, sections: &[SectionPos], id: u64) -> Result<(), AllocError>
-    ensures { OnOk result (PutsAll place_cmp owners.old owners.new (map (owner_entry id) sections.now)) }
-{
-    for s in sections {
-        put_section(owners, *s, id)?;
-    }
-    Ok(())
-}
-
-/// Puts a section into a map.
-fn put_section(owners: &mut Owners, s: SectionPos, id: u64) -> Result<(), AllocError>
-    ensures { OnOk result (PutsAll place_cmp owners.old owners.new (owner_entry id s ∷ [])) }
-{
-    owners.insert((s.z, s.x), id)?;
-    Ok(())
-}
-
-/// The rows of a map of owners.
-fn list_owners(alloc: Global, owners: &Owners) -> Result<Vec<OwnerRow>, AllocError>
-    ensures rows { IfOk result (λ v. v.items ≡ map owner_row owners.now.entries) }
-    ensures ordered { IsOrdered place_cmp owners.now }
-{
-    owners
-        .iter()
-        .map(|((z, x), id)| OwnerRow {
-            at: SectionPos { x: *x, z: *z },
-            region: *id,
-        })
-        .collect(alloc)
 }
 
 /// The rows of entities that stand or that a task brings, by id.

@@ -4,6 +4,7 @@ ghost use Rattle.std.specs.Prelude.{◌≡◌, ◌+◌, ◌≤◌, ◌<◌, ◌+
 ghost use Rattle.fol_model.specs.declared.places.ChunkPos.{ChunkPos};
 ghost use Rattle.fol_model.specs.Geometry.{is_chunk, section_of as section_around};
 ghost use Rattle.fol_model.specs.Add.{is_full};
+ghost use Rattle.fol_model.specs.Drop.{drop_hold as drop};
 ghost use Rattle.fol_sections.specs.Places.{count_at};
 ghost use Rattle.fol_regions.specs.Table.{grid_state};
 ghost use Rattle.fol_regions.specs.Answers.{add_answer};
@@ -11,7 +12,7 @@ ghost use Rattle.fol_regions.specs.Changes.{add_change};
 ghost use Rattle.fol_store.specs.Stock.{bag_of, next_of};
 ghost use Rattle.fol_core.specs.Answers.{LoadRecords, UnloadRecords, load_result, unload_result};
 ghost use Rattle.fol_core.specs.Bags.{unsettled_at};
-ghost use Rattle.fol_core.specs.Follows.{CanFollow, CanHold, Drops, Holds, IsKnown, followed, load_answer_in, target_in, tickets_after};
+ghost use Rattle.fol_core.specs.Follows.{CanFollow, CanHold, Drops, Holds, IsKnown, followed, load_answer_in, losing, target_in, tickets_after};
 ghost use Rattle.fol_core.specs.Meaning.{Stays, world_of};
 ghost use Rattle.fol_core.specs.Posts.{LeavesRoom};
 ghost use Rattle.fol_core.specs.Same.{SameThings};
@@ -21,7 +22,7 @@ use crate::bags::{join, open_all};
 use crate::machine::{Core, record};
 use crate::tables::{Tables, grow};
 use fol_model::{ChunkPos, Event, Loaded, SectionPos, Unloaded, section_of};
-use fol_regions::{AddAnswer, MergePair, Regions};
+use fol_regions::{AddAnswer, MergePair, Regions, Removed};
 use fol_sections::{count_hold, drop_hold};
 use fol_store::Store;
 use std::alloc::AllocError;
@@ -92,7 +93,7 @@ fn loaded(tables: &mut Tables, c: ChunkPos) -> Loaded
     }
 }
 
-/// Takes a ticket, where the chunk has one. The chunk's region may have a chunk less then.
+/// Takes a ticket, where the chunk has one. With its last hold the chunk's region loses the chunk.
 fn unloaded(tables: &mut Tables, c: ChunkPos) -> Unloaded
     requires known { IsKnown (bag_of tables.old.store) ((grid_state tables.old.regions).owner (section_around tables.old.grid c)) }
     ensures answer { result ≡ (if nat_eq (count_at tables.old.tickets.entries c) 0 then Unloaded.NoTicket else Unloaded.Lowered) }
@@ -102,12 +103,27 @@ fn unloaded(tables: &mut Tables, c: ChunkPos) -> Unloaded
         return Unloaded::NoTicket;
     }
     let home = section_of(&tables.grid, c);
-    unsettle_owner(&tables.regions, &mut tables.store, home);
-    tables.regions.remove(c);
+    lower(&mut tables.regions, &mut tables.store, home, c);
     Unloaded::Lowered
 }
 
+/// Takes a hold from a chunk of a section. With the last hold the region of the section has a chunk less.
+fn lower(regions: &mut Regions, store: &mut Store, home: SectionPos, c: ChunkPos)
+    requires { IsKnown (bag_of store.old) ((grid_state regions.old).owner home) }
+    ensures regions { grid_state regions.new ≡ drop (grid_state regions.old) c }
+    ensures bags { bag_of store.new ≡ unsettled_at (losing home (grid_state regions.old) c) (bag_of store.old) }
+    ensures things { SameThings store.old store.new }
+    ensures next { next_of store.new ≡ next_of store.old }
+{
+    match regions.remove(c) {
+        Removed::Gone => unsettle_owner(regions, store, home),
+        Removed::Lowered => {}
+        Removed::NotLoaded => {}
+    }
+}
+
 /// Counts a hold more of a chunk, and lets bags and stack follow.
+#[tactic(auto, unfolding(crate::specs::Follows::gaining))]
 pub(crate) fn hold(tables: &mut Tables, c: ChunkPos) -> AddAnswer
     requires { CanHold tables.old c }
     ensures answer { result ≡ add_answer (grid_state tables.old.regions) c }
@@ -115,21 +131,19 @@ pub(crate) fn hold(tables: &mut Tables, c: ChunkPos) -> AddAnswer
     ensures tickets { tables.new.tickets ≡ tables.old.tickets }
     ensures left { LeavesRoom tables.old tables.new (length (add_change (grid_state tables.old.regions) c).created) }
 {
+    let held = tables.regions.holds(c) > 0;
     let answer = tables.regions.add(c);
-    follow(
-        &tables.regions,
-        &mut tables.store,
-        section_of(&tables.grid, c),
-    );
+    let home = section_of(&tables.grid, c);
+    follow(&tables.regions, &mut tables.store, home, held);
     add_target(&mut tables.agenda, tables.regions.last().merges());
     tidy(&mut tables.agenda, &tables.regions, &tables.store);
     answer
 }
 
-/// The bags follow the last change of the regions, after which the region of the section has other chunks.
-fn follow(regions: &Regions, store: &mut Store, s: SectionPos)
+/// The bags follow the last change of the regions. Where its chunk was not held before, the region of the section has a chunk more.
+fn follow(regions: &Regions, store: &mut Store, s: SectionPos, held: bool)
     requires { CanFollow store.old regions.now.last ((grid_state regions.now).owner s) }
-    ensures bags { bag_of store.new ≡ followed ((grid_state regions.now).owner s) regions.now.last (bag_of store.old) }
+    ensures bags { bag_of store.new ≡ followed (if held then 0 else (grid_state regions.now).owner s) regions.now.last (bag_of store.old) }
     ensures things { SameThings store.old store.new }
     ensures next { next_of store.new ≡ next_of store.old + length regions.now.last.created }
     ensures spare { store.new.spare ≡ store.old.spare }
@@ -138,7 +152,9 @@ fn follow(regions: &Regions, store: &mut Store, s: SectionPos)
     let change = regions.last();
     open_all(store, change.created(), 0, 0);
     join(store, change.merges());
-    unsettle_owner(regions, store, s);
+    if !held {
+        unsettle_owner(regions, store, s);
+    }
 }
 
 /// The region of the section, if there is one, has other chunks.

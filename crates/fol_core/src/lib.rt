@@ -12,6 +12,7 @@ mod closing;
 mod ends;
 mod holds;
 mod machine;
+mod owners;
 mod phase_steps;
 mod phases;
 mod posts;

@@ -2,7 +2,7 @@
 use Rattle.std.proofs.Common.{◌≡◌, ℕ, ◌-◌, ◌<◌, Bool, true, false, not, cond, ◌&&◌, List, [], ◌∷◌, ◌++◌, length, get_or, refl, sym, ◌∙◌, ap, subst, ◌⊎◌, inl, inr, arith, Option, Some, None}
 use Rattle.std.specs.Prelude.{nat_eq, if◌then◌else◌, IsNone}
 use Rattle.std.specs.Option.{option_map}
-use Rattle.std.proofs.lemmas.Bool.{cases_Bool, eqb-true}
+use Rattle.std.proofs.lemmas.Bool.{cases_Bool, eqb-true, and_parts}
 use Rattle.std.proofs.lemmas.List.Elements.{All-append, All-cons, All-nil}
 use Rattle.std.proofs.Math.Path.{fun_ext}
 use Rattle.fol_model.specs.ActionStep.{at_id}
@@ -17,11 +17,12 @@ use Rattle.fol_store.specs.declared.slot.Slot.{Slot}
 use Rattle.fol_store.specs.declared.places.Place.{Place}
 use Rattle.fol_store.specs.Bag.{disturbed}
 use Rattle.fol_store.specs.Places.{is_bag, is_number}
+use Rattle.fol_store.specs.Slots.{stays_calm}
 use Rattle.fol_store.specs.Things.{Key, of_block, of_entity, of_task, Thing, things, chunk_at, IsTimely}
 use Rattle.fol_store.specs.Stock.{Stock, Where, arriving, in_spot, in_bag, slot, place, column, found, flat_of, jobs_of, bag_of, shown, no_slot}
-use Rattle.fol_store.specs.Sound.{Allows, IsBag, IsSound}
+use Rattle.fol_store.specs.Sound.{Allows, Near, IsBag, IsSound}
 use Rattle.fol_store.proofs.Totals.{IsUnique, found_of, found_none, found_columns, same_flat_at}
-use Rattle.fol_store.proofs.Resound.{Kept, kept_bag}
+use Rattle.fol_store.proofs.Resound.{Kept, kept_bag, near_kept}
 use Rattle.fol_store.proofs.BagSteps.{with_room}
 
 -- the test for a bag
@@ -40,7 +41,7 @@ map_none f None h = refl
 map_none f (Some x) h = cc
 
 module _ (s : Stock) (d : Dated) (bags : List Slot) (spare slots : ℕ)
-    (e : (u : ℕ) → get_or bags u no_slot ≡ (if is_bag u (place s d.task.chunk) then record (slot s u) { whole = false } else slot s u))
+    (e : (u : ℕ) → get_or bags u no_slot ≡ (if is_bag u (place s d.task.chunk) then record (slot s u) { calm = stays_calm (slot s u) } else slot s u))
     (fresh : found s (of_task d.task.number) ≡ None) (h : IsSound s) where
   abbrev t : Stock
   t = with_room s (s.arrivals ++ d ∷ []) bags spare slots
@@ -51,7 +52,7 @@ module _ (s : Stock) (d : Dated) (bags : List Slot) (spare slots : ℕ)
   body_same : (u : ℕ) (k : Key) → things (slot t u).body k ≡ things (slot s u).body k
   body_same u k = ap (λ (b : Slot). things b.body k) (e u) ∙ pick (is_bag u (place s d.task.chunk)) (slot s u)
     where
-      pick : (q : Bool) (r : Slot) → things (let z : Slot = (if q then record r { whole = false } else r) in z).body k ≡ things r.body k
+      pick : (q : Bool) (r : Slot) → things (let z : Slot = (if q then record r { calm = stays_calm r } else r) in z).body k ≡ things r.body k
       pick true r = refl
       pick false r = refl
 
@@ -109,23 +110,24 @@ module _ (s : Stock) (d : Dated) (bags : List Slot) (spare slots : ℕ)
   kept : (u : ℕ) → Kept (slot s u) (slot t u)
   kept u = let P : Slot → Type 0 = λ b. Kept (slot s u) b in subst P (sym (e u)) (pick (is_bag u (place s d.task.chunk)))
     where
-      pick : (q : Bool) → Kept (slot s u) (if q then record (slot s u) { whole = false } else slot s u)
-      pick true = record { here = refl; taken = refl; chunks = refl; handed = refl; whole = λ o. (let z : false ≡ true = o in cc) }
-      pick false = record { here = refl; taken = refl; chunks = refl; handed = refl; whole = λ o. o }
+      pick : (q : Bool) → Kept (slot s u) (if q then record (slot s u) { calm = stays_calm (slot s u) } else slot s u)
+      pick true = record { here = refl; taken = refl; chunks = refl; handed = refl; touched = refl; listed = λ o. o; calm = λ o. (and_parts (slot s u).calm (not (slot s u).listed) o).0 }
+      pick false = record { here = refl; taken = refl; chunks = refl; handed = refl; touched = refl; listed = λ o. o; calm = λ o. o }
 
-  -- a bag that is whole still does not have the chunk
-  not_there : (u : ℕ) → (slot t u).whole ≡ true → is_recorded (slot s u).chunks d.task.chunk ≡ true → ⊥
-  not_there u o r =
-      let before : (slot s u).whole ≡ true = (kept u).whole o in
+  -- a listed bag that has the chunk is calm no more
+  stirred : (u : ℕ) → (slot t u).listed ≡ true → is_recorded (slot s u).chunks d.task.chunk ≡ true → (slot t u).calm ≡ true → ⊥
+  stirred u o r m =
+      let before : (slot s u).listed ≡ true = (kept u).listed o in
       let held : (place s d.task.chunk).bag ≡ Some u = (h.bags u).held (rw before refl) d.task.chunk r in
-      let f : (slot t u).whole ≡ false = ap (λ (b : Slot). b.whole) (e u) ∙ rw (is_bag-some (place s d.task.chunk) u held) refl in
-      let z : true ≡ false = sym o ∙ f in cc
+      let f : (slot t u).calm ≡ stays_calm (slot s u) = ap (λ (b : Slot). b.calm) (e u) ∙ rw (is_bag-some (place s d.task.chunk) u held) refl in
+      let g : not (slot s u).listed ≡ true = (and_parts (slot s u).calm (not (slot s u).listed) (sym f ∙ m)).1 in
+      let z : false ≡ true = rw before at g in cc
 
   bag : (u : ℕ) → IsBag t u (slot t u)
   bag u = kept_bag s t u (slot s u) (slot t u) (kept u) (λ c q. inl q) (λ o c q. q)
       (λ o k w x q r. elim (back k w x q) [
-        | inl a ↦ (h.bags u).alone ((kept u).whole o) k w x a r
-        | inr a ↦ absurd (not_there u o (sym (ap (is_recorded (slot s u).chunks) a.chunk) ∙ r))
+        | inl a ↦ near_kept u (slot s u) (slot t u) (kept u) (chunk_at k x) w ((h.bags u).near ((kept u).listed o) k w x a r)
+        | inr a ↦ let P : Where → Type 0 = λ v. Near u (slot t u) (chunk_at k x) v in subst P (sym a.there) (stirred u o (sym (ap (is_recorded (slot s u).chunks) a.chunk) ∙ r))
       ])
       (λ o k x q. elim (back k (in_bag u) x q) [
         | inl a ↦ (h.bags u).out (sym (kept u).taken ∙ o) k x a
@@ -152,7 +154,7 @@ module _ (s : Stock) (d : Dated) (bags : List Slot) (spare slots : ℕ)
       timely : (u : ℕ) → IsTimely (slot t u).body
       timely u = let P : Slot → Type 0 = λ b. IsTimely b.body in subst P (sym (e u)) (pick (is_bag u (place s d.task.chunk)))
         where
-          pick : (q : Bool) → IsTimely (let z : Slot = (if q then record (slot s u) { whole = false } else slot s u) in z).body
+          pick : (q : Bool) → IsTimely (let z : Slot = (if q then record (slot s u) { calm = stays_calm (slot s u) } else slot s u) in z).body
           pick true = h.bag_times u
           pick false = h.bag_times u
 
@@ -189,33 +191,34 @@ module _ (s : Stock) (d : Dated) (bags : List Slot) (spare slots : ℕ)
 
   pub accepted_bags : bag_of t ≡ λ id. disturbed d.task.chunk (bag_of s id)
   unfolding bag_of
-  accepted_bags = fun_ext (λ u. ap shown (e u) ∙ pick u (is_bag u (place s d.task.chunk)) (slot s u).whole (is_recorded (slot s u).chunks d.task.chunk) refl refl refl)
+  accepted_bags = fun_ext (λ u. ap shown (e u) ∙ pick u (is_bag u (place s d.task.chunk)) (slot s u).listed (is_recorded (slot s u).chunks d.task.chunk) refl refl refl)
     where
-      pick : (u : ℕ) (q w r : Bool) → is_bag u (place s d.task.chunk) ≡ q → (slot s u).whole ≡ w → is_recorded (slot s u).chunks d.task.chunk ≡ r
-          → shown (if q then record (slot s u) { whole = false } else slot s u) ≡ disturbed d.task.chunk (shown (slot s u))
-      pick u true false r a b c = rw b refl
-      pick u true true true a b c = rw (b, c) refl
+      stays : (u : ℕ) (q : Bool) → ((slot s u).calm && q) ≡ ((slot s u).calm && not ((slot s u).listed && is_recorded (slot s u).chunks d.task.chunk))
+          → (let b : Slot = record (slot s u) { calm = (slot s u).calm && q } in shown b) ≡ disturbed d.task.chunk (shown (slot s u))
+      stays u q f = λ i. record (shown (slot s u)) { calm = f i }
+
+      and_true : (b : Bool) → b ≡ (b && true)
+      and_true true = refl
+      and_true false = refl
+
+      pick : (u : ℕ) (q w r : Bool) → is_bag u (place s d.task.chunk) ≡ q → (slot s u).listed ≡ w → is_recorded (slot s u).chunks d.task.chunk ≡ r
+          → shown (if q then record (slot s u) { calm = stays_calm (slot s u) } else slot s u) ≡ disturbed d.task.chunk (shown (slot s u))
+      pick u true false r a b c = stays u (not (slot s u).listed) (rw b refl)
+      pick u true true true a b c = stays u (not (slot s u).listed) (rw (b, c) refl)
       pick u true true false a b c =
           let claimed : is_recorded (slot s u).chunks d.task.chunk ≡ true = (h.bags u).claims ((h.bags u).opened b) d.task.chunk (bag-from_is (place s d.task.chunk) u a) in
           let z : true ≡ false = sym claimed ∙ c in cc
-      pick u false false r a b c = whole_same false b (λ z. let f : false ≡ true = z in cc)
-        where
-          whole_same : (v : Bool) → (slot s u).whole ≡ v → (v ≡ true → is_recorded (slot s u).chunks d.task.chunk ≡ false) → shown (slot s u) ≡ disturbed d.task.chunk (shown (slot s u))
-          whole_same false g f = λ i. record (shown (slot s u)) { whole = (sum_false g) i }
-            where
-              sum_false : (slot s u).whole ≡ false → (slot s u).whole ≡ ((slot s u).whole && not (is_recorded (slot s u).chunks d.task.chunk))
-              sum_false g = rw g refl
-          whole_same true g f = λ i. record (shown (slot s u)) { whole = (sum_true g) i }
-            where
-              sum_true : (slot s u).whole ≡ true → (slot s u).whole ≡ ((slot s u).whole && not (is_recorded (slot s u).chunks d.task.chunk))
-              sum_true g = rw (g, f refl) refl
       pick u false true true a b c =
           let held : (place s d.task.chunk).bag ≡ Some u = (h.bags u).held (rw b refl) d.task.chunk c in
           let z : true ≡ false = sym (is_bag-some (place s d.task.chunk) u held) ∙ a in cc
-      pick u false true false a b c = λ i. record (shown (slot s u)) { whole = kept_true i }
+      pick u false false r a b c = λ i. record (shown (slot s u)) { calm = kept_calm i }
         where
-          kept_true : (slot s u).whole ≡ ((slot s u).whole && not (is_recorded (slot s u).chunks d.task.chunk))
-          kept_true = rw (b, c) refl
+          kept_calm : (slot s u).calm ≡ ((slot s u).calm && not ((slot s u).listed && is_recorded (slot s u).chunks d.task.chunk))
+          kept_calm = rw b (and_true (slot s u).calm)
+      pick u false true false a b c = λ i. record (shown (slot s u)) { calm = kept_calm i }
+        where
+          kept_calm : (slot s u).calm ≡ ((slot s u).calm && not ((slot s u).listed && is_recorded (slot s u).chunks d.task.chunk))
+          kept_calm = rw (b, c) (and_true (slot s u).calm)
 
 pub fresh_found : (s : Stock) (n : ℕ) → IsNone (jobs_of s n) → found s (of_task n) ≡ None
 unfolding jobs_of

@@ -9,6 +9,7 @@ use Rattle.std.proofs.lemmas.List.{get_or_append_left}
 use Rattle.fol_model.specs.declared.places.ChunkPos.{ChunkPos}
 use Rattle.fol_model.specs.Geometry.{same_chunk}
 use Rattle.fol_model.specs.ActionStep.{Flat}
+use Rattle.fol_chunks.specs.Contents.{is_recorded}
 use Rattle.fol_model.specs.Job.{Job, queued}
 use Rattle.fol_keyed.proofs.Places.{same_chunk-true}
 use Rattle.fol_keyed.proofs.Keyed.{differ_left, find_push}
@@ -24,7 +25,7 @@ use Rattle.fol_store.specs.Places.{PlaceRows}
 use Rattle.fol_store.specs.Things.{Key, of_block, of_entity, of_task, Thing, things, some_number, arrived, chunk_at, IsTimely, no_data}
 use Rattle.fol_store.specs.Stock.{Stock, Where, arriving, in_spot, in_bag, slot, spot, place, column, bag_of}
 use Rattle.fol_store.specs.Sound.{Allows, IsSound}
-use Rattle.fol_store.specs.Steps.{SameMeaning}
+use Rattle.fol_store.specs.Steps.{SameMeaning, IsNoted}
 use Rattle.fol_store.proofs.Columns.{Moves}
 use Rattle.fol_store.proofs.Totals.{where_cases, things_none}
 use Rattle.fol_store.proofs.Resound.{SameColumns, same_found, same_bag, kept_self, moved_found, moved_sound, MovesSoundly}
@@ -259,20 +260,27 @@ module _ (s : Stock) (xs : List Dated) (d : Dated) (spots : List RegionData) (sp
           rest k (in_spot n) a b = ap (λ (r : RegionData). things r k) (spot_other n (λ e. b (ap (λ m. in_spot m) (sym e))))
           rest k (in_bag n) a b = refl
 
-      pub handed_out : (place s d.task.chunk).spot ≡ Some i → IsTimely last → length spots ≡ length s.spots → All (IsInTime 0) xs → s.spare ≤ spare → Changed s v
-      handed_out at timely long in_time more = record {
+      pub handed_out : (place s d.task.chunk).spot ≡ Some i → IsNoted s d.task.chunk → IsTimely last → length spots ≡ length s.spots → All (IsInTime 0) xs → s.spare ≤ spare → Changed s v
+      handed_out at noted timely long in_time more = record {
         sound = moved_sound s v arriving (in_spot i) goes apart moves soundly h;
         same = record { found = moved_found s v arriving (in_spot i) goes apart moves h.unique; bags = refl; spare = more; slots = omega arith };
       }
         where
-          target : (k : Key) (x : Thing k) → column s k arriving ≡ Some x → goes k x ≡ true → (place s (chunk_at k x)).spot ≡ Some i
-          target (of_block b) x q g = (let f : false ≡ true = g in cc)
-          target (of_entity id) x q g = (let f : false ≡ true = g in cc)
-          target (of_task n) x q g =
+          chunk_is : (k : Key) (x : Thing k) → column s k arriving ≡ Some x → goes k x ≡ true → chunk_at k x ≡ d.task.chunk
+          chunk_is (of_block b) x q g = (let f : false ≡ true = g in cc)
+          chunk_is (of_entity id) x q g = (let f : false ≡ true = g in cc)
+          chunk_is (of_task n) x q g =
               let all : arrived s.arrivals (of_task n) ≡ Some job = rw g at (arrived_last n) in
               let e : Some job ≡ Some x = sym all ∙ q in
               let f : job ≡ x = cc in
-              ap (λ (j : Job). (place s j.chunk).spot) (sym f) ∙ at
+              ap (λ (j : Job). j.chunk) (sym f)
+
+          target : (k : Key) (x : Thing k) → column s k arriving ≡ Some x → goes k x ≡ true → (place s (chunk_at k x)).spot ≡ Some i
+          target k x q g = ap (λ z. (place s z).spot) (chunk_is k x q g) ∙ at
+
+          not_calm : (b : Bool) → (b ≡ true → ⊥) → b ≡ false
+          not_calm true f = absurd (f refl)
+          not_calm false f = refl
 
           soundly : MovesSoundly s v arriving (in_spot i) goes apart moves
           soundly = record {
@@ -283,7 +291,11 @@ module _ (s : Stock) (xs : List Dated) (d : Dated) (spots : List RegionData) (sp
             kept = λ n. kept_self (slot s n);
             fewer = λ n o c q. inl q;
             more = λ n o c q. q;
-            none_left = λ n o e. cc;
+            lands = λ n o k x q p r.
+                let mine : chunk_at k x ≡ d.task.chunk = chunk_is k x q p in
+                let calm : (slot s n).calm ≡ false = not_calm (slot s n).calm ((h.bags n).near o k arriving x q r) in
+                let home : (place s (chunk_at k x)).bag ≡ Some n = (h.bags n).held (rw o refl) (chunk_at k x) r in
+                ap (is_recorded (slot s n).touched) mine ∙ noted n (ap (λ z. (place s z).bag) (sym mine) ∙ home) o calm;
             none_come = λ n o e. cc;
             spot_times = λ n. elim (cases_eq i n) [
               | inl q ↦ let P : ℕ → Type 0 = λ m. IsTimely (spot v m) in subst P q (subst IsTimely (sym spot_here) timely)

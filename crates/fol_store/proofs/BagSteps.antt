@@ -94,17 +94,18 @@ resized s arrivals bags spare slots e f h =
         same k (in_bag u) = refl
 
         kept_same : (b : Slot) → Kept b b
-        kept_same b = record { here = refl; taken = refl; chunks = refl; handed = refl; whole = λ o. o }
+        kept_same b = record { here = refl; taken = refl; chunks = refl; handed = refl; touched = refl; listed = λ o. o; calm = λ o. o }
 
 -- a bag that is closed keeps nothing
-pub closed_bag : (s : Stock) (id : ℕ) (b : Slot) → b.here ≡ false → b.taken ≡ false → b.whole ≡ false → IsBag s id b
-closed_bag s id b here taken whole =
+pub closed_bag : (s : Stock) (id : ℕ) (b : Slot) → b.here ≡ false → b.taken ≡ false → b.listed ≡ false → IsBag s id b
+closed_bag s id b here taken listed =
     let shut : (b.here || b.taken) ≡ false = rw (here, taken) refl in
     record {
       claims = λ o c q. clash (sym o ∙ shut);
-      held = λ o c q. clash (sym o ∙ (rw (whole, taken) refl));
-      alone = λ o k w x q r. clash (sym o ∙ whole);
-      opened = λ o. clash (sym o ∙ whole);
+      held = λ o c q. clash (sym o ∙ (rw (listed, taken) refl));
+      near = λ o k w x q r. clash (sym o ∙ listed);
+      untouched = λ o p. clash (sym o ∙ listed);
+      opened = λ o. clash (sym o ∙ listed);
       one = rw here refl;
       out = λ o k x q. clash (sym o ∙ taken);
       handed = λ o. clash (sym o ∙ (rw here refl));
@@ -178,12 +179,12 @@ module _ (s : Stock) (bags : List Slot) (spare slots : ℕ) where
         ])
       where
         kept_self : (b : Slot) → Kept b b
-        kept_self b = record { here = refl; taken = refl; chunks = refl; handed = refl; whole = λ o. o }
+        kept_self b = record { here = refl; taken = refl; chunks = refl; handed = refl; touched = refl; listed = λ o. o; calm = λ o. o }
 
     pub one_found : IsSound s → ((k : Key) → things d.body k ≡ things (slot s id).body k) → (k : Key) → found t k ≡ found s k
     one_found h same k = same_found s t (one_columns same) h.unique k
 
-    -- as before, but perhaps whole no more
+    -- as before, but perhaps listed no more
     pub one_kept : IsSound s → Kept (slot s id) d → SameColumns s t → IsBag t id d
     one_kept h kept columns = same_bag s t id (slot s id) d kept columns (λ c q. inl q) (λ o c q. q) (h.bags id)
 

@@ -49,7 +49,7 @@ module _ (bags : List Slot) (places : PlaceRows) (spare slots : ℕ) (same : (u 
     lies = λ k w x q. clash k w x q;
     spot_range = λ c i e. let z : None ≡ Some i = sym (ap (λ (p : Place). p.spot) (homes c)) ∙ e in absurd (let f : ⊥ = cc in f);
     bag_range = λ c i e. let z : None ≡ Some i = sym (ap (λ (p : Place). p.bag) (homes c)) ∙ e in absurd (let f : ⊥ = cc in f);
-    bags = λ u. closed_bag bare u (slot bare u) (ap (λ (b : Slot). b.here) (each u)) (ap (λ (b : Slot). b.taken) (each u)) (ap (λ (b : Slot). b.whole) (each u));
+    bags = λ u. closed_bag bare u (slot bare u) (ap (λ (b : Slot). b.here) (each u)) (ap (λ (b : Slot). b.taken) (each u)) (ap (λ (b : Slot). b.listed) (each u));
     spot_times = λ i. timely_empty no_data (lit≤ tt) refl;
     bag_times = λ u. timely_empty (slot bare u).body (rw (same u).tick (lit≤ tt)) (none u);
     arrival_times = All-nil (IsInTime 0);

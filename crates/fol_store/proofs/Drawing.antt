@@ -39,7 +39,7 @@ module _ (s : Stock) (bags : List Slot) (places : PlaceRows) (spare slots u id :
   t = with_parts s s.spots bags places spare slots
 
   abbrev source : Slot
-  source = record (slot s u) { body = left; whole = false }
+  source = record (slot s u) { body = left; listed = false }
 
   abbrev target : Slot
   target = record (slot s id) { body = come }
@@ -53,7 +53,7 @@ module _ (s : Stock) (bags : List Slot) (places : PlaceRows) (spare slots u id :
     pub long : length bags ≡ length s.bags
     pub there : id < length s.bags
     pub here : (slot s id).here ≡ true
-    pub not_whole : (slot s id).whole ≡ false
+    pub not_listed : (slot s id).listed ≡ false
     pub listed : (c : ChunkPos) → is_recorded chunks c ≡ true → is_recorded (slot s id).chunks c ≡ true
     pub not_taken : (slot s u).taken ≡ false
     pub timely : IsTimely left
@@ -119,15 +119,15 @@ module _ (s : Stock) (bags : List Slot) (places : PlaceRows) (spare slots u id :
         | inr z ↦ let l : n < length s.bags = h.bag_range c n z in let g : length bags ≡ length s.bags = d.long in omega arith
       ];
       kept = by_bag (λ n b. Kept (slot s n) b)
-          (record { here = refl; taken = refl; chunks = refl; handed = refl; whole = λ o. never o })
-          (record { here = refl; taken = refl; chunks = refl; handed = refl; whole = λ o. o })
+          (record { here = refl; taken = refl; chunks = refl; handed = refl; touched = refl; listed = λ o. never o; calm = λ o. o })
+          (record { here = refl; taken = refl; chunks = refl; handed = refl; touched = refl; listed = λ o. o; calm = λ o. o })
           (λ n a b. kept_self (slot s n));
       fewer = λ n o c q. elim (rehomed-cases chunks u id c (place s c) n (sym (ap (λ (p : Place). p.bag) (d.homes c)) ∙ q)) [
         | inl z ↦ let P : ℕ → Type 0 = λ m. is_recorded (slot s m).chunks c ≡ true in inr (subst P (sym z.here) (d.listed c z.listed))
         | inr z ↦ inl z
       ];
       more = λ n o c q. ap (λ (p : Place). p.bag) (d.homes c) ∙ rehomed-keeps chunks u id c (place s c) n q (λ e. absurd (not_source n e o));
-      none_left = λ n o e. let f : u ≡ n = cc in source_whole n f o;
+      lands = λ n o k x q p r. absurd (source_whole n ((h.bags n).near (still_listed n o) k (in_bag u) x q r) o);
       none_come = λ n o e. let f : id ≡ n = cc in target_taken n f o;
       spot_times = h.spot_times;
       bag_times = by_bag (λ n b. IsTimely b.body) d.timely d.to_timely (λ n a b. h.bag_times n);
@@ -140,17 +140,20 @@ module _ (s : Stock) (bags : List Slot) (places : PlaceRows) (spare slots u id :
         stay k (in_spot i) x q f = ap (λ (p : Place). p.spot) (d.homes (chunk_at k x)) ∙ rehomed-spot chunks u id (chunk_at k x) (place s (chunk_at k x)) ∙ h.lies k (in_spot i) x q
         stay k (in_bag n) x q f = ap (λ (p : Place). p.bag) (d.homes (chunk_at k x)) ∙ rehomed-keeps chunks u id (chunk_at k x) (place s (chunk_at k x)) n (h.lies k (in_bag n) x q) (λ e. f (ap (λ m. in_bag m) e))
 
-        not_source : (n : ℕ) → n ≡ u → ((slot t n).whole || (slot t n).taken) ≡ true → ⊥
+        not_source : (n : ℕ) → n ≡ u → ((slot t n).listed || (slot t n).taken) ≡ true → ⊥
         not_source n e o =
-            let P : ℕ → Type 0 = λ m. ((slot t m).whole || (slot t m).taken) ≡ true in
-            let p : ((slot t u).whole || (slot t u).taken) ≡ true = subst P e o in
+            let P : ℕ → Type 0 = λ m. ((slot t m).listed || (slot t m).taken) ≡ true in
+            let p : ((slot t u).listed || (slot t u).taken) ≡ true = subst P e o in
             let q : (slot s u).taken ≡ true = rw slot_u at p in
             let z : true ≡ false = sym q ∙ d.not_taken in cc
 
-        source_whole : (n : ℕ) → u ≡ n → (slot t n).whole ≡ true → ⊥
+        still_listed : (n : ℕ) → (slot t n).listed ≡ true → (slot s n).listed ≡ true
+        still_listed = by_bag (λ n b. b.listed ≡ true → (slot s n).listed ≡ true) (λ o. never o) (λ o. o) (λ n a b o. o)
+
+        source_whole : (n : ℕ) → u ≡ n → (slot t n).listed ≡ true → ⊥
         source_whole n e o =
-            let P : ℕ → Type 0 = λ m. (slot t m).whole ≡ true in
-            let p : (slot t u).whole ≡ true = subst P (sym e) o in
+            let P : ℕ → Type 0 = λ m. (slot t m).listed ≡ true in
+            let p : (slot t u).listed ≡ true = subst P (sym e) o in
             let q : false ≡ true = rw slot_u at p in cc
 
         target_taken : (n : ℕ) → id ≡ n → (slot t n).taken ≡ true → ⊥
@@ -182,7 +185,7 @@ module _ (s : Stock) (bags : List Slot) (places : PlaceRows) (spare slots u id :
       };
     }
       where
-        lost : (slot s u).whole ≡ true → IsClear all (shown (slot s u)) → false ≡ true
+        lost : (slot s u).listed ≡ true → IsClear all (shown (slot s u)) → false ≡ true
         lost o clear =
             let a : is_recorded (slot s u).chunks c ≡ true = (h.bags u).claims ((h.bags u).opened o) c at in
             let b : is_recorded (slot s u).chunks c ≡ false = clear c listed in

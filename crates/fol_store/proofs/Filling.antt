@@ -27,13 +27,13 @@ module _ (id : ℕ) (chunks : List ChunkPos) where
   own_at f g b e = ap (λ (h : ℕ → Bag). h id) e ∙ at_own f id b
 
   -- the bag that gets the chunks is the target
-  pub is_target : (s t : Stock) → bag_of t ≡ at_id (bag_of s) id (let b : Bag = record (bag_of s id) { chunks = chunks } in b) → t.arrivals ≡ [] → (bag_of s id).here ≡ true → (bag_of s id).taken ≡ false → (bag_of s id).whole ≡ false → AreFree (bag_of s) chunks → IsTarget id chunks t
-  is_target s t e none here taken whole free =
+  pub is_target : (s t : Stock) → bag_of t ≡ at_id (bag_of s) id (let b : Bag = record (bag_of s id) { chunks = chunks } in b) → t.arrivals ≡ [] → (bag_of s id).here ≡ true → (bag_of s id).taken ≡ false → (bag_of s id).listed ≡ false → AreFree (bag_of s) chunks → IsTarget id chunks t
+  is_target s t e none here taken listed free =
       let own : bag_of t id ≡ (let b : Bag = record (bag_of s id) { chunks = chunks } in b) = own_at (bag_of s) (bag_of t) (let b : Bag = record (bag_of s id) { chunks = chunks } in b) e in
       record {
         here = ap (λ (b : Bag). b.here) own ∙ here;
-        not_whole = ap (λ (b : Bag). b.whole) own ∙ whole;
-        listed = ap (λ (b : Bag). b.chunks) own;
+        not_listed = ap (λ (b : Bag). b.listed) own ∙ listed;
+        chunks_are = ap (λ (b : Bag). b.chunks) own;
         empty = none;
         free = λ u o c r. elim (cases_eq id u) [
           | inl q ↦
@@ -46,15 +46,9 @@ module _ (id : ℕ) (chunks : List ChunkPos) where
         ];
       }
 
--- a bag that is not whole afterwards and has the same numbers was touched
-pub touched : (a b : Bag) (list : List ChunkPos) → b ≡ (let r : Bag = record a { chunks = list } in r) → a.whole ≡ false → Touched a b
+-- a bag that is not listed afterwards and has the same numbers was touched
+pub touched : (a b : Bag) (list : List ChunkPos) → b ≡ (let r : Bag = record a { chunks = list } in r) → a.listed ≡ false → Touched a b
 touched a b list e w = record {
-  same = e ∙ sym (ap (λ (z : Bag). let r : Bag = record a { whole = z.whole; chunks = z.chunks } in r) e);
-  whole = λ o. (let z : true ≡ false = sym o ∙ ap (λ (x : Bag). x.whole) e ∙ w in cc);
-}
-
-pub touched_trans : (a b d : Bag) → b ≡ (let r : Bag = record a { whole = false } in r) → Touched b d → d.whole ≡ false → Touched a d
-touched_trans a b d e t w = record {
-  same = t.same ∙ ap (λ (z : Bag). let r : Bag = record z { whole = d.whole; chunks = d.chunks } in r) e;
-  whole = λ o. (let z : true ≡ false = sym o ∙ w in cc);
+  same = e ∙ sym (ap (λ (z : Bag). let r : Bag = record a { listed = z.listed; chunks = z.chunks } in r) e);
+  listed = λ o. (let z : true ≡ false = sym o ∙ ap (λ (x : Bag). x.listed) e ∙ w in cc);
 }

@@ -1,11 +1,11 @@
 -- A block or an entity is laid into a spot.
-use Rattle.std.proofs.Common.{◌≡◌, ℕ, zero, suc, ◌<◌, Bool, true, false, ◌&&◌, List, [], ◌∷◌, length, get_or, drop, map, refl, sym, ◌∙◌, ap, ◌⊎◌, inl, inr, arith, Some, None}
+use Rattle.std.proofs.Common.{◌≡◌, ◌≢◌, ℕ, zero, suc, ◌<◌, ◌≤◌, Bool, true, false, ◌&&◌, List, [], ◌∷◌, length, get_or, take, map, refl, sym, ◌∙◌, ap, ◌⊎◌, inl, inr, arith, Option, Some, None}
 use Rattle.std.specs.Prelude.{nat_eq, nat_lt, nat_le, if◌then◌else◌}
 use Rattle.std.specs.List.{list_all, AllByRecursion}
 use Rattle.std.specs.List.Sorted.{IsStrictlySortedBy}
 use Rattle.std.specs.Ordering.{nat_cmp, ordering_reverse}
 use Rattle.std.specs.declared.cmp.Ordering.TheVariants.{Less, Greater}
-use Rattle.std.proofs.lemmas.Bool.{cases_Bool, eqb-true, ltb-true}
+use Rattle.std.proofs.lemmas.Bool.{cases_Bool, eqb-true, ltb-true, ne_eqb}
 use Rattle.fol_model.specs.declared.places.BlockPos.{BlockPos}
 use Rattle.fol_model.specs.declared.places.ChunkPos.{ChunkPos}
 use Rattle.fol_model.specs.declared.openings.BlockAt.{BlockAt}
@@ -112,40 +112,98 @@ module _ (s : Stock) (spots : List RegionData) (i : ℕ) (r : RegionData) where
           ]
       back (of_task n) x e = inl (sym (l.tasks n) ∙ e)
 
+-- what holds of all holds of one
+at_index : {X Y : Type 0} (P : Y → Type 0) (f : X → Y) (xs : List X) (k : ℕ) (d : X) → AllByRecursion P (map f xs) → k < length xs → P (f (get_or xs k d))
+at_index P f [] k d h l = absurd (omega arith)
+at_index P f (x ∷ xs) zero d h l = h.0
+at_index P f (x ∷ xs) (suc k) d h l = at_index P f xs k d h.1 (omega arith)
+
+pub take_all : {X : Type 0} (xs : List X) (k : ℕ) → length xs ≤ k → take k xs ≡ xs
+take_all [] zero l = refl
+take_all [] (suc k) l = refl
+take_all (x ∷ xs) zero l = absurd (omega arith)
+take_all (x ∷ xs) (suc k) l = ap (λ ys. x ∷ ys) (take_all xs k (omega arith))
+
+-- a place is not before itself
+not_before : {P : Type 0} (b : BlockPos) → block_cmp b b ≡ Less → P
+not_before b l = absurd (let z : Less ≡ Greater = sym l ∙ block_cmp_total.antisymm b b ∙ ap ordering_reverse l in let f : ⊥ = cc in f)
+
 -- no block stands twice in a list in order
-none_after : (b : BlockPos) (xs : List BlockAt) → AllByRecursion (λ y. block_cmp b y ≡ Less) (map (λ (x : BlockAt). x.at) xs) → block_in xs b ≡ 0
-none_after b [] h = refl
-none_after b (x ∷ xs) h =
-    elim (cases_Bool (same_block x.at b)) [
-      | inl e ↦
-          let m : x.at ≡ b = same_block-true x.at b e in
-          let l : block_cmp b b ≡ Less = ap (block_cmp b) (sym m) ∙ h.0 in
-          let z : Less ≡ Greater = sym l ∙ block_cmp_total.antisymm b b ∙ ap ordering_reverse l in cc
-      | inr e ↦ rw e (none_after b xs h.1)
+block_later : (x : BlockAt) (xs : List BlockAt) (k : ℕ) (d : BlockAt) → AllByRecursion (λ y. block_cmp x.at y ≡ Less) (map (λ (z : BlockAt). z.at) xs) → k < length xs → same_block x.at (get_or xs k d).at ≡ false
+block_later x xs k d h l = elim (cases_Bool (same_block x.at (get_or xs k d).at)) [
+  | inl e ↦
+      let m : x.at ≡ (get_or xs k d).at = same_block-true x.at (get_or xs k d).at e in
+      let b : block_cmp x.at (get_or xs k d).at ≡ Less = at_index (λ y. block_cmp x.at y ≡ Less) (λ (z : BlockAt). z.at) xs k d h l in
+      not_before x.at (ap (block_cmp x.at) m ∙ b)
+  | inr e ↦ e
+]
+
+pub block_fresh : (xs : List BlockAt) (k : ℕ) (d : BlockAt) → IsStrictlySortedBy block_cmp (map (λ (x : BlockAt). x.at) xs) → k < length xs → block_in (take k xs) (get_or xs k d).at ≡ 0
+unfolding IsStrictlySortedBy
+block_fresh [] k d h l = absurd (omega arith)
+block_fresh (x ∷ xs) zero d h l = refl
+block_fresh (x ∷ xs) (suc k) d h l = let n : same_block x.at (get_or xs k d).at ≡ false = block_later x xs k d h.0 (omega arith) in rw n (block_fresh xs k d h.1 (omega arith))
+
+block_push : (xs : List BlockAt) (k : ℕ) (d : BlockAt) (q : BlockPos) → IsStrictlySortedBy block_cmp (map (λ (x : BlockAt). x.at) xs) → k < length xs
+    → block_in (take (suc k) xs) q ≡ (if same_block (get_or xs k d).at q then (get_or xs k d).id else block_in (take k xs) q)
+unfolding IsStrictlySortedBy
+block_push [] k d q h l = absurd (omega arith)
+block_push (x ∷ xs) zero d q h l = refl
+block_push (x ∷ xs) (suc k) d q h l = elim (cases_Bool (same_block x.at q)) [
+  | inl e ↦
+      let m : x.at ≡ q = same_block-true x.at q e in
+      let n : same_block (get_or xs k d).at q ≡ false = other (cases_Bool (same_block (get_or xs k d).at q)) m in
+      rw (e, n) refl
+  | inr e ↦ rw e (block_push xs k d q h.1 (omega arith))
+]
+  where
+    other : (same_block (get_or xs k d).at q ≡ true) ⊎ (same_block (get_or xs k d).at q ≡ false) → x.at ≡ q → same_block (get_or xs k d).at q ≡ false
+    other (inr f) m = f
+    other (inl f) m =
+        let b : block_cmp x.at (get_or xs k d).at ≡ Less = at_index (λ y. block_cmp x.at y ≡ Less) (λ (z : BlockAt). z.at) xs k d h.0 (omega arith) in
+        not_before x.at (ap (block_cmp x.at) (m ∙ sym (same_block-true (get_or xs k d).at q f)) ∙ b)
+
+-- one block more of a list
+pub block_more : (xs : List BlockAt) (k n : ℕ) (d : BlockAt) (q : BlockPos) (o : Option ℕ) → IsStrictlySortedBy block_cmp (map (λ (x : BlockAt). x.at) xs) → k < length xs → n ≡ suc k
+    → o ≡ some_number (block_in (take k xs) q) → (if same_block (get_or xs k d).at q then some_number (get_or xs k d).id else o) ≡ some_number (block_in (take n xs) q)
+block_more xs k n d q o h l e f =
+    let p : block_in (take n xs) q ≡ (if same_block (get_or xs k d).at q then (get_or xs k d).id else block_in (take k xs) q) = ap (λ m. block_in (take m xs) q) e ∙ block_push xs k d q h l in
+    elim (cases_Bool (same_block (get_or xs k d).at q)) [
+      | inl z ↦ let r : block_in (take n xs) q ≡ (get_or xs k d).id = rw z at p in rw z (ap some_number (sym r))
+      | inr z ↦ let r : block_in (take n xs) q ≡ block_in (take k xs) q = rw z at p in rw z (f ∙ ap some_number (sym r))
     ]
 
-pub block_once : (xs : List BlockAt) (k : ℕ) (d : BlockAt) → IsStrictlySortedBy block_cmp (map (λ (x : BlockAt). x.at) xs) → k < length xs → block_in (drop (suc k) xs) (get_or xs k d).at ≡ 0
-unfolding IsStrictlySortedBy
-block_once [] k d h l = absurd (omega arith)
-block_once (x ∷ xs) zero d h l = none_after x.at xs h.0
-block_once (x ∷ xs) (suc k) d h l = block_once xs k d h.1 (omega arith)
+-- nor an entity
+entity_later : (x : Entity) (xs : List Entity) (k : ℕ) (d : Entity) → AllByRecursion (λ y. nat_cmp x.id y ≡ Less) (map (λ (z : Entity). z.id) xs) → k < length xs → x.id ≢ (get_or xs k d).id
+entity_later x xs k d h l m =
+    let b : nat_cmp x.id (get_or xs k d).id ≡ Less = at_index (λ y. nat_cmp x.id y ≡ Less) (λ (z : Entity). z.id) xs k d h l in
+    let c : nat_cmp x.id x.id ≡ Less = ap (nat_cmp x.id) m ∙ b in
+    let z : Less ≡ Greater = sym c ∙ nat_cmp_total.antisymm x.id x.id ∙ ap ordering_reverse c in cc
 
-none_stands : (id : ℕ) (xs : List Entity) → AllByRecursion (λ y. nat_cmp id y ≡ Less) (map (λ (x : Entity). x.id) xs) → standing_in xs id ≡ None
-none_stands id [] h = refl
-none_stands id (x ∷ xs) h =
-    elim (cases_Bool (nat_eq x.id id)) [
-      | inl e ↦
-          let m : x.id ≡ id = eqb-true x.id id e in
-          let l : nat_cmp id id ≡ Less = ap (nat_cmp id) (sym m) ∙ h.0 in
-          let z : Less ≡ Greater = sym l ∙ nat_cmp_total.antisymm id id ∙ ap ordering_reverse l in cc
-      | inr e ↦ rw e (none_stands id xs h.1)
-    ]
-
-pub entity_once : (xs : List Entity) (k : ℕ) (d : Entity) → IsStrictlySortedBy nat_cmp (map (λ (x : Entity). x.id) xs) → k < length xs → standing_in (drop (suc k) xs) (get_or xs k d).id ≡ None
+pub entity_fresh : (xs : List Entity) (k : ℕ) (d : Entity) → IsStrictlySortedBy nat_cmp (map (λ (x : Entity). x.id) xs) → k < length xs → standing_in (take k xs) (get_or xs k d).id ≡ None
 unfolding IsStrictlySortedBy
-entity_once [] k d h l = absurd (omega arith)
-entity_once (x ∷ xs) zero d h l = none_stands x.id xs h.0
-entity_once (x ∷ xs) (suc k) d h l = entity_once xs k d h.1 (omega arith)
+entity_fresh [] k d h l = absurd (omega arith)
+entity_fresh (x ∷ xs) zero d h l = refl
+entity_fresh (x ∷ xs) (suc k) d h l = let n : nat_eq x.id (get_or xs k d).id ≡ false = ne_eqb x.id (get_or xs k d).id (entity_later x xs k d h.0 (omega arith)) in rw n (entity_fresh xs k d h.1 (omega arith))
+
+entity_push : (xs : List Entity) (k : ℕ) (d : Entity) (q : ℕ) → IsStrictlySortedBy nat_cmp (map (λ (x : Entity). x.id) xs) → k < length xs
+    → standing_in (take (suc k) xs) q ≡ (if nat_eq (get_or xs k d).id q then Some (standing_of (get_or xs k d)) else standing_in (take k xs) q)
+unfolding IsStrictlySortedBy
+entity_push [] k d q h l = absurd (omega arith)
+entity_push (x ∷ xs) zero d q h l = refl
+entity_push (x ∷ xs) (suc k) d q h l = elim (cases_Bool (nat_eq x.id q)) [
+  | inl e ↦
+      let n : nat_eq (get_or xs k d).id q ≡ false = ne_eqb (get_or xs k d).id q (λ m. entity_later x xs k d h.0 (omega arith) (eqb-true x.id q e ∙ sym m)) in
+      rw (e, n) refl
+  | inr e ↦ rw e (entity_push xs k d q h.1 (omega arith))
+]
+
+-- one entity more of a list
+pub entity_more : (xs : List Entity) (k n : ℕ) (d : Entity) (q : ℕ) (o : Option Standing) → IsStrictlySortedBy nat_cmp (map (λ (x : Entity). x.id) xs) → k < length xs → n ≡ suc k
+    → o ≡ standing_in (take k xs) q → (if nat_eq (get_or xs k d).id q then Some (standing_of (get_or xs k d)) else o) ≡ standing_in (take n xs) q
+entity_more xs k n d q o h l e f =
+    let p : standing_in (take n xs) q ≡ (if nat_eq (get_or xs k d).id q then Some (standing_of (get_or xs k d)) else standing_in (take k xs) q) = ap (λ m. standing_in (take m xs) q) e ∙ entity_push xs k d q h l in
+    rw (p, f) refl
 
 -- each block has a number above 0
 pub block_above : (xs : List BlockAt) (k : ℕ) (d : BlockAt) → list_all is_block_at xs ≡ true → k < length xs → 0 < (get_or xs k d).id

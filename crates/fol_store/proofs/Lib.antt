@@ -14,6 +14,7 @@ pub mod Spotting
 pub mod Stepping
 pub mod Arriving
 pub mod Settling
+pub mod Noting
 pub mod Filling
 pub mod Laying
 pub mod LayingThings

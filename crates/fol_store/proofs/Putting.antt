@@ -15,7 +15,7 @@ use Rattle.fol_data.specs.declared.region_data.RegionData.{RegionData}
 use Rattle.fol_store.specs.declared.slot.Slot.{Slot}
 use Rattle.fol_store.specs.Things.{Key, of_block, of_entity, of_task, Thing, things, some_number, chunk_at, IsTimely}
 use Rattle.fol_store.specs.Stock.{Stock, Where, arriving, in_spot, in_bag, slot, place, column, found, flat_of, jobs_of}
-use Rattle.fol_store.specs.Sound.{Allows, IsBag, IsSound}
+use Rattle.fol_store.specs.Sound.{Allows, Near, IsBag, IsSound}
 use Rattle.fol_store.proofs.Columns.{filter_some}
 use Rattle.fol_store.proofs.Totals.{where_cases, IsUnique, found_of, found_at, found_none, found_number, number_is}
 use Rattle.fol_store.proofs.Resound.{kept_bag, kept_self}
@@ -136,14 +136,20 @@ module _ (s : Stock) (bags : List Slot) (spare slots id : ℕ) (body : RegionDat
         put_bag : IsBag t id filled
         put_bag = record {
           claims = λ o c q. (h.bags id).claims (opened (slot s id).here taken) c q;
-          held = λ o c q. (h.bags id).held (held_taken (slot s id).whole taken) c q;
-          alone = λ o k w x q r. elim (back k w x q) [ inl a ↦ a.there | inr a ↦ (h.bags id).alone o k w x a.had r ];
+          held = λ o c q. (h.bags id).held (held_taken (slot s id).listed taken) c q;
+          near = λ o k w x q r. elim (back k w x q) [ inl a ↦ let P : Where → Type 0 = λ v. Near id filled (chunk_at k x) v in subst P (sym a.there) refl | inr a ↦ near_same (chunk_at k x) w ((h.bags id).near o k w x a.had r) ];
+          untouched = λ o p. (h.bags id).untouched o p;
           opened = λ o. refl;
           one = refl;
           out = λ o k x q. (let z : false ≡ true = o in cc);
           handed = λ o. same;
         }
           where
+            near_same : (c : ChunkPos) (w : Where) → Near id (slot s id) c w → Near id filled c w
+            near_same c arriving n = n
+            near_same c (in_spot i) n = n
+            near_same c (in_bag v) n = n
+
             opened : (b : Bool) → (slot s id).taken ≡ true → (b || (slot s id).taken) ≡ true
             opened true z = refl
             opened false z = z
@@ -157,11 +163,11 @@ module _ (s : Stock) (bags : List Slot) (spare slots id : ℕ) (body : RegionDat
             kept_bag s t u (slot s u) (slot s u) (kept_self (slot s u)) (λ c q. inl q) (λ o c q. q)
             (λ o k w x q r. elim (back k w x q) [
               | inl a ↦
-                  let mine : (place s (chunk_at k x)).bag ≡ Some id = (h.bags id).held (or_taken (slot s id).whole) (chunk_at k x) (all_there k x a.had) in
+                  let mine : (place s (chunk_at k x)).bag ≡ Some id = (h.bags id).held (or_taken (slot s id).listed) (chunk_at k x) (all_there k x a.had) in
                   let others : (place s (chunk_at k x)).bag ≡ Some u = (h.bags u).held (rw o refl) (chunk_at k x) r in
                   let f : Some id ≡ Some u = sym mine ∙ others in
                   let g : id ≡ u = cc in absurd (n g)
-              | inr a ↦ (h.bags u).alone o k w x a.had r
+              | inr a ↦ (h.bags u).near o k w x a.had r
             ])
             (λ o k x q. elim (back k (in_bag u) x q) [
               | inl a ↦ let f : in_bag u ≡ in_bag id = a.there in let g : id ≡ u = cc in n g
@@ -177,7 +183,7 @@ module _ (s : Stock) (bags : List Slot) (spare slots id : ℕ) (body : RegionDat
     put_sound long timely = record {
       unique = put_unique;
       lies = λ k w x q. elim (back k w x q) [
-        | inl a ↦ let P : Where → Type 0 = λ v. Allows (place s (chunk_at k x)) v in subst P (sym a.there) ((h.bags id).held (or_taken (slot s id).whole) (chunk_at k x) (all_there k x a.had))
+        | inl a ↦ let P : Where → Type 0 = λ v. Allows (place s (chunk_at k x)) v in subst P (sym a.there) ((h.bags id).held (or_taken (slot s id).listed) (chunk_at k x) (all_there k x a.had))
         | inr a ↦ h.lies k w x a.had
       ];
       spot_range = h.spot_range;

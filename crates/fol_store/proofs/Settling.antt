@@ -1,5 +1,5 @@
--- A bag that gets other chunks, and one that becomes whole.
-use Rattle.std.proofs.Common.{◌≡◌, ℕ, ◌<◌, ◌≤◌, Bool, true, false, ◌&&◌, List, length, get_or, refl, sym, ◌∙◌, ap, ◌⊎◌, inl, inr, pos, Some}
+-- A bag that gets other chunks, and one that becomes listed.
+use Rattle.std.proofs.Common.{◌≡◌, ℕ, ◌<◌, ◌≤◌, Bool, true, false, ◌&&◌, List, [], length, get_or, refl, sym, ◌∙◌, ap, subst, ◌⊎◌, inl, inr, pos, Some}
 use Rattle.std.specs.Prelude.{nat_eq, if◌then◌else◌}
 use Rattle.fol_model.specs.declared.places.ChunkPos.{ChunkPos}
 use Rattle.fol_model.specs.ActionStep.{at_id}
@@ -8,8 +8,8 @@ use Rattle.fol_keyed.proofs.Places.{same_chunk-self}
 use Rattle.fol_store.specs.declared.slot.Slot.{Slot}
 use Rattle.fol_store.specs.Bag.{Bag}
 use Rattle.fol_store.specs.Things.{chunk_at}
-use Rattle.fol_store.specs.Stock.{Stock, in_bag, slot, place, bag_of, shown}
-use Rattle.fol_store.specs.Sound.{IsBag, IsSound}
+use Rattle.fol_store.specs.Stock.{Stock, Where, in_bag, slot, place, bag_of, shown}
+use Rattle.fol_store.specs.Sound.{Near, IsBag, IsSound}
 use Rattle.fol_store.specs.Steps.{SameMeaning, IsGathered}
 use Rattle.fol_store.proofs.Resound.{SameColumns}
 use Rattle.fol_store.proofs.BagSteps.{with_bags, one_step, one_found, bag_slot}
@@ -25,18 +25,18 @@ module _ (s : Stock) (bags : List Slot) (spare slots id : ℕ) (list : List Chun
   t = with_bags s bags spare slots
 
   abbrev listed : Slot
-  listed = record (slot s id) { whole = false; chunks = list }
+  listed = record (slot s id) { listed = false; chunks = list }
 
   abbrev finished : Slot
-  finished = record (slot s id) { whole = true; handed = list }
+  finished = record (slot s id) { listed = true; calm = true; handed = list; touched = [] }
 
   no : {P : Type 0} → false ≡ true → P
   no e = absurd (let z : ⊥ = cc in z)
 
-  pub relisted : ((u : ℕ) → slot t u ≡ (if nat_eq id u then listed else slot s u)) → (slot s id).here ≡ true → (slot s id).whole ≡ false
+  pub relisted : ((u : ℕ) → slot t u ≡ (if nat_eq id u then listed else slot s u)) → (slot s id).here ≡ true → (slot s id).listed ≡ false
       → ((k : ℕ) (d : ChunkPos) → k < length (slot s id).chunks → (is_recorded list (get_or (slot s id).chunks k d) ≡ true) ⊎ ((place s (get_or (slot s id).chunks k d)).bag ≡ Some id → ⊥))
       → length bags ≡ length s.bags → s.spare ≤ spare → s.slots ≤ slots → IsSound s → Settled s t id (let b : Bag = record (bag_of s id) { chunks = list } in b)
-  relisted e here not_whole gone long more_spare more_slots h =
+  relisted e here not_listed gone long more_spare more_slots h =
       let step = one_step s bags spare slots id listed e (let b : Bag = record (bag_of s id) { chunks = list } in b) h (λ k. refl) long (h.bag_times id) bag is_shown in
       record {
         sound = step.sound;
@@ -48,7 +48,7 @@ module _ (s : Stock) (bags : List Slot) (spare slots id : ℕ) (list : List Chun
       not_taken = here_not_taken id s h here
 
       is_shown : shown listed ≡ (let b : Bag = record (bag_of s id) { chunks = list } in b)
-      is_shown = rw (bag_slot s id, not_whole) refl
+      is_shown = rw (bag_slot s id, not_listed) refl
 
       bag : SameColumns s t → IsBag t id listed
       bag columns = record {
@@ -61,7 +61,8 @@ module _ (s : Stock) (bags : List Slot) (spare slots id : ℕ) (list : List Chun
               | inr n ↦ absurd (n (ap (λ v. (place s v).bag) r.2 ∙ q))
             ];
         held = λ o c q. no (sym not_taken ∙ o);
-        alone = λ o k w x q r. no o;
+        near = λ o k w x q r. no o;
+        untouched = λ o p. no o;
         opened = λ o. no o;
         one = (h.bags id).one;
         out = λ o k x q. no (sym not_taken ∙ o);
@@ -74,9 +75,9 @@ module _ (s : Stock) (bags : List Slot) (spare slots id : ℕ) (list : List Chun
 
   pub now_whole : ((u : ℕ) → slot t u ≡ (if nat_eq id u then finished else slot s u)) → (slot s id).here ≡ true → list ≡ (slot s id).chunks
       → ((q : ChunkPos) → is_recorded (slot s id).chunks q ≡ true → IsGathered s id q)
-      → length bags ≡ length s.bags → s.spare ≤ spare → s.slots ≤ slots → IsSound s → Settled s t id (let b : Bag = record (bag_of s id) { whole = true } in b)
+      → length bags ≡ length s.bags → s.spare ≤ spare → s.slots ≤ slots → IsSound s → Settled s t id (let b : Bag = record (bag_of s id) { listed = true; calm = true } in b)
   now_whole e here same gathered long more_spare more_slots h =
-      let step = one_step s bags spare slots id finished e (let b : Bag = record (bag_of s id) { whole = true } in b) h (λ k. refl) long (h.bag_times id) bag (ap (λ (b : Bag). let r : Bag = record b { whole = true } in r) (sym (bag_slot s id))) in
+      let step = one_step s bags spare slots id finished e (let b : Bag = record (bag_of s id) { listed = true; calm = true } in b) h (λ k. refl) long (h.bag_times id) bag (ap (λ (b : Bag). let r : Bag = record b { listed = true; calm = true } in r) (sym (bag_slot s id))) in
       record {
         sound = step.sound;
         bags = step.bags;
@@ -87,7 +88,10 @@ module _ (s : Stock) (bags : List Slot) (spare slots id : ℕ) (list : List Chun
       bag columns = record {
         claims = λ o c q. (h.bags id).claims o c q;
         held = λ o c q. (gathered c q).place;
-        alone = λ o k w x q r. (gathered (chunk_at k x) r).alone k w x (sym (columns k w) ∙ q) (same_chunk-self (chunk_at k x));
+        near = λ o k w x q r.
+            let P : Where → Type 0 = λ v. Near id finished (chunk_at k x) v in
+            subst P (sym ((gathered (chunk_at k x) r).alone k w x (sym (columns k w) ∙ q) (same_chunk-self (chunk_at k x)))) refl;
+        untouched = λ o p. refl;
         opened = λ o. rw here refl;
         one = (h.bags id).one;
         out = λ o k x q. (h.bags id).out o k x (sym (columns k (in_bag id)) ∙ q);

@@ -90,7 +90,10 @@ module _ (s : Stock) (spots : List RegionData) (bags : List Slot) (places : Plac
     bag_times = by_bag (λ n b. IsTimely b.body) d.timely h.bag_times
 
     kept : (n : ℕ) → Kept (slot s n) (slot t n)
-    kept = by_bag (λ n b. Kept (slot s n) b) (record { here = refl; taken = refl; chunks = refl; handed = refl; whole = λ o. o }) (λ n. kept_self (slot s n))
+    kept = by_bag (λ n b. Kept (slot s n) b) (record { here = refl; taken = refl; chunks = refl; handed = refl; touched = refl; listed = λ o. o; calm = λ o. o }) (λ n. kept_self (slot s n))
+
+    still_listed : (n : ℕ) → (slot t n).listed ≡ true → (slot s n).listed ≡ true
+    still_listed n = (kept n).listed
 
     rest : (k : Key) (w : Where) → w ≢ in_spot i → w ≢ in_bag id → column t k w ≡ column s k w
     rest k arriving a b = refl
@@ -138,7 +141,10 @@ module _ (s : Stock) (spots : List RegionData) (bags : List Slot) (places : Plac
         kept = kept;
         fewer = λ n o q e. inl (sym (ap (λ (p : Place). p.bag) (homes q)) ∙ e);
         more = λ n o q e. ap (λ (p : Place). p.bag) (homes q) ∙ e;
-        none_left = λ n o e. cc;
+        lands = λ n o k x q p r.
+            let theirs : (place s (chunk_at k x)).bag ≡ Some n = (h.bags n).held (rw (still_listed n o) refl) (chunk_at k x) r in
+            let mine : (place s (chunk_at k x)).bag ≡ Some id = ap (λ z. (place s z).bag) (one (chunk_at k x) p) ∙ d.at_bag in
+            let e : Some id ≡ Some n = sym mine ∙ theirs in cc;
         none_come = not_target;
         spot_times = spot_times;
         bag_times = bag_times;
@@ -182,7 +188,7 @@ module _ (s : Stock) (spots : List RegionData) (bags : List Slot) (places : Plac
               let m : n ≡ id = cc in ap (λ v. in_bag v) m
 
     -- into the spot
-    module _ (homes : (q : ChunkPos) → place t q ≡ (if same_chunk c q then (record (place s c) { bag = None }) else place s q)) (not_whole : (slot s id).whole ≡ false)
+    module _ (homes : (q : ChunkPos) → place t q ≡ (if same_chunk c q then (record (place s c) { bag = None }) else place s q)) (not_listed : (slot s id).listed ≡ false)
         (loses : Loses (c ∷ []) (slot s id).body in_it) (gains : Gains (c ∷ []) (slot s id).body (spot s i) out_of_it) where
       apart_too : in_bag id ≢ in_spot i
       apart_too e = cc
@@ -235,7 +241,7 @@ module _ (s : Stock) (spots : List RegionData) (bags : List Slot) (places : Plac
         kept = kept;
         fewer = λ n o q e. inl (home_before q n e);
         more = λ n o q e. home_bag q n e (λ m. absurd (not_mine n m o));
-        none_left = λ n o e. let f : id ≡ n = cc in mine_whole n f o;
+        lands = λ n o k x q p r. absurd (mine_whole n ((h.bags n).near (still_listed n o) k (in_bag id) x q r) o);
         none_come = λ n o e. cc;
         spot_times = spot_times;
         bag_times = bag_times;
@@ -243,19 +249,19 @@ module _ (s : Stock) (spots : List RegionData) (bags : List Slot) (places : Plac
         arrivals_differ = h.arrivals_differ;
       }
         where
-          not_mine : (n : ℕ) → n ≡ id → ((slot t n).whole || (slot t n).taken) ≡ true → ⊥
+          not_mine : (n : ℕ) → n ≡ id → ((slot t n).listed || (slot t n).taken) ≡ true → ⊥
           not_mine n m o =
-              let P : ℕ → Type 0 = λ v. ((slot t v).whole || (slot t v).taken) ≡ true in
-              let p : ((slot t id).whole || (slot t id).taken) ≡ true = subst P m o in
-              let q : ((slot s id).whole || (slot s id).taken) ≡ true = rw bag_here at p in
-              let z : false ≡ true = rw (not_whole, d.not_taken) at q in cc
+              let P : ℕ → Type 0 = λ v. ((slot t v).listed || (slot t v).taken) ≡ true in
+              let p : ((slot t id).listed || (slot t id).taken) ≡ true = subst P m o in
+              let q : ((slot s id).listed || (slot s id).taken) ≡ true = rw bag_here at p in
+              let z : false ≡ true = rw (not_listed, d.not_taken) at q in cc
 
-          mine_whole : (n : ℕ) → id ≡ n → (slot t n).whole ≡ true → ⊥
+          mine_whole : (n : ℕ) → id ≡ n → (slot t n).listed ≡ true → ⊥
           mine_whole n m o =
-              let P : ℕ → Type 0 = λ v. (slot t v).whole ≡ true in
-              let p : (slot t id).whole ≡ true = subst P (sym m) o in
-              let q : (slot s id).whole ≡ true = rw bag_here at p in
-              let z : true ≡ false = sym q ∙ not_whole in cc
+              let P : ℕ → Type 0 = λ v. (slot t v).listed ≡ true in
+              let p : (slot t id).listed ≡ true = subst P (sym m) o in
+              let q : (slot s id).listed ≡ true = rw bag_here at p in
+              let z : true ≡ false = sym q ∙ not_listed in cc
 
       pub into_spot : Spotted s t
       into_spot = record {

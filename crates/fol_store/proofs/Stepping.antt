@@ -34,7 +34,7 @@ spared_same chunks a b e = let P : Bag → Type 0 = λ z. Spared chunks a z in s
 
 pub spared_trans : (chunks : List ChunkPos) (a b d : Bag) → Spared chunks a b → Spared chunks b d → Spared chunks a d
 spared_trans chunks a b d x y = record {
-  same = y.same ∙ ap (λ (z : Bag). let w : Bag = record z { whole = d.whole } in w) x.same;
+  same = y.same ∙ ap (λ (z : Bag). let w : Bag = record z { listed = d.listed } in w) x.same;
   kept = λ o clear. y.kept (x.kept o clear) (λ c r. ap (λ (z : Bag). is_recorded z.chunks c) x.same ∙ clear c r);
   lost = λ o. x.lost (y.lost o);
 }
@@ -73,8 +73,8 @@ free_kept id chunks old new a b others free u o c r =
 pub target_kept : (id : ℕ) (chunks : List ChunkPos) (s t : Stock) → IsTarget id chunks s → Draws id chunks s t → IsTarget id chunks t
 target_kept id chunks s t h d = record {
   here = ap (λ (b : Bag). b.here) d.own ∙ h.here;
-  not_whole = ap (λ (b : Bag). b.whole) d.own ∙ h.not_whole;
-  listed = ap (λ (b : Bag). b.chunks) d.own ∙ h.listed;
+  not_listed = ap (λ (b : Bag). b.listed) d.own ∙ h.not_listed;
+  chunks_are = ap (λ (b : Bag). b.chunks) d.own ∙ h.chunks_are;
   empty = d.arrivals ∙ h.empty;
   free = free_kept id chunks (bag_of s) (bag_of t) (ap (λ (b : Bag). b.taken) d.own) (ap (λ (b : Bag). b.chunks) d.own) d.others h.free;
 }
@@ -200,13 +200,13 @@ pub target_here : (id : ℕ) (chunks : List ChunkPos) (s : Stock) → IsTarget i
 unfolding bag_of
 target_here id chunks s h = h.here
 
-pub target_not_whole : (id : ℕ) (chunks : List ChunkPos) (s : Stock) → IsTarget id chunks s → (slot s id).whole ≡ false
+pub target_not_listed : (id : ℕ) (chunks : List ChunkPos) (s : Stock) → IsTarget id chunks s → (slot s id).listed ≡ false
 unfolding bag_of
-target_not_whole id chunks s h = h.not_whole
+target_not_listed id chunks s h = h.not_listed
 
 pub target_listed : (id : ℕ) (chunks : List ChunkPos) (s : Stock) → IsTarget id chunks s → (c : ChunkPos) → is_recorded chunks c ≡ true → is_recorded (slot s id).chunks c ≡ true
 unfolding bag_of
-target_listed id chunks s h c r = ap (λ l. is_recorded l c) h.listed ∙ r
+target_listed id chunks s h c r = ap (λ l. is_recorded l c) h.chunks_are ∙ r
 
 pub here_not_taken : (id : ℕ) (s : Stock) → IsSound s → (slot s id).here ≡ true → (slot s id).taken ≡ false
 here_not_taken id s h e = let f : ((slot s id).here && (slot s id).taken) ≡ false = (h.bags id).one in rw e at f

@@ -17,7 +17,7 @@ use Rattle.fol_store.specs.Things.{Key, of_block, of_entity, of_task, Thing, thi
 use Rattle.fol_store.specs.Stock.{Stock, Where, arriving, in_spot, in_bag, slot, column, found, flat_of, jobs_of}
 use Rattle.fol_store.specs.Sound.{IsBag, IsSound}
 use Rattle.fol_store.proofs.Totals.{where_cases, IsUnique, found_of, found_at, found_none, number_is, unwrap_filter}
-use Rattle.fol_store.proofs.Resound.{kept_bag, kept_self}
+use Rattle.fol_store.proofs.Resound.{kept_bag, kept_self, whole_alone}
 use Rattle.fol_store.proofs.BagSteps.{with_bags, slot_here, slot_other}
 
 module _ (s : Stock) (bags : List Slot) (spare slots id : ℕ) (body : RegionData) where
@@ -31,7 +31,7 @@ module _ (s : Stock) (bags : List Slot) (spare slots id : ℕ) (body : RegionDat
   abbrev rec : ChunkPos → Bool
   rec = is_recorded (slot s id).chunks
 
-  module _ (e : (u : ℕ) → slot t u ≡ (if nat_eq id u then emptied else slot s u)) (empty : (k : Key) → things body k ≡ None) (h : IsSound s) (whole : (slot s id).whole ≡ true) where
+  module _ (e : (u : ℕ) → slot t u ≡ (if nat_eq id u then emptied else slot s u)) (empty : (k : Key) → things body k ≡ None) (h : IsSound s) (listed : (slot s id).listed ≡ true) (calm : (slot s id).calm ≡ true) where
     col_here : (k : Key) → column t k (in_bag id) ≡ None
     col_here k = ap (λ (b : Slot). things b.body k) (slot_here s bags spare slots id emptied e) ∙ empty k
 
@@ -55,12 +55,12 @@ module _ (s : Stock) (bags : List Slot) (spare slots id : ℕ) (body : RegionDat
     taken_unique k v w x y q r = h.unique k v w x y (back k v x q).had (back k w y r).had
 
     inside : (k : Key) (x : Thing k) → column s k (in_bag id) ≡ Some x → rec (chunk_at k x) ≡ true
-    inside k x q = (h.bags id).claims ((h.bags id).opened whole) (chunk_at k x) (h.lies k (in_bag id) x q)
+    inside k x q = (h.bags id).claims ((h.bags id).opened listed) (chunk_at k x) (h.lies k (in_bag id) x q)
 
     outside_it : (k : Key) (w : Where) (x : Thing k) → column s k w ≡ Some x → w ≢ in_bag id → rec (chunk_at k x) ≡ false
     outside_it k w x q n =
         elim (cases_Bool (rec (chunk_at k x))) [
-          | inl z ↦ absurd (n ((h.bags id).alone whole k w x q z))
+          | inl z ↦ absurd (n (whole_alone s id (slot s id) (h.bags id) listed calm k w x q z))
           | inr z ↦ z
         ]
 
@@ -121,16 +121,17 @@ module _ (s : Stock) (bags : List Slot) (spare slots id : ℕ) (body : RegionDat
               let Q : Slot → Type 0 = λ b. IsBag t u b in
               subst Q (sym (slot_other s bags spare slots id emptied e u n))
               (kept_bag s t u (slot s u) (slot s u) (kept_self (slot s u)) (λ c q. inl q) (λ o c q. q)
-              (λ o k w x q r. (h.bags u).alone o k w x (back k w x q).had r)
+              (λ o k w x q r. (h.bags u).near o k w x (back k w x q).had r)
               (λ o k x q. (h.bags u).out o k x (back k (in_bag u) x q).had)
               (h.bags u))
         ]
       where
         taken_bag : IsBag t id emptied
         taken_bag = record {
-          claims = λ o c q. (h.bags id).claims ((h.bags id).opened whole) c q;
-          held = λ o c q. (h.bags id).held (rw whole refl) c q;
-          alone = λ o k w x q r. let b = back k w x q in absurd (b.other ((h.bags id).alone whole k w x b.had r));
+          claims = λ o c q. (h.bags id).claims ((h.bags id).opened listed) c q;
+          held = λ o c q. (h.bags id).held (rw listed refl) c q;
+          near = λ o k w x q r. let b = back k w x q in absurd (b.other (whole_alone s id (slot s id) (h.bags id) listed calm k w x b.had r));
+          untouched = λ o p. (h.bags id).untouched listed calm;
           opened = λ o. refl;
           one = refl;
           out = λ o k x q. let f : None ≡ Some x = sym (col_here k) ∙ q in cc;

@@ -11,22 +11,28 @@ pub record Bag : Type 0 where
   -- the counter and the owed number of the region; 0 where the bag is not here
   pub tick : ℕ
   pub owed : ℕ
-  -- nothing outside the bag lies on its chunks, and nothing in it lies elsewhere
-  pub whole : Bool
+  -- it was gathered for its chunks, and has these still
+  pub listed : Bool
+  -- no task came on its chunks while it was listed, since it last held all that lies on them
+  pub calm : Bool
   -- the chunks for which it was gathered
   pub chunks : List ChunkPos
 
+-- nothing outside the bag lies on its chunks, and nothing in it lies elsewhere
+abbrev pub is_whole : Bag → Bool
+is_whole b = b.listed && b.calm
+
 -- of a region that has none
 abbrev pub no_bag : Bag
-no_bag = record { here = false; taken = false; tick = 0; owed = 0; whole = false; chunks = [] }
+no_bag = record { here = false; taken = false; tick = 0; owed = 0; listed = false; calm = false; chunks = [] }
 
 -- of a region that has just begun
 abbrev pub new_bag : ℕ → ℕ → Bag
-new_bag tick owed = record { here = true; taken = false; tick = tick; owed = owed; whole = true; chunks = [] }
+new_bag tick owed = record { here = true; taken = false; tick = tick; owed = owed; listed = true; calm = true; chunks = [] }
 
--- after a task came on the chunk
+-- after a task came on the chunk: a listed bag that has the chunk is calm no more
 abbrev pub disturbed : ChunkPos → Bag → Bag
-disturbed c b = record b { whole = b.whole && not (is_recorded b.chunks c) }
+disturbed c b = record b { calm = b.calm && not (b.listed && is_recorded b.chunks c) }
 
 -- after all of it was taken out
 abbrev pub taken_out : Bag → Bag

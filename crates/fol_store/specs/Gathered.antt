@@ -12,16 +12,16 @@ IsClear chunks b = (c : ChunkPos) → is_recorded chunks c ≡ true → is_recor
 abbrev pub AreFree : (ℕ → Bag) → List ChunkPos → Type 0
 AreFree bags chunks = (u : ℕ) → (bags u).taken ≡ true → IsClear chunks (bags u)
 
--- another bag stays, but that it is whole no more where it had one of the chunks
+-- another bag stays, but that it is listed no more where it had one of the chunks
 pub record Spared (chunks : List ChunkPos) (old new : Bag) : Type 0 where
-  pub same : new ≡ record old { whole = new.whole }
-  pub kept : old.whole ≡ true → IsClear chunks old → new.whole ≡ true
-  pub lost : new.whole ≡ true → old.whole ≡ true
+  pub same : new ≡ record old { listed = new.listed }
+  pub kept : old.listed ≡ true → IsClear chunks old → new.listed ≡ true
+  pub lost : new.listed ≡ true → old.listed ≡ true
 
 abbrev pub OthersSpared : ℕ → List ChunkPos → (ℕ → Bag) → (ℕ → Bag) → Type 0
 OthersSpared id chunks old new = (u : ℕ) → u ≢ id → Spared chunks (old u) (new u)
 
--- the bag stays, but that it is whole no more or has other chunks
+-- the bag stays, but that it is listed no more or has other chunks
 pub record Touched (old new : Bag) : Type 0 where
-  pub same : new ≡ record old { whole = new.whole; chunks = new.chunks }
-  pub whole : new.whole ≡ true → new ≡ old
+  pub same : new ≡ record old { listed = new.listed; chunks = new.chunks }
+  pub listed : new.listed ≡ true → new ≡ old

@@ -1,5 +1,5 @@
 -- The bags by region, and the spots by number.
-use Rattle.std.specs.Prelude.{ℕ, List, slice_index_or}
+use Rattle.std.specs.Prelude.{ℕ, Bool, not, ◌&&◌, List, slice_index_or}
 use Rattle.fol_data.specs.declared.region_data.RegionData.{RegionData}
 use Rattle.fol_store.specs.declared.slot.Slot.{Slot}
 use Rattle.fol_store.specs.Things.{no_data}
@@ -10,3 +10,7 @@ slot_in bags id = slice_index_or bags id no_slot
 
 abbrev pub spot_in : List RegionData → ℕ → RegionData
 spot_in spots i = slice_index_or spots i no_data
+
+-- whether the bag is calm after a task came on one of its chunks
+abbrev pub stays_calm : Slot → Bool
+stays_calm b = b.calm && not b.listed

@@ -1,5 +1,5 @@
 -- What holds of a store at all times.
-use Rattle.std.specs.Prelude.{ℕ, ◌≡◌, ◌<◌, Bool, true, false, ◌||◌, ◌&&◌, length, Some, All}
+use Rattle.std.specs.Prelude.{ℕ, ◌≡◌, ◌<◌, Bool, true, false, ◌||◌, ◌&&◌, [], length, Some, All}
 use Rattle.fol_model.specs.declared.places.ChunkPos.{ChunkPos}
 use Rattle.fol_chunks.specs.Contents.{is_recorded}
 use Rattle.fol_queues.specs.Distinct.{Distinct}
@@ -18,18 +18,26 @@ Allows p (in_bag id) = p.bag ≡ Some id
 abbrev pub is_open : Slot → Bool
 is_open b = b.here || b.taken
 
+-- where a thing on a chunk of a listed bag may lie
+abbrev pub Near : ℕ → Slot → ChunkPos → Where → Type 0
+Near id b c arriving = b.calm ≡ true → ⊥
+Near id b c (in_spot i) = is_recorded b.touched c ≡ true
+Near id b c (in_bag u) = u ≡ id
+
 pub record IsBag (s : Stock) (id : ℕ) (b : Slot) : Type 0 where
   -- a chunk whose things may lie in it is one of its chunks
   pub claims : is_open b ≡ true → (c : ChunkPos) → (place s c).bag ≡ Some id → is_recorded b.chunks c ≡ true
   -- the things of its chunks may lie in it
-  pub held : (b.whole || b.taken) ≡ true → (c : ChunkPos) → is_recorded b.chunks c ≡ true → (place s c).bag ≡ Some id
-  -- what lies on its chunks lies in it
-  pub alone : b.whole ≡ true → (k : Key) (w : Where) (x : Thing k) → column s k w ≡ Some x → is_recorded b.chunks (chunk_at k x) ≡ true → w ≡ in_bag id
-  pub opened : b.whole ≡ true → is_open b ≡ true
+  pub held : (b.listed || b.taken) ≡ true → (c : ChunkPos) → is_recorded b.chunks c ≡ true → (place s c).bag ≡ Some id
+  -- what lies on its chunks lies in it, but for the tasks that came
+  pub near : b.listed ≡ true → (k : Key) (w : Where) (x : Thing k) → column s k w ≡ Some x → is_recorded b.chunks (chunk_at k x) ≡ true → Near id b (chunk_at k x) w
+  -- nothing came to a calm one
+  pub untouched : b.listed ≡ true → b.calm ≡ true → b.touched ≡ []
+  pub opened : b.listed ≡ true → is_open b ≡ true
   pub one : (b.here && b.taken) ≡ false
   -- nothing is left of a bag that a worker has
   pub out : b.taken ≡ true → (k : Key) (x : Thing k) → column s k (in_bag id) ≡ Some x → ⊥
-  pub handed : (b.here && b.whole) ≡ true → b.handed ≡ b.chunks
+  pub handed : (b.here && b.listed) ≡ true → b.handed ≡ b.chunks
 
 pub record IsSound (s : Stock) : Type 0 where
   -- no thing lies in two parts

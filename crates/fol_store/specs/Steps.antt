@@ -1,10 +1,11 @@
 -- Steps of a gathering.
-use Rattle.std.specs.Prelude.{ℕ, ◌≡◌, ◌≤◌, true, false, List, [], length, Some}
+use Rattle.std.specs.Prelude.{ℕ, ◌≡◌, ◌≢◌, ◌≤◌, true, false, List, [], length, Some}
 use Rattle.fol_model.specs.declared.places.ChunkPos.{ChunkPos}
 use Rattle.fol_model.specs.Geometry.{same_chunk}
+use Rattle.fol_chunks.specs.Contents.{is_recorded}
 use Rattle.fol_store.specs.Things.{Key, Thing, chunk_at}
-use Rattle.fol_store.specs.Stock.{Stock, Where, in_bag, place, column, found, bag_of}
-use Rattle.fol_store.specs.Gathered.{OthersSpared, AreFree}
+use Rattle.fol_store.specs.Stock.{Stock, Where, in_bag, slot, place, column, found, bag_of}
+use Rattle.fol_store.specs.Gathered.{OthersSpared, AreFree, IsClear}
 
 -- nothing comes and nothing goes
 pub record SameMeaning (old new : Stock) : Type 0 where
@@ -29,7 +30,18 @@ pub record Draws (id : ℕ) (chunks : List ChunkPos) (old new : Stock) : Type 0 
 -- the bag that is being gathered for these chunks
 pub record IsTarget (id : ℕ) (chunks : List ChunkPos) (s : Stock) : Type 0 where
   pub here : (bag_of s id).here ≡ true
-  pub not_whole : (bag_of s id).whole ≡ false
-  pub listed : (bag_of s id).chunks ≡ chunks
+  pub not_listed : (bag_of s id).listed ≡ false
+  pub chunks_are : (bag_of s id).chunks ≡ chunks
   pub empty : s.arrivals ≡ []
   pub free : AreFree (bag_of s) chunks
+
+-- a listed bag that has the chunk and is not calm knows that tasks may lie in the chunk's spot
+abbrev pub IsNoted : Stock → ChunkPos → Type 0
+IsNoted s c = (id : ℕ) → (place s c).bag ≡ Some id → (slot s id).listed ≡ true → (slot s id).calm ≡ false → is_recorded (slot s id).touched c ≡ true
+
+-- what lies on the chunks of the bag lies in it, or in the spots of those of them that were noted
+pub record IsReopened (id : ℕ) (chunks touched : List ChunkPos) (s : Stock) : Type 0 where
+  pub target : IsTarget id chunks s
+  pub homes : (c : ChunkPos) → is_recorded chunks c ≡ true → (place s c).bag ≡ Some id
+  pub rest : (c : ChunkPos) → is_recorded chunks c ≡ true → is_recorded touched c ≡ false → IsGathered s id c
+  pub others : (u : ℕ) → u ≢ id → (bag_of s u).listed ≡ true → IsClear chunks (bag_of s u)

@@ -12,10 +12,14 @@ pub struct Slot {
     pub here: bool,
     /// Whether a worker has the bag.
     pub taken: bool,
-    /// Whether all that lies on its chunks lies in it.
-    pub whole: bool,
+    /// Whether its chunks are the right ones still.
+    pub listed: bool,
+    /// Whether no task came on its chunks since they were listed.
+    pub calm: bool,
     /// The chunks for which it was gathered.
     pub chunks: Sequence<ChunkPos>,
     /// The same chunks, to be handed out with the bag.
     pub handed: Sequence<ChunkPos>,
+    /// Chunks on whose spots tasks may lie; of a listed bag, all such ones.
+    pub touched: Sequence<ChunkPos>,
 }

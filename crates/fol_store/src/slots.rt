@@ -1,9 +1,9 @@
 //! The bags by region.
 
-ghost use Rattle.std.specs.Prelude.{◌≡◌, ◌≢◌, IfOk, OnOk, OnErr, ◌+◌, ◌<◌, ℕ, nat_eq, if◌then◌else◌, true, false, [], vec_len};
+ghost use Rattle.std.specs.Prelude.{◌≡◌, ◌≢◌, IfOk, OnOk, OnErr, ◌+◌, ◌<◌, ◌&&◌, not, ℕ, nat_eq, if◌then◌else◌, true, false, [], ◌∷◌, ◌++◌, length, vec_len};
 ghost use Rattle.std.specs.Vec.{vec_capacity};
 ghost use Rattle.fol_store.specs.Stock.{no_slot};
-ghost use Rattle.fol_store.specs.Slots.{slot_in};
+ghost use Rattle.fol_store.specs.Slots.{slot_in, stays_calm};
 ghost use Rattle.fol_store.specs.Things.{no_data, IsTimely};
 ghost use Rattle.fol_store.specs.Places.{is_bag};
 ghost use Rattle.fol_store.specs.Moves.{SameThings, AreApart, Loses, Gains};
@@ -19,15 +19,24 @@ use fol_model::{ChunkPos, Sequence};
 use std::alloc::{AllocError, Global};
 use std::mem;
 
-/// Says whether a bag is whole.
-pub fn set_whole(bags: &mut Vec<Slot>, id: usize, whole: bool)
+/// What was taken from a bag that is to be settled.
+#[derive(Drop)]
+pub struct Reopened {
+    /// Its chunks, as they are to be handed out.
+    pub chunks: Vec<ChunkPos>,
+    /// Those on whose spots tasks may lie.
+    pub touched: Vec<ChunkPos>,
+}
+
+/// Says that a bag has to be gathered anew.
+pub fn unlist(bags: &mut Vec<Slot>, id: usize)
     requires { id < vec_len bags.old }
-    ensures slots { (u : ℕ) → slot_in bags.new.items u ≡ (if nat_eq id u then record (slot_in bags.old.items id) { whole = whole } else slot_in bags.old.items u) }
+    ensures slots { (u : ℕ) → slot_in bags.new.items u ≡ (if nat_eq id u then record (slot_in bags.old.items id) { listed = false } else slot_in bags.old.items u) }
     ensures len { vec_len bags.new ≡ vec_len bags.old }
     ensures capacity { vec_capacity bags.new ≡ vec_capacity bags.old }
 {
     let slot = &mut bags[id];
-    slot.whole = whole;
+    slot.listed = false;
 }
 
 /// Sets how many ticks a region owes.
@@ -44,52 +53,129 @@ pub fn set_owed(bags: &mut Vec<Slot>, id: usize, owed: u32)
 /// Closes a bag; what lies in it stays in it.
 pub fn close(alloc: Global, bags: &mut Vec<Slot>, id: usize)
     requires { id < vec_len bags.old }
-    ensures slots { (u : ℕ) → slot_in bags.new.items u ≡ (if nat_eq id u then record { body = (slot_in bags.old.items id).body; here = false; taken = false; whole = false; chunks = []; handed = [] } else slot_in bags.old.items u) }
+    ensures slots { (u : ℕ) → slot_in bags.new.items u ≡ (if nat_eq id u then record { body = (slot_in bags.old.items id).body; here = false; taken = false; listed = false; calm = false; chunks = []; handed = []; touched = [] } else slot_in bags.old.items u) }
     ensures len { vec_len bags.new ≡ vec_len bags.old }
     ensures capacity { vec_capacity bags.new ≡ vec_capacity bags.old }
 {
     let slot = &mut bags[id];
     slot.here = false;
     slot.taken = false;
-    slot.whole = false;
+    slot.listed = false;
+    slot.calm = false;
     slot.chunks = Sequence::new(alloc);
     slot.handed = Sequence::new(alloc);
+    slot.touched = Sequence::new(alloc);
 }
 
 /// Gives a bag other chunks.
 pub fn relist(bags: &mut Vec<Slot>, id: usize, chunks: Vec<ChunkPos>)
     requires { id < vec_len bags.old }
-    ensures slots { (u : ℕ) → slot_in bags.new.items u ≡ (if nat_eq id u then record (slot_in bags.old.items id) { whole = false; chunks = chunks.items } else slot_in bags.old.items u) }
+    ensures slots { (u : ℕ) → slot_in bags.new.items u ≡ (if nat_eq id u then record (slot_in bags.old.items id) { listed = false; chunks = chunks.items } else slot_in bags.old.items u) }
     ensures len { vec_len bags.new ≡ vec_len bags.old }
     ensures capacity { vec_capacity bags.new ≡ vec_capacity bags.old }
 {
     let slot = &mut bags[id];
-    slot.whole = false;
+    slot.listed = false;
     slot.chunks = Sequence::of(chunks);
 }
 
-/// Says that a bag is whole, and gives it the list to be handed out.
-pub fn finish(bags: &mut Vec<Slot>, id: usize, handed: Vec<ChunkPos>)
+/// Says that all that lies on the chunks of a bag lies in it, and gives it the list to be handed out.
+pub fn finish(alloc: Global, bags: &mut Vec<Slot>, id: usize, handed: Vec<ChunkPos>)
     requires { id < vec_len bags.old }
-    ensures slots { (u : ℕ) → slot_in bags.new.items u ≡ (if nat_eq id u then record (slot_in bags.old.items id) { whole = true; handed = handed.items } else slot_in bags.old.items u) }
+    ensures slots { (u : ℕ) → slot_in bags.new.items u ≡ (if nat_eq id u then record (slot_in bags.old.items id) { listed = true; calm = true; handed = handed.items; touched = [] } else slot_in bags.old.items u) }
     ensures len { vec_len bags.new ≡ vec_len bags.old }
     ensures capacity { vec_capacity bags.new ≡ vec_capacity bags.old }
 {
     let slot = &mut bags[id];
-    slot.whole = true;
+    slot.listed = true;
+    slot.calm = true;
     slot.handed = Sequence::of(handed);
+    slot.touched = Sequence::new(alloc);
 }
 
-/// Says that the bag that the place names is whole no more.
+/// A listed bag that the place names is calm no more.
 pub fn disturb(bags: &mut Vec<Slot>, place: Place)
     requires { (id : ℕ) → place.bag ≡ Some id → id < vec_len bags.old }
-    ensures slots { (u : ℕ) → slot_in bags.new.items u ≡ (if is_bag u place then record (slot_in bags.old.items u) { whole = false } else slot_in bags.old.items u) }
+    ensures slots { (u : ℕ) → slot_in bags.new.items u ≡ (if is_bag u place then record (slot_in bags.old.items u) { calm = stays_calm (slot_in bags.old.items u) } else slot_in bags.old.items u) }
     ensures len { vec_len bags.new ≡ vec_len bags.old }
     ensures capacity { vec_capacity bags.new ≡ vec_capacity bags.old }
 {
     match place.bag {
-        Some(id) => set_whole(bags, id, false),
+        Some(id) => disturb_bag(bags, id),
         None => {}
+    }
+}
+
+/// A listed bag is calm no more.
+fn disturb_bag(bags: &mut Vec<Slot>, id: usize)
+    requires { id < vec_len bags.old }
+    ensures slots { (u : ℕ) → slot_in bags.new.items u ≡ (if nat_eq id u then record (slot_in bags.old.items id) { calm = stays_calm (slot_in bags.old.items id) } else slot_in bags.old.items u) }
+    ensures len { vec_len bags.new ≡ vec_len bags.old }
+    ensures capacity { vec_capacity bags.new ≡ vec_capacity bags.old }
+{
+    let slot = &mut bags[id];
+    slot.calm = slot.calm && !slot.listed;
+}
+
+/// Whether all that lies on the chunks of a bag lies in it.
+pub fn is_whole(slot: &Slot) -> bool
+    ensures { result ≡ (slot.now.listed && slot.now.calm) }
+{
+    slot.listed && slot.calm
+}
+
+/// Whether a listed bag is to be told of a task in the spot of one of its chunks.
+pub fn is_stirred(bags: &[Slot], id: usize) -> bool
+    requires { id < length bags.now }
+    ensures { result ≡ ((slot_in bags.now id).listed && not (slot_in bags.now id).calm) }
+{
+    let slot = &bags[id];
+    slot.listed && !slot.calm
+}
+
+/// Notes that tasks may lie in the spot of a chunk of a bag. After want of memory nothing is noted.
+pub fn touch(alloc: Global, bags: &mut Vec<Slot>, id: usize, c: ChunkPos) -> Result<(), AllocError>
+    requires { id < vec_len bags.old }
+    ensures noted { OnOk result ((slot_in bags.new.items id).touched ≡ (slot_in bags.old.items id).touched ++ c ∷ []) }
+    ensures err { OnErr result ((slot_in bags.new.items id).touched ≡ (slot_in bags.old.items id).touched) }
+    ensures slots { (u : ℕ) → slot_in bags.new.items u ≡ (if nat_eq id u then record (slot_in bags.old.items id) { touched = (slot_in bags.new.items id).touched } else slot_in bags.old.items u) }
+    ensures len { vec_len bags.new ≡ vec_len bags.old }
+    ensures capacity { vec_capacity bags.new ≡ vec_capacity bags.old }
+{
+    let slot = &mut bags[id];
+    let mut touched = mem::replace(&mut slot.touched, Sequence::new(alloc)).into_vec();
+    let result = add(&mut touched, c);
+    slot.touched = Sequence::of(touched);
+    result
+}
+
+/// Adds a chunk to a list.
+fn add(chunks: &mut Vec<ChunkPos>, c: ChunkPos) -> Result<(), AllocError>
+    ensures ok { OnOk result (chunks.new.items ≡ chunks.old.items ++ c ∷ []) }
+    ensures err { OnErr result (chunks.new.items ≡ chunks.old.items) }
+{
+    match chunks.push(c) {
+        Ok(()) => Ok(()),
+        Err(_) => Err(AllocError),
+    }
+}
+
+/// Takes the noted chunks of a bag, and its chunks as they are to be handed out. The bag has to be gathered anew, or finished.
+pub fn reopen(alloc: Global, bags: &mut Vec<Slot>, id: usize) -> Reopened
+    requires { id < vec_len bags.old }
+    ensures touched { result.touched.items ≡ (slot_in bags.old.items id).touched }
+    ensures handed { result.chunks.items ≡ (slot_in bags.old.items id).handed }
+    ensures slots { (u : ℕ) → slot_in bags.new.items u ≡ (if nat_eq id u then record (slot_in bags.old.items id) { listed = false; handed = []; touched = [] } else slot_in bags.old.items u) }
+    ensures len { vec_len bags.new ≡ vec_len bags.old }
+    ensures capacity { vec_capacity bags.new ≡ vec_capacity bags.old }
+{
+    let slot = &mut bags[id];
+    slot.listed = false;
+    let handed = mem::replace(&mut slot.handed, Sequence::new(alloc));
+    let touched = mem::replace(&mut slot.touched, Sequence::new(alloc));
+    Reopened {
+        chunks: handed.into_vec(),
+        touched: touched.into_vec(),
     }
 }
 
@@ -98,7 +184,7 @@ pub fn open(alloc: Global, bags: &mut Vec<Slot>, tick: u64, owed: u32)
     requires { vec_len bags.old < vec_capacity bags.old }
     ensures body { SameThings (record no_data { tick = tick; owed = owed }) (slot_in bags.new.items (vec_len bags.old)).body }
     ensures tasks { (slot_in bags.new.items (vec_len bags.old)).body.queues.tasks ≡ [] }
-    ensures slots { (u : ℕ) → slot_in bags.new.items u ≡ (if nat_eq (vec_len bags.old) u then record { body = (slot_in bags.new.items (vec_len bags.old)).body; here = true; taken = false; whole = true; chunks = []; handed = [] } else slot_in bags.old.items u) }
+    ensures slots { (u : ℕ) → slot_in bags.new.items u ≡ (if nat_eq (vec_len bags.old) u then record { body = (slot_in bags.new.items (vec_len bags.old)).body; here = true; taken = false; listed = true; calm = true; chunks = []; handed = []; touched = [] } else slot_in bags.old.items u) }
     ensures len { vec_len bags.new ≡ vec_len bags.old + 1 }
     ensures capacity { vec_capacity bags.new ≡ vec_capacity bags.old }
 {
@@ -107,9 +193,11 @@ pub fn open(alloc: Global, bags: &mut Vec<Slot>, tick: u64, owed: u32)
         body,
         here: true,
         taken: false,
-        whole: true,
+        listed: true,
+        calm: true,
         chunks: Sequence::new(alloc),
         handed: Sequence::new(alloc),
+        touched: Sequence::new(alloc),
     });
 }
 
@@ -160,7 +248,7 @@ pub fn put_in(bags: &mut Vec<Slot>, id: usize, chunks: Vec<ChunkPos>, body: Regi
     slot.body = body;
 }
 
-/// Moves what lies on the chunks from one bag to another. The first is whole no more. After want of memory nothing has moved.
+/// Moves what lies on the chunks from one bag to another. The first has to be gathered anew. After want of memory nothing has moved.
 pub fn shift_bags(
     alloc: Global,
     bags: &mut Vec<Slot>,
@@ -181,7 +269,7 @@ pub fn shift_bags(
     ensures gains { OnOk result (Gains chunks.now (slot_in bags.old.items from).body (slot_in bags.old.items to).body (slot_in bags.new.items to).body) }
     ensures err { OnErr result (SameThings (slot_in bags.old.items from).body (slot_in bags.new.items from).body) }
     ensures to_err { OnErr result (SameThings (slot_in bags.old.items to).body (slot_in bags.new.items to).body) }
-    ensures slots { (u : ℕ) → slot_in bags.new.items u ≡ (if nat_eq from u then record (slot_in bags.old.items from) { body = (slot_in bags.new.items from).body; whole = false } else (if nat_eq to u then record (slot_in bags.old.items to) { body = (slot_in bags.new.items to).body } else slot_in bags.old.items u)) }
+    ensures slots { (u : ℕ) → slot_in bags.new.items u ≡ (if nat_eq from u then record (slot_in bags.old.items from) { body = (slot_in bags.new.items from).body; listed = false } else (if nat_eq to u then record (slot_in bags.old.items to) { body = (slot_in bags.new.items to).body } else slot_in bags.old.items u)) }
     ensures len { vec_len bags.new ≡ vec_len bags.old }
     ensures capacity { vec_capacity bags.new ≡ vec_capacity bags.old }
 {
@@ -191,16 +279,16 @@ pub fn shift_bags(
     result
 }
 
-/// Takes out what lies in a bag, which is whole no more.
+/// Takes out what lies in a bag, which has to be gathered anew.
 fn take_body(alloc: Global, bags: &mut Vec<Slot>, id: usize) -> RegionData
     requires { id < vec_len bags.old }
     ensures body { result ≡ (slot_in bags.old.items id).body }
-    ensures slots { (u : ℕ) → slot_in bags.new.items u ≡ (if nat_eq id u then record (slot_in bags.old.items id) { body = (slot_in bags.new.items id).body; whole = false } else slot_in bags.old.items u) }
+    ensures slots { (u : ℕ) → slot_in bags.new.items u ≡ (if nat_eq id u then record (slot_in bags.old.items id) { body = (slot_in bags.new.items id).body; listed = false } else slot_in bags.old.items u) }
     ensures len { vec_len bags.new ≡ vec_len bags.old }
     ensures capacity { vec_capacity bags.new ≡ vec_capacity bags.old }
 {
     let slot = &mut bags[id];
-    slot.whole = false;
+    slot.listed = false;
     mem::replace(&mut slot.body, new_data(alloc, 0, 0))
 }
 
@@ -278,9 +366,11 @@ pub fn closed(alloc: Global) -> Result<Vec<Slot>, AllocError>
         body: new_data(alloc, 0, 0),
         here: false,
         taken: false,
-        whole: false,
+        listed: false,
+        calm: false,
         chunks: Sequence::new(alloc),
         handed: Sequence::new(alloc),
+        touched: Sequence::new(alloc),
     };
     let mut bags = Vec::new(alloc);
     match bags.push(slot) {

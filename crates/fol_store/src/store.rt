@@ -13,10 +13,11 @@ ghost use Rattle.fol_chunks.specs.Contents.{flat_of as contents_of, within, outs
 ghost use Rattle.fol_chunks.specs.Order.{chunk_cmp};
 ghost use Rattle.fol_chunks.specs.Rows.{by_place, by_id};
 ghost use Rattle.fol_data.specs.Rests.{rests_of, IsInTime};
-ghost use Rattle.fol_store.specs.Bag.{no_bag, new_bag, disturbed, taken_out, put_back};
+ghost use Rattle.fol_store.specs.Bag.{no_bag, new_bag, disturbed, is_whole, taken_out, put_back};
 ghost use Rattle.fol_store.specs.Gathered.{AreFree, OthersSpared, Touched};
 ghost use Rattle.fol_store.specs.TaskRows.{by_number, rows_of};
 
+mod calm;
 mod draw;
 mod gather;
 mod lay;
@@ -131,12 +132,20 @@ impl Store {
         slots::set_owed(&mut self.bags, id as usize, owed);
     }
 
-    /// Whether the bag of a region is whole.
+    /// Whether the bag of a region was gathered for its chunks and was not unsettled since.
+    pub fn is_listed(&self, id: u64) -> bool
+        requires { (bag_of self.now id).here ≡ true }
+        ensures { result ≡ (bag_of self.now id).listed }
+    {
+        self.bags[id as usize].listed
+    }
+
+    /// Whether the bag of a region is whole: nothing outside it lies on its chunks, and nothing in it lies elsewhere.
     pub fn is_whole(&self, id: u64) -> bool
         requires { (bag_of self.now id).here ≡ true }
-        ensures { result ≡ (bag_of self.now id).whole }
+        ensures { result ≡ is_whole (bag_of self.now id) }
     {
-        self.bags[id as usize].whole
+        slots::is_whole(&self.bags[id as usize])
     }
 
     /// How many tasks of a bag are due in the next tick of its region.
@@ -151,18 +160,18 @@ impl Store {
     /// Says that the bag of a region has to be gathered anew, since other chunks are loaded.
     pub fn unsettle(&mut self, id: u64)
         requires known { ((bag_of self.old id).here || (bag_of self.old id).taken) ≡ true }
-        ensures bags { bag_of self.new ≡ at_id (bag_of self.old) id (record (bag_of self.old id) { whole = false }) }
+        ensures bags { bag_of self.new ≡ at_id (bag_of self.old) id (record (bag_of self.old id) { listed = false }) }
         ensures next { next_of self.new ≡ next_of self.old }
         ensures contents { flat_of self.new ≡ flat_of self.old }
         ensures tasks { jobs_of self.new ≡ jobs_of self.old }
         ensures spare { self.new.spare ≡ self.old.spare }
         ensures slots { self.new.slots ≡ self.old.slots }
     {
-        slots::set_whole(&mut self.bags, id as usize, false);
+        slots::unlist(&mut self.bags, id as usize);
     }
 
-    /// Queues a task that is due in the `delay`-th tick that its chunk's region begins from now on. The bag that has the chunk is
-    /// whole no more. Takes no memory.
+    /// Queues a task that is due in the `delay`-th tick that its chunk's region begins from now on. A listed bag that has the chunk is
+    /// calm no more. Takes no memory.
     pub fn accept(&mut self, task: Task, delay: u32)
         requires spare { 1 ≤ self.old.spare }
         requires fresh { IsNone (jobs_of self.old task.number) }
@@ -202,7 +211,7 @@ impl Store {
     /// Takes a whole bag out, with the tasks, blocks and entities on its chunks. Takes no memory.
     pub fn take(&mut self, id: u64) -> Taken
         requires here { (bag_of self.old id).here ≡ true }
-        requires whole { (bag_of self.old id).whole ≡ true }
+        requires whole { is_whole (bag_of self.old id) ≡ true }
         ensures chunks { result.chunks.items ≡ (bag_of self.old id).chunks }
         ensures tick { result.body.tick ≡ (bag_of self.old id).tick }
         ensures owed { result.body.owed ≡ (bag_of self.old id).owed }
@@ -221,7 +230,8 @@ impl Store {
         slots::take_out(self.alloc, &mut self.bags, id as usize)
     }
 
-    /// Puts back what was taken out, after a worker had it. The bag is whole where no task came on its chunks meanwhile. Takes no memory.
+    /// Puts back what was taken out, after a worker had it. The bag is listed where it was not unsettled
+    /// meanwhile, and calm where no task came on its chunks. Takes no memory.
     pub fn put(&mut self, id: u64, chunks: Vec<ChunkPos>, body: RegionData)
         requires taken { (bag_of self.old id).taken ≡ true }
         requires chunks { chunks.items ≡ (bag_of self.old id).chunks }

@@ -1,6 +1,7 @@
 //! What only a run can show.
 
 ghost use Rattle.std.specs.Prelude.{◌≡◌, true};
+ghost use Rattle.fol_store.specs.Bag.{is_whole};
 ghost use Rattle.fol_store.specs.Stock.{bag_of};
 
 use crate::{Rows, Store};
@@ -98,7 +99,7 @@ fn gives_the_opening_back(rt: HostRuntime) -> Result<(), Fail> {
 /// Takes a bag out and puts it back; gives the region's counter.
 fn turn(store: &mut Store, id: u64) -> u64
     requires here { (bag_of store.old id).here ≡ true }
-    requires whole { (bag_of store.old id).whole ≡ true }
+    requires whole { is_whole (bag_of store.old id) ≡ true }
 {
     let taken = store.take(id);
     let tick = taken.body.tick;
@@ -106,14 +107,15 @@ fn turn(store: &mut Store, id: u64) -> u64
     tick
 }
 
-/// What went through a bag is all there, and its task keeps its rest.
+/// What went through a bag is all there, and a task that came after the gathering keeps its rest.
 #[test]
 fn keeps_rests_through_a_bag(rt: HostRuntime) -> Result<(), Fail> {
     let mut store = Store::new(rt.alloc(), &opening(rt.alloc())?)?;
     store.reserve(1, 1)?;
     store.open(1, 40, 2);
-    store.accept(task(2, CHUNKS[0]), 5);
     store.gather(1, &CHUNKS)?;
+    store.accept(task(2, CHUNKS[0]), 5);
+    store.settle(1)?;
     assert_eq!(rt; turn(&mut store, 1), 40);
     let rows = store.into_rows(rt.alloc())?;
     assert_eq!(rt; rows.blocks.as_slice(), BLOCKS.as_slice());

@@ -48,11 +48,17 @@ impl Store {
     }
 
     /// Moves what lies in the spot of a chunk into the bag that has the chunk.
-    fn draw_rest(&mut self, id: usize, chunks: &[ChunkPos], c: ChunkPos) -> Result<(), AllocError>
+    pub(super) fn draw_rest(
+        &mut self,
+        id: usize,
+        chunks: &[ChunkPos],
+        c: ChunkPos,
+    ) -> Result<(), AllocError>
         requires target { IsTarget id chunks.now self.old }
         requires home { (place self.old c).bag ≡ Some id }
         ensures draws { Draws id chunks.now self.old self.new }
         ensures gathered { OnOk result (IsGathered self.new id c) }
+        ensures places { self.new.places ≡ self.old.places }
     {
         match self.places.at(c).spot {
             Some(i) => self.draw_spot(i, id, chunks, c),
@@ -119,6 +125,7 @@ impl Store {
         requires home { (place self.old c).bag ≡ Some id }
         ensures draws { Draws id chunks.now self.old self.new }
         ensures gathered { OnOk result (IsGathered self.new id c) }
+        ensures places { self.new.places ≡ self.old.places }
     {
         spots::shift_to_bag(&mut self.spots, i, &[c], &mut self.bags, id)
     }

@@ -24,7 +24,7 @@ impl Store {
         requires order { IsStrictlySortedBy chunk_cmp chunks.now }
         requires places { All (λ c. IsTrue (is_chunk c)) chunks.now }
         requires free { AreFree (bag_of self.old) chunks.now }
-        ensures whole { OnOk result (bag_of self.new id ≡ record (bag_of self.old id) { whole = true; chunks = chunks.now }) }
+        ensures whole { OnOk result (bag_of self.new id ≡ record (bag_of self.old id) { listed = true; calm = true; chunks = chunks.now }) }
         ensures err { OnErr result (Touched (bag_of self.old id) (bag_of self.new id)) }
         ensures others { OthersSpared id chunks.now (bag_of self.old) (bag_of self.new) }
         ensures next { next_of self.new ≡ next_of self.old }
@@ -55,13 +55,13 @@ impl Store {
     ) -> Result<(), AllocError>
         requires here { (bag_of self.old id).here ≡ true }
         requires not_taken { (bag_of self.old id).taken ≡ false }
-        requires not_whole { (bag_of self.old id).whole ≡ false }
+        requires not_listed { (bag_of self.old id).listed ≡ false }
         requires order { IsStrictlySortedBy chunk_cmp chunks.now }
         requires free { AreFree (bag_of self.old) chunks.now }
         requires listed { listed.items ≡ chunks.now }
         requires handed { handed.items ≡ chunks.now }
         ensures same { SameMeaning self.old self.new }
-        ensures whole { OnOk result (bag_of self.new id ≡ record (bag_of self.old id) { whole = true; chunks = chunks.now }) }
+        ensures whole { OnOk result (bag_of self.new id ≡ record (bag_of self.old id) { listed = true; calm = true; chunks = chunks.now }) }
         ensures err { OnErr result (Touched (bag_of self.old id) (bag_of self.new id)) }
         ensures others { OthersSpared id chunks.now (bag_of self.old) (bag_of self.new) }
     {
@@ -73,7 +73,7 @@ impl Store {
             Ok(()) => {}
             Err(_) => return Err(AllocError),
         }
-        self.finish(id, chunks, handed);
+        self.finish(id, handed);
         Ok(())
     }
 
@@ -85,7 +85,7 @@ impl Store {
         listed: Vec<ChunkPos>,
     ) -> Result<(), AllocError>
         requires here { (bag_of self.old id).here ≡ true }
-        requires not_whole { (bag_of self.old id).whole ≡ false }
+        requires not_listed { (bag_of self.old id).listed ≡ false }
         requires order { IsStrictlySortedBy chunk_cmp chunks.now }
         requires listed { listed.items ≡ chunks.now }
         ensures same { SameMeaning self.old self.new }
@@ -108,7 +108,7 @@ impl Store {
     /// Gives a bag other chunks, where nothing lies on any that it had and has no more.
     fn relist(&mut self, id: usize, chunks: &[ChunkPos], listed: Vec<ChunkPos>)
         requires here { (bag_of self.old id).here ≡ true }
-        requires not_whole { (bag_of self.old id).whole ≡ false }
+        requires not_listed { (bag_of self.old id).listed ≡ false }
         requires listed { listed.items ≡ chunks.now }
         requires gone { (k : ℕ) (d : ChunkPos) → k < length (bag_of self.old id).chunks → (is_recorded chunks.now (slice_index_or (bag_of self.old id).chunks k d) ≡ true) ⊎ ((place self.old (slice_index_or (bag_of self.old id).chunks k d)).bag ≡ Some id → ⊥) }
         ensures same { SameMeaning self.old self.new }
@@ -120,15 +120,13 @@ impl Store {
     }
 
     /// Says that a bag is whole, where all that lies on its chunks lies in it.
-    fn finish(&mut self, id: usize, chunks: &[ChunkPos], handed: Vec<ChunkPos>)
+    pub(super) fn finish(&mut self, id: usize, handed: Vec<ChunkPos>)
         requires here { (bag_of self.old id).here ≡ true }
-        requires handed { handed.items ≡ chunks.now }
-        requires chunks { (bag_of self.old id).chunks ≡ chunks.now }
-        requires gathered { (q : ChunkPos) → is_recorded chunks.now q ≡ true → IsGathered self.old id q }
+        requires chunks { (bag_of self.old id).chunks ≡ handed.items }
+        requires gathered { (q : ChunkPos) → is_recorded handed.items q ≡ true → IsGathered self.old id q }
         ensures same { SameMeaning self.old self.new }
-        ensures bags { bag_of self.new ≡ at_id (bag_of self.old) id (record (bag_of self.old id) { whole = true }) }
+        ensures bags { bag_of self.new ≡ at_id (bag_of self.old) id (record (bag_of self.old id) { listed = true; calm = true }) }
     {
-        let _chunks = chunks;
-        slots::finish(&mut self.bags, id, handed);
+        slots::finish(self.alloc, &mut self.bags, id, handed);
     }
 }

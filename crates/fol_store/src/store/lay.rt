@@ -63,7 +63,7 @@ impl Store {
         })
     }
 
-    /// Lays blocks into a store that holds nothing.
+    /// Lays blocks into a store that holds nothing. In their order each comes behind those of its spot.
     fn lay_blocks(&mut self, blocks: &[BlockAt]) -> Result<(), AllocError>
         requires order { IsStrictlySortedBy block_cmp (map (λ (b : BlockAt). b.at) blocks.now) }
         requires each { IsTrue (list_all is_block_at blocks.now) }
@@ -73,10 +73,8 @@ impl Store {
         ensures tasks { OnOk result ((n : ℕ) → found self.new (of_task n) ≡ None) }
         ensures bags { self.new.bags ≡ self.old.bags }
     {
-        let mut k = blocks.len();
-        while k > 0 {
-            k -= 1;
-            match self.lay_block(blocks[k].at, blocks[k].id) {
+        for block in blocks {
+            match self.lay_block(block.at, block.id) {
                 Ok(()) => {}
                 Err(_) => return Err(AllocError),
             }
@@ -124,10 +122,8 @@ impl Store {
         ensures tasks { OnOk result ((n : ℕ) → found self.new (of_task n) ≡ found self.old (of_task n)) }
         ensures bags { self.new.bags ≡ self.old.bags }
     {
-        let mut k = entities.len();
-        while k > 0 {
-            k -= 1;
-            match self.lay_entity(entities[k]) {
+        for entity in entities {
+            match self.lay_entity(*entity) {
                 Ok(()) => {}
                 Err(_) => return Err(AllocError),
             }

@@ -17,7 +17,7 @@ use std::alloc::AllocError;
 
 impl Store {
     ghost use Rattle.fol_store.specs.Stock.{Stock, bag_of, place};
-    ghost use Rattle.fol_store.specs.Steps.{SameMeaning, IsGathered};
+    ghost use Rattle.fol_store.specs.Steps.{SameMeaning, IsNoted};
 
     /// The spot of a chunk, which is made where it has none.
     pub(super) fn spot_of(&mut self, c: ChunkPos) -> Result<usize, AllocError>
@@ -91,7 +91,7 @@ impl Store {
     /// Hands every task that came to the spot of its chunk.
     pub(super) fn hand_out(&mut self) -> Result<(), AllocError>
         ensures same { SameMeaning self.old self.new }
-        ensures bags { self.new.bags ≡ self.old.bags }
+        ensures bags { bag_of self.new ≡ bag_of self.old }
         ensures empty { OnOk result (self.new.arrivals ≡ []) }
     {
         while !self.arrivals.is_empty() {
@@ -103,17 +103,51 @@ impl Store {
         Ok(())
     }
 
-    /// Hands the last task that came to the spot of its chunk.
+    /// Hands the last task that came to the spot of its chunk, and notes it for the bag that has the chunk.
     fn hand_out_last(&mut self) -> Result<(), AllocError>
         requires { 0 < length self.old.arrivals }
         ensures same { SameMeaning self.old self.new }
-        ensures bags { self.new.bags ≡ self.old.bags }
+        ensures bags { bag_of self.new ≡ bag_of self.old }
         ensures len { OnOk result (length self.new.arrivals + 1 ≡ length self.old.arrivals) }
     {
         let c = self.last_chunk();
-        match self.spot_of(c) {
-            Ok(i) => self.hand_out_to(i, c),
+        let i = match self.spot_of(c) {
+            Ok(i) => i,
+            Err(_) => return Err(AllocError),
+        };
+        match self.note(c) {
+            Ok(()) => self.hand_out_to(i, c),
             Err(_) => Err(AllocError),
+        }
+    }
+
+    /// Notes that tasks may lie in the spot of a chunk, for a listed bag that has the chunk and is not calm.
+    fn note(&mut self, c: ChunkPos) -> Result<(), AllocError>
+        ensures same { SameMeaning self.old self.new }
+        ensures bags { bag_of self.new ≡ bag_of self.old }
+        ensures arrivals { self.new.arrivals ≡ self.old.arrivals }
+        ensures places { self.new.places ≡ self.old.places }
+        ensures noted { OnOk result (IsNoted self.new c) }
+    {
+        match self.places.at(c).bag {
+            Some(id) => self.note_in(id, c),
+            None => Ok(()),
+        }
+    }
+
+    /// Notes that tasks may lie in the spot of a chunk that the bag has, where it is listed and not calm.
+    fn note_in(&mut self, id: usize, c: ChunkPos) -> Result<(), AllocError>
+        requires { (place self.old c).bag ≡ Some id }
+        ensures same { SameMeaning self.old self.new }
+        ensures bags { bag_of self.new ≡ bag_of self.old }
+        ensures arrivals { self.new.arrivals ≡ self.old.arrivals }
+        ensures places { self.new.places ≡ self.old.places }
+        ensures noted { OnOk result (IsNoted self.new c) }
+    {
+        if slots::is_stirred(self.bags.as_slice(), id) {
+            slots::touch(self.alloc, &mut self.bags, id, c)
+        } else {
+            Ok(())
         }
     }
 
@@ -130,6 +164,7 @@ impl Store {
         requires some { 0 < length self.old.arrivals }
         requires last { (xs : List Dated) (d : Dated) → self.old.arrivals ≡ xs ++ d ∷ [] → c ≡ d.task.chunk }
         requires spot { (place self.old c).spot ≡ Some i }
+        requires noted { IsNoted self.old c }
         ensures same { SameMeaning self.old self.new }
         ensures bags { self.new.bags ≡ self.old.bags }
         ensures len { OnOk result (length self.new.arrivals + 1 ≡ length self.old.arrivals) }
@@ -148,7 +183,7 @@ impl Store {
     /// Moves what lies on a chunk out of a bag, if the bag has the chunk.
     fn evict(&mut self, id: usize, c: ChunkPos) -> Result<(), AllocError>
         requires here { (bag_of self.old id).here ≡ true }
-        requires not_whole { (bag_of self.old id).whole ≡ false }
+        requires not_listed { (bag_of self.old id).listed ≡ false }
         ensures same { SameMeaning self.old self.new }
         ensures bags { bag_of self.new ≡ bag_of self.old }
         ensures arrivals { self.new.arrivals ≡ self.old.arrivals }
@@ -167,7 +202,7 @@ impl Store {
     /// Moves what lies on a chunk out of the bag that has the chunk, into its spot.
     fn evict_to(&mut self, i: usize, id: usize, c: ChunkPos) -> Result<(), AllocError>
         requires here { (bag_of self.old id).here ≡ true }
-        requires not_whole { (bag_of self.old id).whole ≡ false }
+        requires not_listed { (bag_of self.old id).listed ≡ false }
         requires spot { (place self.old c).spot ≡ Some i }
         requires home { (place self.old c).bag ≡ Some id }
         ensures same { SameMeaning self.old self.new }
@@ -189,7 +224,7 @@ impl Store {
     pub(super) fn drop_others(&mut self, id: usize, chunks: &[ChunkPos]) -> Result<(), AllocError>
         requires order { IsStrictlySortedBy chunk_cmp chunks.now }
         requires here { (bag_of self.old id).here ≡ true }
-        requires not_whole { (bag_of self.old id).whole ≡ false }
+        requires not_listed { (bag_of self.old id).listed ≡ false }
         ensures same { SameMeaning self.old self.new }
         ensures bags { bag_of self.new ≡ bag_of self.old }
         ensures arrivals { self.new.arrivals ≡ self.old.arrivals }

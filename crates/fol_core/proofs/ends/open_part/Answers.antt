@@ -10,5 +10,5 @@ pub returns-clause-bags : goal.returns-clause-bags
 returns-clause-bags c =
     let f = bag_of c.args.store.now in
     let b = new_bag c.args.tick c.args.owed in
-    c.unsettle.ensures.bags ∙ rw c.open.ensures.bags (twice f c.args.id b (record (at_id f c.args.id b c.args.id) { whole = false })
-    ∙ ap (λ (x : Bag). at_id f c.args.id (record x { whole = false })) (at_here f c.args.id b))
+    c.unsettle.ensures.bags ∙ rw c.open.ensures.bags (twice f c.args.id b (record (at_id f c.args.id b c.args.id) { listed = false })
+    ∙ ap (λ (x : Bag). at_id f c.args.id (record x { listed = false })) (at_here f c.args.id b))

@@ -8,7 +8,7 @@ use Rattle.fol_store.specs.Steps.{IsTarget}
 use Rattle.fol_store.proofs.BagSteps.{here_range}
 use Rattle.fol_store.proofs.Drawing.{Drawn, drawn_bag, with_parts, loses_none, gains_none}
 use Rattle.fol_store.proofs.Homes.{rehomed-moves}
-use Rattle.fol_store.proofs.Stepping.{target_here, target_not_whole, target_listed, source_not_taken}
+use Rattle.fol_store.proofs.Stepping.{target_here, target_not_listed, target_listed, source_not_taken}
 use Rattle.fol_store.proofs.store.Store.draw_bag.Goals as goal
 
 pub shift_bags-requires-clause-to_there : goal.shift_bags-requires-clause-to_there
@@ -37,7 +37,7 @@ moved c =
       long = omega arith;
       there = here_range c.self.inside.bags.items c.args.id here;
       here = here;
-      not_whole = target_not_whole c.args.id c.args.chunks.now (the_view c.self.inside) target;
+      not_listed = target_not_listed c.args.id c.args.chunks.now (the_view c.self.inside) target;
       listed = target_listed c.args.id c.args.chunks.now (the_view c.self.inside) target;
       not_taken = source_not_taken c.args.id c.args.from c.args.chunks.now (the_view c.self.inside) target c.self.invariant c.args.c c.requires.listed named;
       timely = c.shift_bags.ensures.timely;
@@ -62,7 +62,7 @@ stayed c =
       long = omega arith;
       there = here_range c.self.inside.bags.items c.args.id here;
       here = here;
-      not_whole = target_not_whole c.args.id c.args.chunks.now (the_view c.self.inside) target;
+      not_listed = target_not_listed c.args.id c.args.chunks.now (the_view c.self.inside) target;
       listed = λ q z. (let f : false ≡ true = z in cc);
       not_taken = source_not_taken c.args.id c.args.from c.args.chunks.now (the_view c.self.inside) target c.self.invariant c.args.c c.requires.listed named;
       timely = c.shift_bags.ensures.timely;

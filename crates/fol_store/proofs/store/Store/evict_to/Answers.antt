@@ -25,7 +25,7 @@ shift_from_bag-requires-clause-apart c = λ k x y p q.
 moved : (c : goal.After-unname) → Spotted (the_view c.self.inside) (with_parts (the_view c.self.inside) c.shift_from_bag.new.spots.items c.shift_from_bag.new.bags.items c.unname.new.self (vec_capacity c.self.inside.arrivals - vec_len c.self.inside.arrivals) (vec_capacity c.shift_from_bag.new.bags - vec_len c.shift_from_bag.new.bags))
 moved c =
     let here : (slot (the_view c.self.inside) c.args.id).here ≡ true = sym (ap (λ (b : Bag). b.here) (bag_slot (the_view c.self.inside) c.args.id)) ∙ (rw (← c.self.view_is) at c.requires.here) in
-    let not_whole : (slot (the_view c.self.inside) c.args.id).whole ≡ false = sym (ap (λ (b : Bag). b.whole) (bag_slot (the_view c.self.inside) c.args.id)) ∙ (rw (← c.self.view_is) at c.requires.not_whole) in
+    let not_listed : (slot (the_view c.self.inside) c.args.id).listed ≡ false = sym (ap (λ (b : Bag). b.listed) (bag_slot (the_view c.self.inside) c.args.id)) ∙ (rw (← c.self.view_is) at c.requires.not_listed) in
     into_spot (the_view c.self.inside) c.shift_from_bag.new.spots.items c.shift_from_bag.new.bags.items c.unname.new.self _ _ c.args.i c.args.id c.args.c (slot_in c.shift_from_bag.new.bags.items c.args.id).body (spot_in c.shift_from_bag.new.spots.items c.args.i)
     (record {
       each_spot = c.shift_from_bag.ensures.spots;
@@ -42,7 +42,7 @@ moved c =
       at_bag = rw (← c.self.view_is) at c.requires.home;
       not_taken = here_not_taken c.args.id (the_view c.self.inside) c.self.invariant here;
     })
-    c.self.invariant c.unname.ensures not_whole c.in-Ok.ensures.loses c.in-Ok.ensures.gains
+    c.self.invariant c.unname.ensures not_listed c.in-Ok.ensures.loses c.in-Ok.ensures.gains
 
 stayed : (c : goal.In-Err) → Spotted (the_view c.self.inside) (with_parts (the_view c.self.inside) c.shift_from_bag.new.spots.items c.shift_from_bag.new.bags.items c.self.inside.places (vec_capacity c.self.inside.arrivals - vec_len c.self.inside.arrivals) (vec_capacity c.shift_from_bag.new.bags - vec_len c.shift_from_bag.new.bags))
 stayed c =

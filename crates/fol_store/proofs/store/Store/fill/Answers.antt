@@ -1,4 +1,4 @@
-use Rattle.std.proofs.Common.{ℕ, true, ◌∙◌, ap}
+use Rattle.std.proofs.Common.{ℕ, true, sym, ◌∙◌, ap}
 use Rattle.fol_store.specs.Bag.{Bag}
 use Rattle.fol_store.specs.Stock.{bag_of}
 use Rattle.fol_store.proofs.Stepping.{others_same, others_trans}
@@ -6,10 +6,10 @@ use Rattle.fol_store.proofs.Filling.{own_at, others_at, is_target, touched}
 use Rattle.fol_store.proofs.store.Store.fill.Goals as goal
 
 pub draw_all-requires-clause-target : goal.draw_all-requires-clause-target
-draw_all-requires-clause-target c = is_target c.args.id c.args.chunks.now c.args.self.now c.prepare.new.self c.in-Ok.ensures.ok c.in-Ok.ensures.empty c.requires.here c.requires.not_taken c.requires.not_whole c.requires.free
+draw_all-requires-clause-target c = is_target c.args.id c.args.chunks.now c.args.self.now c.prepare.new.self c.in-Ok.ensures.ok c.in-Ok.ensures.empty c.requires.here c.requires.not_taken c.requires.not_listed c.requires.free
 
 pub returns-in-Err-clause-err : goal.returns-in-Err-clause-err
-returns-in-Err-clause-err c = touched (bag_of c.args.self.now c.args.id) (bag_of c.prepare.new.self c.args.id) (bag_of c.args.self.now c.args.id).chunks (ap (λ (f : ℕ → Bag). f c.args.id) c.in-Err.ensures.err) c.requires.not_whole
+returns-in-Err-clause-err c = touched (bag_of c.args.self.now c.args.id) (bag_of c.prepare.new.self c.args.id) (bag_of c.args.self.now c.args.id).chunks (ap (λ (f : ℕ → Bag). f c.args.id) c.in-Err.ensures.err) c.requires.not_listed
 
 pub returns-in-Err-clause-others : goal.returns-in-Err-clause-others
 returns-in-Err-clause-others c = others_same c.args.id c.args.chunks.now (bag_of c.args.self.now) (bag_of c.prepare.new.self) c.in-Err.ensures.err
@@ -17,7 +17,7 @@ returns-in-Err-clause-others c = others_same c.args.id c.args.chunks.now (bag_of
 pub returns-in-Err-draw_all-clause-err : goal.returns-in-Err-draw_all-clause-err
 returns-in-Err-draw_all-clause-err c =
     let own = own_at c.args.id c.args.chunks.now (bag_of c.args.self.now) (bag_of c.prepare.new.self) _ c.in-Ok.ensures.ok in
-    touched (bag_of c.args.self.now c.args.id) (bag_of c.draw_all.new.self c.args.id) c.args.chunks.now (c.draw_all.ensures.draws.own ∙ own) c.requires.not_whole
+    touched (bag_of c.args.self.now c.args.id) (bag_of c.draw_all.new.self c.args.id) c.args.chunks.now (c.draw_all.ensures.draws.own ∙ own) c.requires.not_listed
 
 pub returns-in-Err-draw_all-clause-others : goal.returns-in-Err-draw_all-clause-others
 returns-in-Err-draw_all-clause-others c =
@@ -32,13 +32,13 @@ finish-requires-clause-here c =
 pub finish-requires-clause-chunks : goal.finish-requires-clause-chunks
 finish-requires-clause-chunks c =
     let own = own_at c.args.id c.args.chunks.now (bag_of c.args.self.now) (bag_of c.prepare.new.self) _ c.in-Ok.ensures.ok in
-    ap (λ (b : Bag). b.chunks) (c.draw_all.ensures.draws.own ∙ own)
+    ap (λ (b : Bag). b.chunks) (c.draw_all.ensures.draws.own ∙ own) ∙ sym c.requires.handed
 
 pub returns-clause-whole : goal.returns-clause-whole
 returns-clause-whole c =
     let own = own_at c.args.id c.args.chunks.now (bag_of c.args.self.now) (bag_of c.prepare.new.self) _ c.in-Ok.ensures.ok in
     own_at c.args.id c.args.chunks.now (bag_of c.draw_all.new.self) (bag_of c.finish.new.self) _ c.finish.ensures.bags
-    ∙ ap (λ (b : Bag). let r : Bag = record b { whole = true } in r) (c.draw_all.ensures.draws.own ∙ own)
+    ∙ ap (λ (b : Bag). let r : Bag = record b { listed = true; calm = true } in r) (c.draw_all.ensures.draws.own ∙ own)
 
 pub returns-clause-others : goal.returns-clause-others
 returns-clause-others c =

@@ -16,13 +16,13 @@ finish-requires c =
     let l : c.args.id < length c.self.inside.bags.items = here_range c.self.inside.bags.items c.args.id h in
     omega arith
 
-step : (c : goal.After-finish) → Settled (the_view c.self.inside) (with_bags (the_view c.self.inside) c.finish.new.bags.items (vec_capacity c.self.inside.arrivals - vec_len c.self.inside.arrivals) (vec_capacity c.finish.new.bags - vec_len c.finish.new.bags)) c.args.id (let b : Bag = record (bag_of (the_view c.self.inside) c.args.id) { whole = true } in b)
+step : (c : goal.After-finish) → Settled (the_view c.self.inside) (with_bags (the_view c.self.inside) c.finish.new.bags.items (vec_capacity c.self.inside.arrivals - vec_len c.self.inside.arrivals) (vec_capacity c.finish.new.bags - vec_len c.finish.new.bags)) c.args.id (let b : Bag = record (bag_of (the_view c.self.inside) c.args.id) { listed = true; calm = true } in b)
 unfolding bag_of
 step c =
     let here : (slot (the_view c.self.inside) c.args.id).here ≡ true = rw (← c.self.view_is) at c.requires.here in
-    let chunks : (slot (the_view c.self.inside) c.args.id).chunks ≡ c.args.chunks.now = rw (← c.self.view_is) at c.requires.chunks in
-    let gathered : (q : ChunkPos) → is_recorded c.args.chunks.now q ≡ true → IsGathered (the_view c.self.inside) c.args.id q = rw (← c.self.view_is) at c.requires.gathered in
-    now_whole (the_view c.self.inside) c.finish.new.bags.items _ _ c.args.id c.args.handed.items c.finish.ensures.slots here (c.requires.handed ∙ sym chunks)
+    let chunks : (slot (the_view c.self.inside) c.args.id).chunks ≡ c.args.handed.items = rw (← c.self.view_is) at c.requires.chunks in
+    let gathered : (q : ChunkPos) → is_recorded c.args.handed.items q ≡ true → IsGathered (the_view c.self.inside) c.args.id q = rw (← c.self.view_is) at c.requires.gathered in
+    now_whole (the_view c.self.inside) c.finish.new.bags.items _ _ c.args.id c.args.handed.items c.finish.ensures.slots here (sym chunks)
     (λ q r. gathered q (sym (ap (λ l. is_recorded l q) chunks) ∙ r)) (omega arith) (omega arith) (omega (arith, c.finish.ensures.len, c.finish.ensures.capacity)) c.self.invariant
 
 pub invariant_of-self : goal.invariant_of-self

@@ -4,6 +4,7 @@ use Rattle.fol_store.specs.contracts.store.Store.{the_view}
 use Rattle.fol_store.specs.Slots.{spot_in}
 use Rattle.fol_store.specs.Things.{of_task}
 use Rattle.fol_store.specs.Stock.{Stock, place}
+use Rattle.fol_store.specs.Steps.{IsNoted}
 use Rattle.fol_store.proofs.Arriving.{Changed, spot_same, handed_out, nothing_there, all_before, twice_written}
 use Rattle.std.specs.Prelude.{All}
 use Rattle.fol_data.specs.Rests.{IsInTime}
@@ -30,10 +31,11 @@ step c =
     let long : length c.queue.new.spots.items ≡ length c.self.inside.spots.items = omega (arith, c.queue.ensures.len, c.make_room.ensures.len) in
     let mine : c.args.c ≡ c.in-Some.dated.task.chunk = (rw (← c.self.view_is) at c.requires.last) c.pop.new.self.items c.in-Some.dated c.in-Some.ensures.items in
     let there : (place (the_view c.self.inside) c.args.c).spot ≡ Some c.args.i = rw (← c.self.view_is) at c.requires.spot in
+    let noted : IsNoted (the_view c.self.inside) c.args.c = rw (← c.self.view_is) at c.requires.noted in
     let in_time : All (IsInTime 0) c.pop.new.self.items = all_before (IsInTime 0) c.pop.new.self.items (c.in-Some.dated ∷ []) (subst (All (IsInTime 0)) c.in-Some.ensures.items c.self.invariant.arrival_times) in
     handed_out (the_view c.self.inside) c.pop.new.self.items c.in-Some.dated c.queue.new.spots.items (vec_capacity c.pop.new.self - vec_len c.pop.new.self) c.args.i (spot_in c.make_room.new.spots.items c.args.i) (spot_in c.queue.new.spots.items c.args.i) c.in-Some.ensures.items c.self.invariant.arrivals_differ c.self.invariant
     (twice_written c.args.i (spot_in c.self.inside.spots.items) (spot_in c.make_room.new.spots.items) (spot_in c.queue.new.spots.items) c.make_room.ensures.spots c.queue.ensures.spots)
-    c.make_room.ensures.same c.queue.ensures.queued (ap (λ z. (place (the_view c.self.inside) z).spot) (sym mine) ∙ there) c.queue.ensures.timely long in_time (omega (arith, c.in-Some.ensures.len, c.in-Some.ensures.capacity))
+    c.make_room.ensures.same c.queue.ensures.queued (ap (λ z. (place (the_view c.self.inside) z).spot) (sym mine) ∙ there) (subst (IsNoted (the_view c.self.inside)) mine noted) c.queue.ensures.timely long in_time (omega (arith, c.in-Some.ensures.len, c.in-Some.ensures.capacity))
 
 pub invariant_of-self-in-Some : goal.invariant_of-self-in-Some
 invariant_of-self-in-Some c = (step c).sound

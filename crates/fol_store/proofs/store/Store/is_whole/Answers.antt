@@ -1,4 +1,4 @@
-use Rattle.std.proofs.Common.{◌≡◌, ◌<◌, true, length, sym, ◌∙◌, ap, arith}
+use Rattle.std.proofs.Common.{◌≡◌, ◌<◌, ◌&&◌, true, length, sym, ◌∙◌, ap, arith}
 use Rattle.fol_store.specs.contracts.store.Store.{the_view}
 use Rattle.fol_store.specs.declared.slot.Slot.{Slot}
 use Rattle.fol_store.specs.Bag.{Bag}
@@ -12,12 +12,11 @@ index-requires c =
     let l : c.args.id < length c.self.inside.bags.items = here_range c.self.inside.bags.items c.args.id h in
     omega arith
 
-read : (c : goal.After-index) → c.index.result.now ≡ slot (the_view c.self.inside) c.args.id
+read : (c : goal.After-is_whole) → c.index.result.now ≡ slot (the_view c.self.inside) c.args.id
 read c =
     let h : (slot (the_view c.self.inside) c.args.id).here ≡ true = sym (ap (λ (b : Bag). b.here) (bag_slot (the_view c.self.inside) c.args.id)) ∙ (rw (← c.self.view_is) at c.requires) in
     c.index.ensures ∙ get_or-any c.self.inside.bags.items c.args.id c.index.result.now no_slot (here_range c.self.inside.bags.items c.args.id h)
 
 pub returns : goal.returns
 returns c =
-    let h : (slot (the_view c.self.inside) c.args.id).here ≡ true = sym (ap (λ (b : Bag). b.here) (bag_slot (the_view c.self.inside) c.args.id)) ∙ (rw (← c.self.view_is) at c.requires) in
-    rw (← c.self.view_is) (ap (λ (b : Slot). b.whole) (read c) ∙ sym (ap (λ (b : Bag). b.whole) (bag_slot (the_view c.self.inside) c.args.id)))
+    rw (← c.self.view_is) (c.is_whole.ensures ∙ ap (λ (b : Slot). b.listed && b.calm) (read c) ∙ sym (ap (λ (b : Bag). b.listed && b.calm) (bag_slot (the_view c.self.inside) c.args.id)))

@@ -1,21 +1,29 @@
-use Rattle.std.proofs.Common.{◌≡◌, suc, ◌-◌, get_or, drop, ◌∙◌, ap, arith, pos}
+use Rattle.std.proofs.Common.{◌∙◌, ap, arith}
 use Rattle.fol_model.specs.World.{block_in}
 use Rattle.fol_model.specs.declared.openings.BlockAt.{BlockAt}
-use Rattle.fol_store.specs.Things.{some_number}
+use Rattle.std.specs.Prelude.{List}
+use Rattle.fol_store.specs.Stock.{found}
+use Rattle.fol_store.specs.Things.{of_block, some_number}
 use Rattle.fol_store.proofs.Baring.{all_closed}
-use Rattle.fol_store.proofs.LayingThings.{block_once, block_above}
+use Rattle.fol_store.proofs.LayingThings.{block_fresh, block_above, block_more, take_all}
 use Rattle.fol_store.proofs.store.Store.lay_blocks.Goals as goal
 
 pub lay_block-requires-clause-closed : goal.lay_block-requires-clause-closed
-lay_block-requires-clause-closed c = all_closed c.args.self.now c.loop-k.self c.requires.bare.closed c.loop-k.invariant.bags
+lay_block-requires-clause-closed c = all_closed c.args.self.now c.loop-block.self c.requires.bare.closed c.loop-block.invariant.bags
 
 pub lay_block-requires-clause-fresh : goal.lay_block-requires-clause-fresh
-lay_block-requires-clause-fresh c =
-    let d : BlockAt = record { at = record { x = pos 0; y = pos 0; z = pos 0 }; id = 0 } in
-    let k : c.loop-k.k ≡ suc (c.loop-k.k - 1) = omega arith in
-    let once : block_in (drop (suc (c.loop-k.k - 1)) c.args.blocks.now) (get_or c.args.blocks.now (c.loop-k.k - 1) d).at ≡ 0 = block_once c.args.blocks.now (c.loop-k.k - 1) d c.requires.order (omega (arith, c.loop-k.invariant.bound, c.loop-k-test.true)) in
-    let none : block_in (drop c.loop-k.k c.args.blocks.now) (get_or c.args.blocks.now (c.loop-k.k - 1) d).at ≡ 0 = ap (λ n. block_in (drop n c.args.blocks.now) (get_or c.args.blocks.now (c.loop-k.k - 1) d).at) k ∙ once in
-    c.loop-k.invariant.blocks (get_or c.args.blocks.now (c.loop-k.k - 1) d).at ∙ ap some_number none
+lay_block-requires-clause-fresh c = c.loop-block.invariant.blocks _ ∙ ap some_number (block_fresh c.args.blocks.now c.loop-block.block-index _ c.requires.order c.loop-block-test.true)
 
 pub lay_block-requires-clause-above : goal.lay_block-requires-clause-above
-lay_block-requires-clause-above c = block_above c.args.blocks.now (c.loop-k.k - 1) _ c.requires.each (omega (arith, c.loop-k.invariant.bound, c.loop-k-test.true))
+lay_block-requires-clause-above c = block_above c.args.blocks.now c.loop-block.block-index _ c.requires.each c.loop-block-test.true
+
+pub loop-block-preserved : goal.loop-block-preserved
+loop-block-preserved c = record {
+  blocks = λ q. c.in-Ok.ensures.blocks q ∙ block_more c.args.blocks.now c.loop-block.block-index _ _ q (found c.loop-block.self (of_block q)) c.requires.order c.loop-block-test.true (omega arith) (c.loop-block.invariant.blocks q);
+  entities = λ n. c.in-Ok.ensures.entities n ∙ c.loop-block.invariant.entities n;
+  tasks = λ n. c.in-Ok.ensures.tasks n ∙ c.loop-block.invariant.tasks n;
+  bags = c.lay_block.ensures.bags ∙ c.loop-block.invariant.bags;
+}
+
+pub returns-clause-blocks : goal.returns-clause-blocks
+returns-clause-blocks c = λ q. c.loop-block.invariant.blocks q ∙ ap (λ (xs : List BlockAt). some_number (block_in xs q)) (take_all c.args.blocks.now c.loop-block.block-index (omega (arith, c.loop-block-test.false)))

@@ -1,16 +1,26 @@
-use Rattle.std.proofs.Common.{◌≡◌, suc, ◌-◌, get_or, drop, ◌∙◌, ap, arith, pos, None}
+use Rattle.std.proofs.Common.{◌∙◌, ap, arith}
 use Rattle.fol_model.specs.World.{standing_in}
 use Rattle.fol_model.specs.declared.entities.Entity.{Entity}
+use Rattle.std.specs.Prelude.{List}
+use Rattle.fol_store.specs.Stock.{found}
+use Rattle.fol_store.specs.Things.{of_entity}
 use Rattle.fol_store.proofs.Baring.{all_closed}
-use Rattle.fol_store.proofs.LayingThings.{entity_once}
+use Rattle.fol_store.proofs.LayingThings.{entity_fresh, entity_more, take_all}
 use Rattle.fol_store.proofs.store.Store.lay_entities.Goals as goal
 
 pub lay_entity-requires-clause-closed : goal.lay_entity-requires-clause-closed
-lay_entity-requires-clause-closed c = all_closed c.args.self.now c.loop-k.self c.requires.closed c.loop-k.invariant.bags
+lay_entity-requires-clause-closed c = all_closed c.args.self.now c.loop-entity.self c.requires.closed c.loop-entity.invariant.bags
 
 pub lay_entity-requires-clause-fresh : goal.lay_entity-requires-clause-fresh
-lay_entity-requires-clause-fresh c =
-    let d : Entity = record { id = 0; at = record { x = pos 0; y = pos 0; z = pos 0 }; vx = pos 0; vz = pos 0 } in
-    let k : c.loop-k.k ≡ suc (c.loop-k.k - 1) = omega arith in
-    let once : standing_in (drop (suc (c.loop-k.k - 1)) c.args.entities.now) (get_or c.args.entities.now (c.loop-k.k - 1) d).id ≡ None = entity_once c.args.entities.now (c.loop-k.k - 1) d c.requires.order (omega (arith, c.loop-k.invariant.bound, c.loop-k-test.true)) in
-    c.loop-k.invariant.entities (get_or c.args.entities.now (c.loop-k.k - 1) d).id ∙ ap (λ n. standing_in (drop n c.args.entities.now) (get_or c.args.entities.now (c.loop-k.k - 1) d).id) k ∙ once
+lay_entity-requires-clause-fresh c = c.loop-entity.invariant.entities _ ∙ entity_fresh c.args.entities.now c.loop-entity.entity-index _ c.requires.order c.loop-entity-test.true
+
+pub loop-entity-preserved : goal.loop-entity-preserved
+loop-entity-preserved c = record {
+  entities = λ n. c.in-Ok.ensures.entities n ∙ entity_more c.args.entities.now c.loop-entity.entity-index _ _ n (found c.loop-entity.self (of_entity n)) c.requires.order c.loop-entity-test.true (omega arith) (c.loop-entity.invariant.entities n);
+  blocks = λ q. c.in-Ok.ensures.blocks q ∙ c.loop-entity.invariant.blocks q;
+  tasks = λ n. c.in-Ok.ensures.tasks n ∙ c.loop-entity.invariant.tasks n;
+  bags = c.lay_entity.ensures.bags ∙ c.loop-entity.invariant.bags;
+}
+
+pub returns-clause-entities : goal.returns-clause-entities
+returns-clause-entities c = λ n. c.loop-entity.invariant.entities n ∙ ap (λ (xs : List Entity). standing_in xs n) (take_all c.args.entities.now c.loop-entity.entity-index (omega (arith, c.loop-entity-test.false)))

@@ -17,8 +17,8 @@ step : (c : goal.After-relist) → Settled (the_view c.self.inside) (with_bags (
 unfolding bag_of
 step c =
     let here : (slot (the_view c.self.inside) c.args.id).here ≡ true = rw (← c.self.view_is) at c.requires.here in
-    let not_whole : (slot (the_view c.self.inside) c.args.id).whole ≡ false = rw (← c.self.view_is) at c.requires.not_whole in
-    relisted (the_view c.self.inside) c.relist.new.bags.items _ _ c.args.id c.args.listed.items c.relist.ensures.slots here not_whole
+    let not_listed : (slot (the_view c.self.inside) c.args.id).listed ≡ false = rw (← c.self.view_is) at c.requires.not_listed in
+    relisted (the_view c.self.inside) c.relist.new.bags.items _ _ c.args.id c.args.listed.items c.relist.ensures.slots here not_listed
     (rw (← c.self.view_is, ← c.requires.listed) at c.requires.gone) (omega arith) (omega arith) (omega (arith, c.relist.ensures.len, c.relist.ensures.capacity)) c.self.invariant
 
 pub invariant_of-self : goal.invariant_of-self

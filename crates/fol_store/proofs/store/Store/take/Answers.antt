@@ -1,5 +1,6 @@
 use Rattle.std.proofs.Common.{◌≡◌, ◌+◌, ◌-◌, ◌<◌, ◌≤◌, ◌^◌, ◌&&◌, true, length, refl, sym, ◌∙◌, ap, arith, vec_len, lit≤, None}
 use Rattle.std.specs.Vec.{vec_capacity}
+use Rattle.std.proofs.lemmas.Bool.{and_parts}
 use Rattle.fol_data.specs.declared.region_data.RegionData.{RegionData}
 use Rattle.fol_store.specs.contracts.store.Store.{the_view}
 use Rattle.fol_store.specs.Bag.{Bag, taken_out}
@@ -22,8 +23,15 @@ take_out-requires c =
 here : (c : goal.After-take_out) → (slot (the_view c.self.inside) c.args.id).here ≡ true
 here c = sym (ap (λ (b : Bag). b.here) (bag_slot (the_view c.self.inside) c.args.id)) ∙ (rw (← c.self.view_is) at c.requires.here)
 
-whole : (c : goal.After-take_out) → (slot (the_view c.self.inside) c.args.id).whole ≡ true
-whole c = sym (ap (λ (b : Bag). b.whole) (bag_slot (the_view c.self.inside) c.args.id)) ∙ (rw (← c.self.view_is) at c.requires.whole)
+whole : (c : goal.After-take_out) → ((slot (the_view c.self.inside) c.args.id).listed && (slot (the_view c.self.inside) c.args.id).calm) ≡ true
+unfolding bag_of
+whole c = rw (← c.self.view_is) at c.requires.whole
+
+listed : (c : goal.After-take_out) → (slot (the_view c.self.inside) c.args.id).listed ≡ true
+listed c = (and_parts (slot (the_view c.self.inside) c.args.id).listed (slot (the_view c.self.inside) c.args.id).calm (whole c)).0
+
+calm : (c : goal.After-take_out) → (slot (the_view c.self.inside) c.args.id).calm ≡ true
+calm c = (and_parts (slot (the_view c.self.inside) c.args.id).listed (slot (the_view c.self.inside) c.args.id).calm (whole c)).1
 
 -- what is left in the bag
 abbrev rest : goal.After-take_out → RegionData
@@ -36,11 +44,11 @@ pub invariant_of-self : goal.invariant_of-self
 invariant_of-self c =
     let long : length c.take_out.new.bags.items ≡ length c.self.inside.bags.items = omega arith in
     let small : (rest c).tick ≤ 2 ^ 62 = rw c.take_out.ensures.left.tick (lit≤ tt) in
-    taken_sound (the_view c.self.inside) c.take_out.new.bags.items _ _ c.args.id (rest c) c.take_out.ensures.slots (empty c) c.self.invariant (whole c) long (timely_empty (rest c) small c.take_out.ensures.tasks)
+    taken_sound (the_view c.self.inside) c.take_out.new.bags.items _ _ c.args.id (rest c) c.take_out.ensures.slots (empty c) c.self.invariant (listed c) (calm c) long (timely_empty (rest c) small c.take_out.ensures.tasks)
 
 pub returns-clause-chunks : goal.returns-clause-chunks
 returns-clause-chunks c =
-    let both : ((slot (the_view c.self.inside) c.args.id).here && (slot (the_view c.self.inside) c.args.id).whole) ≡ true = rw (here c, whole c) refl in
+    let both : ((slot (the_view c.self.inside) c.args.id).here && (slot (the_view c.self.inside) c.args.id).listed) ≡ true = rw (here c, listed c) refl in
     rw (← c.self.view_is) (c.take_out.ensures.handed ∙ (c.self.invariant.bags c.args.id).handed both ∙ sym (ap (λ (b : Bag). b.chunks) (bag_slot (the_view c.self.inside) c.args.id)))
 
 pub returns-clause-tick : goal.returns-clause-tick
@@ -69,22 +77,22 @@ returns-clause-in_time c = (timely c).in_time
 pub returns-clause-moved_contents : goal.returns-clause-moved_contents
 unfolding bag_of
 returns-clause-moved_contents c =
-    rw (← c.self.view_is, c.take_out.ensures.body) (body_contents (the_view c.self.inside) c.take_out.new.bags.items (vec_capacity c.self.inside.arrivals - vec_len c.self.inside.arrivals) (vec_capacity c.take_out.new.bags - vec_len c.take_out.new.bags) c.args.id (rest c) c.take_out.ensures.slots (empty c) c.self.invariant (whole c))
+    rw (← c.self.view_is, c.take_out.ensures.body) (body_contents (the_view c.self.inside) c.take_out.new.bags.items (vec_capacity c.self.inside.arrivals - vec_len c.self.inside.arrivals) (vec_capacity c.take_out.new.bags - vec_len c.take_out.new.bags) c.args.id (rest c) c.take_out.ensures.slots (empty c) c.self.invariant (listed c) (calm c))
 
 pub returns-clause-moved_tasks : goal.returns-clause-moved_tasks
 unfolding bag_of
 returns-clause-moved_tasks c =
-    rw (← c.self.view_is, c.take_out.ensures.body) (body_tasks (the_view c.self.inside) c.take_out.new.bags.items (vec_capacity c.self.inside.arrivals - vec_len c.self.inside.arrivals) (vec_capacity c.take_out.new.bags - vec_len c.take_out.new.bags) c.args.id (rest c) c.take_out.ensures.slots (empty c) c.self.invariant (whole c))
+    rw (← c.self.view_is, c.take_out.ensures.body) (body_tasks (the_view c.self.inside) c.take_out.new.bags.items (vec_capacity c.self.inside.arrivals - vec_len c.self.inside.arrivals) (vec_capacity c.take_out.new.bags - vec_len c.take_out.new.bags) c.args.id (rest c) c.take_out.ensures.slots (empty c) c.self.invariant (listed c) (calm c))
 
 pub returns-clause-contents : goal.returns-clause-contents
 unfolding bag_of
 returns-clause-contents c =
-    rw (← c.self.view_is) (taken_contents (the_view c.self.inside) c.take_out.new.bags.items (vec_capacity c.self.inside.arrivals - vec_len c.self.inside.arrivals) (vec_capacity c.take_out.new.bags - vec_len c.take_out.new.bags) c.args.id (rest c) c.take_out.ensures.slots (empty c) c.self.invariant (whole c))
+    rw (← c.self.view_is) (taken_contents (the_view c.self.inside) c.take_out.new.bags.items (vec_capacity c.self.inside.arrivals - vec_len c.self.inside.arrivals) (vec_capacity c.take_out.new.bags - vec_len c.take_out.new.bags) c.args.id (rest c) c.take_out.ensures.slots (empty c) c.self.invariant (listed c) (calm c))
 
 pub returns-clause-tasks : goal.returns-clause-tasks
 unfolding bag_of
 returns-clause-tasks c =
-    rw (← c.self.view_is) (taken_tasks (the_view c.self.inside) c.take_out.new.bags.items (vec_capacity c.self.inside.arrivals - vec_len c.self.inside.arrivals) (vec_capacity c.take_out.new.bags - vec_len c.take_out.new.bags) c.args.id (rest c) c.take_out.ensures.slots (empty c) c.self.invariant (whole c))
+    rw (← c.self.view_is) (taken_tasks (the_view c.self.inside) c.take_out.new.bags.items (vec_capacity c.self.inside.arrivals - vec_len c.self.inside.arrivals) (vec_capacity c.take_out.new.bags - vec_len c.take_out.new.bags) c.args.id (rest c) c.take_out.ensures.slots (empty c) c.self.invariant (listed c) (calm c))
 
 pub returns-clause-bags : goal.returns-clause-bags
 returns-clause-bags c =

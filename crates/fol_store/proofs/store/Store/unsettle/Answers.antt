@@ -7,21 +7,21 @@ use Rattle.fol_store.specs.Stock.{Stock, slot, bag_of}
 use Rattle.fol_store.proofs.BagSteps.{OneStep, with_bags, one_step, one_kept, open_range, bag_slot}
 use Rattle.fol_store.proofs.store.Store.unsettle.Goals as goal
 
-pub set_whole-requires : goal.set_whole-requires
+pub unlist-requires : goal.unlist-requires
 unfolding bag_of
-set_whole-requires c =
+unlist-requires c =
     let h : ((slot (the_view c.self.inside) c.args.id).here || (slot (the_view c.self.inside) c.args.id).taken) ≡ true = rw (← c.self.view_is) at c.requires.known in
     let l : c.args.id < length c.self.inside.bags.items = open_range c.self.inside.bags.items c.args.id h in
     omega arith
 
 -- the store afterwards
-abbrev after : goal.After-set_whole → Stock
-after c = with_bags (the_view c.self.inside) c.set_whole.new.bags.items (vec_capacity c.self.inside.arrivals - vec_len c.self.inside.arrivals) (vec_capacity c.set_whole.new.bags - vec_len c.set_whole.new.bags)
+abbrev after : goal.After-unlist → Stock
+after c = with_bags (the_view c.self.inside) c.unlist.new.bags.items (vec_capacity c.self.inside.arrivals - vec_len c.self.inside.arrivals) (vec_capacity c.unlist.new.bags - vec_len c.unlist.new.bags)
 
-step : (c : goal.After-set_whole) → OneStep (the_view c.self.inside) (after c) c.args.id (let b : Bag = record (bag_of (the_view c.self.inside) c.args.id) { whole = false } in b)
+step : (c : goal.After-unlist) → OneStep (the_view c.self.inside) (after c) c.args.id (let b : Bag = record (bag_of (the_view c.self.inside) c.args.id) { listed = false } in b)
 step c =
-    let long : length c.set_whole.new.bags.items ≡ length c.self.inside.bags.items = omega arith in
-    one_step (the_view c.self.inside) c.set_whole.new.bags.items _ _ c.args.id (let d : Slot = record (slot (the_view c.self.inside) c.args.id) { whole = false } in d) c.set_whole.ensures.slots (let b : Bag = record (bag_of (the_view c.self.inside) c.args.id) { whole = false } in b) c.self.invariant (λ k. refl) long (c.self.invariant.bag_times c.args.id) (λ columns. one_kept (the_view c.self.inside) c.set_whole.new.bags.items _ _ c.args.id (let d : Slot = record (slot (the_view c.self.inside) c.args.id) { whole = false } in d) c.set_whole.ensures.slots c.self.invariant (record { here = refl; taken = refl; chunks = refl; handed = refl; whole = λ o. (let z : true ≡ false = sym o in cc) }) columns) (ap (λ (b : Bag). let q : Bag = record b { whole = false } in q) (sym (bag_slot (the_view c.self.inside) c.args.id)))
+    let long : length c.unlist.new.bags.items ≡ length c.self.inside.bags.items = omega arith in
+    one_step (the_view c.self.inside) c.unlist.new.bags.items _ _ c.args.id (let d : Slot = record (slot (the_view c.self.inside) c.args.id) { listed = false } in d) c.unlist.ensures.slots (let b : Bag = record (bag_of (the_view c.self.inside) c.args.id) { listed = false } in b) c.self.invariant (λ k. refl) long (c.self.invariant.bag_times c.args.id) (λ columns. one_kept (the_view c.self.inside) c.unlist.new.bags.items _ _ c.args.id (let d : Slot = record (slot (the_view c.self.inside) c.args.id) { listed = false } in d) c.unlist.ensures.slots c.self.invariant (record { here = refl; taken = refl; chunks = refl; handed = refl; touched = refl; listed = λ o. (let z : true ≡ false = sym o in cc); calm = λ o. o }) columns) (ap (λ (b : Bag). let q : Bag = record b { listed = false } in q) (sym (bag_slot (the_view c.self.inside) c.args.id)))
 
 pub invariant_of-self : goal.invariant_of-self
 invariant_of-self c = (step c).sound
