@@ -34,3 +34,6 @@ pub mod ChunkCounts
 pub mod InOrder
 pub mod LiveRegions
 pub mod CopySteps
+pub mod DyingSteps
+pub mod DeadKept
+pub mod BoundSteps

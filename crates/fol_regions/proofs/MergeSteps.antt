@@ -1,17 +1,19 @@
 -- Two lists in order, merged.
-use Rattle.std.proofs.Common.{◌≡◌, ℕ, ◌+◌, ◌≤◌, ◌<◌, refl, sym, ◌∙◌, ap, arith, subst, Bool, true, false, ◌||◌, List, [], ◌∷◌, ◌++◌, length, take, drop, get_or, append_assoc, inl, inr, length-append, ◌⊎◌}
+use Rattle.std.proofs.Common.{◌≡◌, ℕ, zero, suc, ◌+◌, ◌≤◌, ◌<◌, refl, sym, ◌∙◌, ap, arith, subst, Bool, true, false, ◌||◌, List, [], ◌∷◌, ◌++◌, length, take, drop, get_or, append_assoc, inl, inr, length-append, length-take-le, ◌⊎◌}
 use Rattle.std.specs.List.{AllByRecursion}
 use Rattle.std.specs.List.Sorted.{IsStrictlySortedBy}
 use Rattle.std.specs.declared.cmp.Ordering.TheVariants.{Less, Equal, Greater}
 use Rattle.std.specs.Ordering.{ordering_reverse}
 use Rattle.std.proofs.Math.Bool.{or-false}
-use Rattle.std.proofs.lemmas.List.{take-append-drop, drop_more, drop_all}
+use Rattle.std.proofs.lemmas.List.{get_or_default, take-append-drop, drop_more, drop_all}
 use Rattle.std.proofs.lemmas.List.Folds.{list_any-append}
-use Rattle.std.proofs.lemmas.Bool.{or_cases}
+use Rattle.std.proofs.lemmas.Bool.{cases_lt, or_cases}
+use Rattle.std.proofs.lemmas.Map.Keys.{Less-from_sorted}
 use Rattle.fol_model.specs.declared.places.SectionPos.{SectionPos}
 use Rattle.fol_model.specs.Geometry.{same_section, is_among}
 use Rattle.fol_model.specs.Universe.{section_cmp}
 use Rattle.fol_laws.proofs.SectionOrder.{sections_tell, section_rows_are}
+use Rattle.fol_laws.proofs.SortedRows.{all_append}
 use Rattle.fol_regions.specs.Rows.{IsRow, united}
 use Rattle.fol_regions.proofs.Among.{among_more, same_section-swap}
 
@@ -40,8 +42,55 @@ pub record Merged (out xs ys : List SectionPos) (i j : ℕ) : Type 0 where
   pub i_in : i ≤ length xs
   pub j_in : j ≤ length ys
 
-pub merged_none : (xs ys : List SectionPos) → IsRow xs → IsRow ys → Merged [] xs ys 0 0
-merged_none xs ys a b = record { first = a.in_order; second = b.in_order; members = λ s. refl; few = omega arith; i_in = omega arith; j_in = omega arith }
+all_first : (P : SectionPos → Type 0) (n : ℕ) (xs : List SectionPos) → AllByRecursion P xs → AllByRecursion P (take n xs)
+all_first P zero xs h = tt
+all_first P (suc n) [] h = tt
+all_first P (suc n) (x ∷ xs) h = (h.0, all_first P n xs h.1)
+
+-- the front of a list, and behind it one that begins behind the front
+pub front_sorted : (xs ys : List SectionPos) (n : ℕ) (d : SectionPos) → Sorted xs → Sorted ys → 0 < length ys → ((k : ℕ) → k < n → section_cmp (get_or xs k d) (get_or ys 0 d) ≡ Less) → Sorted (take n xs ++ ys)
+unfolding IsStrictlySortedBy
+front_sorted xs [] n d a b l before = absurd (omega arith)
+front_sorted xs (y ∷ ys) zero d a b l before = b
+front_sorted [] (y ∷ ys) (suc n) d a b l before = b
+front_sorted (x ∷ xs) (y ∷ ys) (suc n) d a b l before =
+    let less : section_cmp x y ≡ Less = before 0 (omega arith) in (
+      all_append (λ s. section_cmp x s ≡ Less) (take n xs) (y ∷ ys) (all_first (λ s. section_cmp x s ≡ Less) n xs a.0) (less, all_after x y ys less b.0),
+      front_sorted xs (y ∷ ys) n d a.1 b l (λ k h. before (suc k) (omega arith)),
+    )
+
+pub front_none : (xs ys : List SectionPos) → Sorted ys → Sorted (take 0 xs ++ ys)
+front_none xs ys b = b
+
+-- the front of the first list is merged
+pub merged_front : (xs ys : List SectionPos) (n : ℕ) → IsRow xs → n ≤ length xs → Sorted (take n xs ++ ys) → Merged (take n xs) xs ys n 0
+merged_front xs ys n a l h = record {
+  first = subst Sorted (sym (take-append-drop n xs)) a.in_order;
+  second = h;
+  members = λ s. sym (or-false (is_among (take n xs) s));
+  few = omega (arith, length-take-le n xs l);
+  i_in = l;
+  j_in = omega arith;
+}
+
+-- a search by halves: where the place in the middle is before a section
+pub before_more : (xs : List SectionPos) (s : SectionPos) (m k : ℕ) (e d : SectionPos) → Sorted xs → m < length xs → section_cmp (get_or xs m e) s ≡ Less → k < m + 1 → section_cmp (get_or xs k d) s ≡ Less
+before_more xs s m k e d sorted l h u =
+    let same : get_or xs m e ≡ get_or xs m d = get_or_default xs m e d l in
+    let here : section_cmp (get_or xs m d) s ≡ Less = ap (λ x. section_cmp x s) (sym same) ∙ h in
+    elim (cases_lt k m) [
+      | inl v ↦ sections_tell.order.trans (get_or xs k d) (get_or xs m d) s (Less-from_sorted section_cmp xs k m d sorted v l) here
+      | inr v ↦ let at : k ≡ m = omega arith in ap (λ i. section_cmp (get_or xs i d) s) at ∙ here
+    ]
+
+-- and where it is not
+pub behind_more : (xs : List SectionPos) (s : SectionPos) (m k : ℕ) (e d : SectionPos) → Sorted xs → m < length xs → k < length xs → (section_cmp (get_or xs m e) s ≡ Less → ⊥) → m ≤ k → section_cmp (get_or xs k d) s ≡ Less → ⊥
+behind_more xs s m k e d sorted l n never u h =
+    let same : get_or xs m e ≡ get_or xs m d = get_or_default xs m e d l in
+    elim (cases_lt m k) [
+      | inl v ↦ never (ap (λ x. section_cmp x s) same ∙ sections_tell.order.trans (get_or xs m d) (get_or xs k d) s (Less-from_sorted section_cmp xs m k d sorted v n) h)
+      | inr v ↦ let at : m ≡ k = omega arith in never (ap (λ x. section_cmp x s) same ∙ ap (λ i. section_cmp (get_or xs i d) s) at ∙ h)
+    ]
 
 shift : (out rest : List SectionPos) (x : SectionPos) → Sorted (out ++ x ∷ rest) → Sorted ((out ++ x ∷ []) ++ rest)
 shift out rest x h = subst Sorted (sym (append_assoc out (x ∷ []) rest)) h

@@ -3,7 +3,9 @@ use Rattle.std.proofs.Common.{◌≡◌, ℕ, ◌+◌, ◌*◌, ◌≤◌, ◌<�
 use Rattle.std.specs.Prelude.{◌≢◌, nat_eq, nat_lt, nat_le, if◌then◌else◌, filter, Option, Some, None, IsTrue}
 use Rattle.std.specs.List.{All, range_with_len, IsDistinct}
 use Rattle.std.proofs.Math.Bool.{not-not}
-use Rattle.std.proofs.lemmas.Bool.{cases_Bool, eq-eqb, ne_eqb, eqb-true, true≢false, and_parts, and_from, or_parts, lt-ltb, le-ltb, ltb-true, le-leb, lt-leb}
+use Rattle.std.proofs.Math.Nat.{mul-le-mul_right}
+use Rattle.std.proofs.Math.Path.{fun_ext}
+use Rattle.std.proofs.lemmas.Bool.{cases_Bool, eq-eqb, ne_eqb, eqb-true, true≢false, and_parts, and_from, or_parts, lt-ltb, le-ltb, ltb-true, le-leb, leb-true, lt-leb, not-true}
 use Rattle.std.proofs.lemmas.List.{append-nil}
 use Rattle.fol_model.specs.declared.places.SectionPos.{SectionPos}
 use Rattle.fol_model.specs.declared.regions.State.TheVariants.{Transient, Ready, Ticking, Dead}
@@ -22,6 +24,7 @@ use Rattle.fol_sections.specs.Table as sections
 use Rattle.fol_split.specs.Parts.{ArePartsOf}
 use Rattle.fol_regions.specs.declared.slots.Region.{Region}
 use Rattle.fol_regions.specs.Book.{Book, IsBook, SetsState, owner_of, state_of, waits_of, is_live, rows_of, ahead_of, behind_of}
+use Rattle.fol_regions.specs.DeadBounds.{dead_count}
 use Rattle.fol_regions.specs.Changes.{into, release_change, waiting_for, part_ids}
 use Rattle.fol_regions.specs.Added.{is_id}
 use Rattle.fol_regions.specs.Released.{Joins, Cleans, Keeps, Ends, Splits, IsPresence, grid_of, with_parts}
@@ -57,6 +60,17 @@ margin_is s b q = refl
 pub owned_few : (s : sections.Table) (b : Book) → Rules (grid_of s b) → count_sections (λ q. nat_lt 0 (owner_of b q)) ≤ 16384
 unfolding grid_of
 owned_few s b rules = rules.count
+
+-- with fewer dead sections
+fewer_worn : (min size num den dead most : ℕ) → dead ≤ most → (nat_le min size && nat_le (size * num) (most * den)) ≡ false → (nat_le min size && nat_le (size * num) (dead * den)) ≡ false
+fewer_worn min size num den dead most l h = elim (cases_Bool (nat_le min size && nat_le (size * num) (dead * den))) [
+  | inr e ↦ e
+  | inl e ↦
+      let p = and_parts (nat_le min size) (nat_le (size * num) (dead * den)) e in
+      let m : dead * den ≤ most * den = mul-le-mul_right den l in
+      let k : nat_le (size * num) (most * den) ≡ true = le-leb (size * num) (most * den) (omega (arith, leb-true _ _ p.1)) in
+      absurd (true≢false (sym (and_from (nat_le min size) (nat_le (size * num) (most * den)) p.0 k) ∙ h))
+]
 
 module _ (s : sections.Table) (b : Book) (t : ℕ) (rules : Rules (grid_of s b)) (ticks : (grid_of s b).state t ≡ Ticking) (h : IsBook b) where
   -- ---- before the joins
@@ -253,6 +267,43 @@ module _ (s : sections.Table) (b : Book) (t : ℕ) (rules : Rules (grid_of s b))
         ∙ ap length (filter_same (λ q. not (in_margin_of s q)) (λ q. not (in_margin (grid_of s b) q)) (filter (λ q. nat_eq (owner_of j q) t) all_sections) (λ q. ap not (sym (margin_is s b q))))
         ∙ test.dead_test (grid_of s b) t rules ticks b j shown ids ids_is w in
         rw (x, y, z) refl
+
+    -- the dead sections of t
+    pub dead_set : (d : Book) → owner_of d ≡ owner_of j → dead_count (grid_of s d) t ≡ length (filter (λ q. not (in_margin_of s q)) (rows_of j t))
+    unfolding dead_count grid_of in_margin in_margin_of
+    dead_set d same =
+        let row = k.rows t (joins.t_pos (grid_of s b) t rules ticks) in
+        count_same (λ q. nat_eq (owner_of d q) t && not (in_margin_of s q)) (λ q. nat_eq (owner_of j q) t && not (in_margin_of s q)) (λ q. ap (λ (f : SectionPos → ℕ). nat_eq (f q) t && not (in_margin_of s q)) same)
+        ∙ sym (ap (λ xs. length (filter (λ q. not (in_margin_of s q)) xs)) row ∙ test.length_both (λ q. nat_eq (owner_of j q) t) (λ q. not (in_margin_of s q)) all_sections)
+
+    -- nothing joins, and few of the sections are dead
+    module _ (most : ℕ) (few_dead : dead_count (grid_of s b) t ≤ most)
+        (rest : (nat_eq (length ids) 0 && (nat_lt most (length (rows_of j t)) && not (nat_le s.grid.min (length (rows_of j t)) && nat_le (length (rows_of j t) * s.grid.num) (most * s.grid.den)))) ≡ true) where
+      no_wait : (r : ℕ) → (grid_of s b).waits r t ≡ false
+      no_wait r = sym (id_test r) ∙ none_in ids (eqb-true (length ids) 0 (and_parts (nat_eq (length ids) 0) _ rest).0)
+        where
+          none_in : (xs : List ℕ) → length xs ≡ 0 → is_id xs r ≡ false
+          none_in [] e = refl
+          none_in (x ∷ xs) e = absurd (omega arith)
+
+      same_owner : owner_of j ≡ owner_of b
+      unfolding grid_of
+      same_owner = owner_j ∙ fun_ext (λ q. let n = no_wait (owner_of b q) in rw n refl)
+
+      pub rest_dead : length (filter (λ q. not (in_margin_of s q)) (rows_of j t)) ≤ most
+      rest_dead = omega (arith, few_dead, dead_set b (sym same_owner))
+
+      pub rest_test : cleans (grid_of s b) t ≡ false
+      rest_test =
+          let size = length (rows_of j t) in
+          let dead = length (filter (λ q. not (in_margin_of s q)) (rows_of j t)) in
+          let p = and_parts (nat_eq (length ids) 0) _ rest in
+          let q = and_parts (nat_lt most size) _ p.1 in
+          let l : most < size = ltb-true most size q.0 in
+          let n : nat_eq (length ids) 0 ≡ true = p.0 in
+          let m : nat_eq dead size ≡ false = ne_eqb dead size (λ e. absurd (omega (arith, rest_dead))) in
+          let f : (nat_le s.grid.min size && nat_le (size * s.grid.num) (dead * s.grid.den)) ≡ false = fewer_worn s.grid.min size s.grid.num s.grid.den dead most rest_dead (not-true _ q.1) in
+          sym (clean_test (length ids) size dead refl refl refl) ∙ rw (n, m, f) refl
 
     -- ---- t is cleaned
     module _ (living : List SectionPos) (stays : living ≡ filter (in_margin_of s) (rows_of j t)) (found : List (List SectionPos)) (are : ArePartsOf living s.grid.merge found) where

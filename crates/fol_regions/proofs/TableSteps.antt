@@ -1,21 +1,24 @@
 -- What the calls of a region table keep and say.
-use Rattle.std.proofs.Common.{◌≡◌, ℕ, ◌-◌, ◌*◌, ◌≤◌, ◌<◌, refl, sym, ◌∙◌, ap, arith, true, false, inl, inr, ◌&&◌, List, []}
-use Rattle.std.specs.Prelude.{◌≢◌, nat_eq, nat_lt, if◌then◌else◌, Some, None, slice_index_or}
+use Rattle.std.proofs.Common.{◌≡◌, ℕ, ◌+◌, ◌-◌, ◌*◌, ◌≤◌, ◌<◌, refl, sym, ◌∙◌, ap, arith, true, false, inl, inr, ◌&&◌, List, []}
+use Rattle.std.specs.Prelude.{◌≢◌, nat_eq, nat_lt, if◌then◌else◌, Some, None, slice_index_or, min, count_by}
 use Rattle.std.proofs.Math.Path.{fun_ext}
-use Rattle.std.proofs.lemmas.Bool.{cases_Bool, true≢false, lt-ltb, le-ltb}
+use Rattle.std.proofs.lemmas.Bool.{cases_Bool, cases_eq, true≢false, lt-ltb, le-ltb}
 use Rattle.fol_model.specs.declared.places.SectionPos.{SectionPos}
 use Rattle.fol_model.specs.declared.places.ChunkPos.{ChunkPos}
 use Rattle.fol_model.specs.declared.grids.Grid.{Grid}
 use Rattle.fol_model.specs.declared.regions.State.{State}
 use Rattle.fol_model.specs.declared.regions.State.TheVariants.{Transient, Ready, Ticking, Dead}
+use Rattle.fol_model.specs.Geometry.{is_chunk, section_of}
 use Rattle.fol_model.specs.GridNumbers.{IsGrid}
+use Rattle.fol_model.specs.Universe.{square}
 use Rattle.fol_model.specs.GridState.{at_chunk, empty, is_ready}
 use Rattle.fol_model.specs.Begin.{begin}
 use Rattle.fol_model.specs.Drop.{drop_hold}
 use Rattle.fol_model.specs.Release.{release}
 use Rattle.fol_laws.proofs.SmallSteps.{begin_keeps, drop_keeps, empty_keeps}
 use Rattle.fol_laws.proofs.ReleaseKeeps.{release_keeps}
-use Rattle.fol_sections.specs.Table.{IsEmpty, IsSame, holds_of, presence_of, removed}
+use Rattle.fol_sections.specs.Table.{IsEmpty, IsSame, holds_of, loaded_count, presence_of, removed}
+use Rattle.fol_sections.specs.declared.answers.Removed.TheVariants.{Gone}
 use Rattle.fol_sections.specs.Table as sections
 use Rattle.fol_regions.specs.Answers.{begun_state, remove_answer, some_id}
 use Rattle.fol_regions.specs.Book.{Book, HasRoomFor, IsAlike, IsBook, KeepsRoom, SetsState, owner_of, state_of, waits_of, is_live, rows_of, ahead_of, behind_of}
@@ -23,10 +26,13 @@ use Rattle.fol_regions.specs.Slots.{SlotTable, slot_of, slot_state}
 use Rattle.fol_lists.specs.Numbered.{Numbered, total}
 use Rattle.fol_regions.proofs.PartingSteps.{count_same}
 use Rattle.std.specs.List.{list_any}
+use Rattle.fol_regions.specs.DeadBounds.{BoundsDead, is_dead_in, most_in}
 use Rattle.fol_regions.specs.Kept.{IsKept}
 use Rattle.fol_regions.specs.Released.{IsPresence, grid_of}
 use Rattle.fol_regions.specs.Table.{Table, grid_state}
 use Rattle.fol_regions.proofs.BookFacts.{waiter_lives}
+use Rattle.fol_regions.proofs.DeadKept.{bounds_same}
+use Rattle.fol_regions.proofs.DyingSteps.{bounds_kept, bounds_noted, gone_one, one_gone}
 use Rattle.fol_regions.proofs.JoinTest.{grid_is}
 
 pub state_is : (t : Table) → grid_state t ≡ grid_of t.sections t.book
@@ -71,6 +77,10 @@ module _ (grid : Grid) (s : sections.Table) (b : Book) (events near made : ℕ) 
     unfolding grid_of drop_hold
     removed_state = grid_is (grid_of e b) (drop_hold (grid_of s b) c) same holds refl refl refl refl
 
+    pub gone_limits : removed s c ≡ Gone → is_chunk c ≡ true
+    unfolding grid_of
+    gone_limits g = let one = gone_one s c g in k.rules.chunk_limits c (omega arith)
+
     pub removed_kept : IsKept grid e b events near made
     removed_kept = record {
       same = k.same ∙ sym same;
@@ -83,6 +93,15 @@ module _ (grid : Grid) (s : sections.Table) (b : Book) (events near made : ℕ) 
       made = k.made;
     }
 
+    -- ---- the numbers of dead sections
+    pub removed_bounds : (old new : List (ℕ × ℕ)) → BoundsDead (grid_of s b) (most_in old)
+        → (removed s c ≡ Gone → (r : ℕ) → 0 < r → min 16384 (most_in old r + (if nat_eq (loaded_count e (section_of grid c)) 0 then count_by (is_dead_in e b r) (square (section_of grid c) grid.create) else 0)) ≤ most_in new r)
+        → (removed s c ≢ Gone → new ≡ old) → BoundsDead (grid_of e b) (most_in new)
+    removed_bounds old new bounds gone others = elim (cases_eq (holds_of s c) 1) [
+      | inl one ↦ let noted = rw k.same at (gone (one_gone s c one)) in bounds_noted s e b c same holds old new bounds k.numbers (gone_limits (one_gone s c one)) removed_kept.rules noted
+      | inr n ↦ rw (others (λ g. n (gone_one s c g))) (bounds_kept s e b c same holds old new bounds n)
+    ]
+
   pub removed_answer : (c : ChunkPos) → removed s c ≡ remove_answer (grid_of s b) c
   unfolding grid_of removed
   removed_answer c = refl
@@ -92,6 +111,10 @@ module _ (grid : Grid) (s : sections.Table) (b : Book) (events near made : ℕ) 
     pub alike_state : grid_of e d ≡ grid_of s b
     unfolding grid_of
     alike_state = grid_is (grid_of e d) (grid_of s b) same.grid same.holds alike.owner alike.state alike.waits alike.next
+
+    pub alike_bounds : (most : List (ℕ × ℕ)) → BoundsDead (grid_of s b) (most_in most) → BoundsDead (grid_of e d) (most_in most)
+    unfolding grid_of
+    alike_bounds most = bounds_same (grid_of s b) (grid_of e d) most same.grid alike.owner same.holds
 
     pub alike_kept : events ≤ more → more ≤ e.spare → HasRoomFor d (289 * more) (625 * more) → IsKept grid e d more near made
     alike_kept l m r = record {
@@ -126,6 +149,10 @@ module _ (grid : Grid) (s : sections.Table) (b : Book) (events near made : ℕ) 
       near = k.near;
       made = k.made;
     }
+
+    pub begun_bounds : (most : List (ℕ × ℕ)) → BoundsDead (grid_of s b) (most_in most) → BoundsDead (grid_of s d) (most_in most)
+    unfolding grid_of
+    begun_bounds most = bounds_same (grid_of s b) (grid_of s d) most refl sets.owner refl
 
     pub begun_state_is : grid_of s d ≡ begun_state (grid_of s b) id
     unfolding grid_of

@@ -11,3 +11,4 @@ pub mod Added
 pub mod Answers
 pub mod Released
 pub mod Kept
+pub mod DeadBounds

@@ -13,6 +13,8 @@ mod answers;
 mod change;
 mod chunks;
 mod counts;
+mod dead_bounds;
+mod dying;
 mod links;
 mod near;
 mod owners;

@@ -17,6 +17,8 @@ ghost use Rattle.fol_regions.specs.Answers.{IsGiven, add_answer, remove_answer, 
 use crate::add::hold;
 use crate::chunks::list_chunks;
 use crate::counts::count_chunks;
+use crate::dead_bounds::{DeadBounds, forget_joined};
+use crate::dying::note_dying;
 use crate::release::Releaser;
 use crate::tables::Tables;
 use crate::{AddAnswer, Begun, Change};
@@ -38,20 +40,24 @@ pub struct Regions {
     near: Vec<u64>,
     made: Vec<u64>,
     change: Change,
+    /// How many dead sections each region has at most.
+    dead: DeadBounds,
     /// How many events there is memory for.
     spare: u32,
 }
 
 impl Model for Regions {
     ghost use Rattle.std.specs.Vec.{vec_capacity};
-    ghost use Rattle.fol_regions.specs.Table.{Table};
+    ghost use Rattle.fol_regions.specs.DeadBounds.{BoundsDead, most_in};
     ghost use Rattle.fol_regions.specs.Kept.{IsKept};
+    ghost use Rattle.fol_regions.specs.Released.{grid_of};
+    ghost use Rattle.fol_regions.specs.Table.{Table};
 
     ghost Value = { Table };
 
     ghost view = { λ s. record { sections = s.sections; book = s.tables; last = s.change; spare = s.spare } };
 
-    ghost invariant = { λ s. IsKept s.grid s.sections s.tables s.spare (vec_capacity s.near) (vec_capacity s.made) };
+    ghost invariant = { λ s. IsKept s.grid s.sections s.tables s.spare (vec_capacity s.near) (vec_capacity s.made) × BoundsDead (grid_of s.sections s.tables) (most_in s.dead) };
 }
 
 impl Regions {
@@ -73,6 +79,7 @@ impl Regions {
             near: Vec::with_capacity(alloc, MOST_NEAR)?,
             made: Vec::with_capacity(alloc, MOST_NEAR)?,
             change: Change::new(alloc)?,
+            dead: DeadBounds::new(alloc)?,
             spare: 0,
         })
     }
@@ -91,6 +98,7 @@ impl Regions {
             near: Vec::with_capacity(alloc, MOST_NEAR)?,
             made: Vec::with_capacity(alloc, MOST_NEAR)?,
             change: self.change.copy(alloc)?,
+            dead: DeadBounds::new(alloc)?,
             spare: self.spare,
         })
     }
@@ -131,7 +139,7 @@ impl Regions {
         ensures spare { self.old.spare ≤ self.new.spare + 1 }
     {
         self.spare -= 1;
-        hold(
+        let answer = hold(
             &mut self.sections,
             &mut self.tables,
             &mut self.near,
@@ -139,7 +147,9 @@ impl Regions {
             &mut self.change,
             &self.grid,
             c,
-        )
+        );
+        forget_joined(&mut self.dead, self.change.merges());
+        answer
     }
 
     /// Counts a hold less of a chunk. No section and no region changes. Takes no memory.
@@ -149,7 +159,16 @@ impl Regions {
         ensures last { self.new.last ≡ self.old.last }
         ensures spare { self.new.spare ≡ self.old.spare }
     {
-        self.sections.remove(c)
+        let answer = self.sections.remove(c);
+        note_dying(
+            &mut self.dead,
+            &self.tables,
+            &self.sections,
+            &self.grid,
+            c,
+            answer,
+        );
+        answer
     }
 
     /// Begins the tick of a region that was given out, where it is Ready. Takes no memory.
@@ -180,13 +199,16 @@ impl Regions {
         ensures last { self.new.last ≡ release_change (grid_state self.old) id }
         ensures spare { self.old.spare ≤ self.new.spare + 1 }
     {
-        self.releaser.release(
+        let most = self.dead.most(id);
+        let left = self.releaser.release(
             self.grid,
             &mut self.tables,
             &mut self.sections,
             &mut self.change,
             id,
+            most,
         );
+        self.dead.set(id, left);
     }
 
     /// What the last `add` or `release` changed; nothing after Counted and Full.

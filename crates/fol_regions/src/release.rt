@@ -13,6 +13,7 @@ ghost use Rattle.fol_model.specs.Universe.{count_sections};
 ghost use Rattle.fol_sections.specs.Table.{holds_of, in_margin_of, presence_of};
 ghost use Rattle.fol_regions.specs.Book.{owner_of, waits_of, is_live, rows_of, ahead_of, behind_of, KeepsRoom};
 ghost use Rattle.fol_regions.specs.Changes.{into, nothing, release_change};
+ghost use Rattle.fol_regions.specs.DeadBounds.{dead_count};
 ghost use Rattle.fol_regions.specs.Released.{Cleans, Joins, with_parts};
 ghost use Rattle.fol_split.specs.Parts.{ArePartsOf};
 
@@ -63,7 +64,10 @@ impl Releaser {
         })
     }
 
-    /// Ends the tick of a Ticking region. Takes no memory.
+    /// Ends the tick of a Ticking region, which has at most `most` dead sections, and returns how many it has at most from then on;
+    /// 16,384 where no less is known. Takes no memory.
+    ///
+    /// A region that nothing joins, and that has few dead sections, rests: none of its sections is looked at.
     pub fn release(
         &mut self,
         grid: Grid,
@@ -71,12 +75,15 @@ impl Releaser {
         sections: &mut Sections,
         change: &mut Change,
         id: u64,
-    )
+        most: u32,
+    ) -> u32
         requires grid { grid ≡ sections.old.grid }
         requires rules { Rules (grid_of sections.old tables.old) }
         requires presence { IsPresence sections.old tables.old }
         requires ticks { (grid_of sections.old tables.old).state id ≡ Ticking }
         requires few_ids { tables.old.next < 2 ^ 62 }
+        requires dead { dead_count (grid_of sections.old tables.old) id ≤ most }
+        ensures dead { result < MOST_SECTIONS → dead_count (grid_of sections.new tables.new) id ≤ result }
         ensures state { grid_of sections.new tables.new ≡ release (grid_of sections.old tables.old) id }
         ensures change { change.new ≡ release_change (grid_of sections.old tables.old) id }
         ensures presence { IsPresence sections.new tables.new }
@@ -93,15 +100,21 @@ impl Releaser {
         tables.keeps_lists();
         if tables.is_waiting(id) {
             tables.set_state(id, State::Transient);
-            return;
+            return MOST_SECTIONS as u32;
+        }
+        if can_rest(grid, tables, &self.ids, id, most) {
+            tables.set_state(id, State::Ready);
+            return most;
         }
         self.cleaner.sort_out(sections, tables.sections(id));
         let dead = self.cleaner.dead.len();
         let size = self.cleaner.living.len() + dead;
         if must_clean(grid, self.ids.len(), size, dead) {
             self.cleaner.clean(tables, sections, change, grid.merge, id);
+            MOST_SECTIONS as u32
         } else {
             tables.set_state(id, State::Ready);
+            dead as u32
         }
     }
 }
@@ -216,9 +229,25 @@ fn must_clean(grid: Grid, joined: usize, size: usize, dead: usize) -> bool
     requires dead { dead ≤ MOST_SECTIONS }
     ensures { result ≡ (not (nat_eq joined 0) || (nat_eq dead size || (nat_le grid.min size && nat_le (size * grid.num) (dead * grid.den)))) }
 {
-    joined != 0
-        || dead == size
-        || (size >= grid.min as usize && size * grid.num as usize <= dead * grid.den as usize)
+    joined != 0 || dead == size || is_worn(grid, size, dead)
+}
+
+/// Whether a region that these regions joined is not cleaned, whichever of at most `most` of its sections are dead.
+fn can_rest(grid: Grid, tables: &Tables, ids: &[u64], id: u64, most: u32) -> bool
+    requires size { length (rows_of tables.now id) ≤ MOST_SECTIONS }
+    ensures { result ≡ (nat_eq (length ids.now) 0 && (nat_lt most (length (rows_of tables.now id)) && not (nat_le grid.min (length (rows_of tables.now id)) && nat_le (length (rows_of tables.now id) * grid.num) (most * grid.den)))) }
+{
+    let size = tables.sections(id).len();
+    ids.is_empty() && (most as usize) < size && !is_worn(grid, size, most as usize)
+}
+
+/// Whether a region of this size is cleaned where so many of its sections are dead.
+fn is_worn(grid: Grid, size: usize, dead: usize) -> bool
+    requires size { size ≤ MOST_SECTIONS }
+    requires dead { dead ≤ MOST_SECTIONS }
+    ensures { result ≡ (nat_le grid.min size && nat_le (size * grid.num) (dead * grid.den)) }
+{
+    size >= grid.min as usize && size * grid.num as usize <= dead * grid.den as usize
 }
 
 /// Notes the ids of the parts of a split.

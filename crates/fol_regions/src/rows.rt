@@ -1,10 +1,12 @@
 //! Lists of sections in order.
 
-ghost use Rattle.std.specs.Prelude.{◌≡◌, ◌≢◌, ◌+◌, ◌<◌, ◌≤◌, [], length, replicate, IfOk};
+ghost use Rattle.std.specs.Prelude.{◌≡◌, ◌≢◌, ℕ, ◌+◌, ◌<◌, ◌≤◌, [], ◌++◌, length, replicate, slice_index_or, take, IfOk};
 ghost use Rattle.std.specs.List.{All};
 ghost use Rattle.std.specs.List.Sorted.{IsStrictlySortedBy};
 ghost use Rattle.std.specs.Vec.{vec_capacity};
+ghost use Rattle.std.specs.declared.cmp.Ordering.TheVariants.{Less};
 ghost use Rattle.fol_lists.specs.Numbered.{list_at, total, with_list, with_numbers};
+ghost use Rattle.fol_model.specs.declared.places.SectionPos.{SectionPos};
 ghost use Rattle.fol_model.specs.Geometry.{is_section};
 ghost use Rattle.fol_model.specs.Universe.{section_cmp};
 ghost use Rattle.fol_regions.specs.Rows.{united, IsRow};
@@ -120,7 +122,42 @@ fn compare(a: SectionPos, b: SectionPos) -> Ordering
     (a.z, a.x).cmp(&(b.z, b.x))
 }
 
+/// How many sections at the front of a list in order are before a section.
+fn count_before(xs: &[SectionPos], s: SectionPos) -> usize
+    requires { IsStrictlySortedBy section_cmp xs.now }
+    ensures few { result ≤ length xs.now }
+    ensures before { (k : ℕ) (d : SectionPos) → k < result → section_cmp (slice_index_or xs.now k d) s ≡ Less }
+    ensures behind { (k : ℕ) (d : SectionPos) → result ≤ k → k < length xs.now → section_cmp (slice_index_or xs.now k d) s ≢ Less }
+{
+    let mut low = 0;
+    let mut high = xs.len();
+    while low < high {
+        let middle = low + (high - low) / 2;
+        match compare(xs[middle], s) {
+            Ordering::Less => low = middle + 1,
+            _ => high = middle,
+        }
+    }
+    low
+}
+
+/// How many sections at the front of the first list are before all of the second; none where that has none.
+fn front(xs: &[SectionPos], ys: &[SectionPos]) -> usize
+    requires xs { IsStrictlySortedBy section_cmp xs.now }
+    requires ys { IsStrictlySortedBy section_cmp ys.now }
+    ensures few { result ≤ length xs.now }
+    ensures sorted { IsStrictlySortedBy section_cmp (take result xs.now ++ ys.now) }
+{
+    if ys.is_empty() {
+        0
+    } else {
+        count_before(xs, ys[0])
+    }
+}
+
 /// Puts the sections of two lists, each in order, into an empty list with room for them, in order.
+///
+/// What lies before the second list is copied at once.
 fn merge(xs: &[SectionPos], ys: &[SectionPos], out: &mut Vec<SectionPos>)
     requires xs { IsRow xs.now }
     requires ys { IsRow ys.now }
@@ -130,8 +167,9 @@ fn merge(xs: &[SectionPos], ys: &[SectionPos], out: &mut Vec<SectionPos>)
     ensures few { length out.new.items ≤ length xs.now + length ys.now }
     ensures room { vec_capacity out.old ≤ vec_capacity out.new }
 {
-    let mut i = 0;
+    let mut i = front(xs, ys);
     let mut j = 0;
+    let _ = out.extend_from_slice(&xs[..i]);
     while i < xs.len() && j < ys.len() {
         match compare(xs[i], ys[j]) {
             Ordering::Less => {

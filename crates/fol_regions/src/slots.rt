@@ -121,16 +121,20 @@ impl Slots {
         }
     }
 
-    /// The ids of the regions that have a slot, rising. Goes over the slots, so a Dead region costs nothing.
+    /// The ids of the regions that have a slot, rising. Goes over the slots up to the last one that has a region.
     pub fn ids(&self, alloc: Global) -> Result<Vec<u64>, AllocError>
         ensures rising { IfOk result (λ ids. IsStrictlySortedBy nat_cmp ids.items) }
         ensures members { IfOk result (λ ids. (id : ℕ) → list_any (nat_eq id) ids.items ≡ nat_lt (slot_of self.now id) self.now.room) }
     {
-        let mut ids = Vec::with_capacity(alloc, self.regions.len())?;
-        for slot in 0..self.regions.capacity() {
+        let room = self.regions.capacity();
+        let count = self.regions.len();
+        let mut ids = Vec::with_capacity(alloc, count)?;
+        let mut slot = 0;
+        while slot < room && ids.len() < count {
             if let Some(region) = self.regions.get(slot) {
                 ids.push(region.id)?;
             }
+            slot += 1;
         }
         ids.sort_unstable();
         Ok(ids)

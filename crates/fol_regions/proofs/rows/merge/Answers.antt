@@ -1,8 +1,8 @@
-use Rattle.std.proofs.Common.{◌+◌, ◌++◌, sym, ◌∙◌, ap, arith, subst, length, drop, length-append, length-drop, List, inl, inr}
+use Rattle.std.proofs.Common.{◌+◌, ◌++◌, sym, ◌∙◌, ap, arith, subst, length, drop, length-append, length-drop, length-take-le, List, inl, inr}
 use Rattle.std.specs.Prelude.{pos}
 use Rattle.std.proofs.lemmas.List.{take_rest}
 use Rattle.fol_model.specs.declared.places.SectionPos.{SectionPos}
-use Rattle.fol_regions.proofs.MergeSteps.{Merged, merged_none, take_first, take_second, take_both, second_less, merged_all}
+use Rattle.fol_regions.proofs.MergeSteps.{Merged, merged_front, take_first, take_second, take_both, second_less, merged_all}
 use Rattle.fol_regions.proofs.rows.merge.Goals as goal
 use Rattle.fol_regions.proofs.rows.merge.Goals.{then-loop-i-test+else-j-ys, else-loop-i-test}
 
@@ -10,7 +10,15 @@ abbrev place : SectionPos
 place = record { x = pos 0; z = pos 0 }
 
 pub loop-i-init : goal.loop-i-init
-loop-i-init c = record { merged = subst (λ (zs : List SectionPos). Merged zs c.args.xs.now c.args.ys.now 0 0) (sym c.requires.none) (merged_none c.args.xs.now c.args.ys.now c.requires.xs c.requires.ys); room = omega arith }
+loop-i-init c =
+    let xs = c.args.xs.now in
+    let n = c.front-i.result in
+    let ok = c.extend_from_slice.ensures.succeeds (omega (arith, c.front-i.ensures.few, c.requires.room, ap length c.requires.none, length-take-le n xs c.front-i.ensures.few)) in
+    let items = rw (ok, c.requires.none) at c.extend_from_slice.ensures.items in
+    record {
+      merged = subst (λ (zs : List SectionPos). Merged zs xs c.args.ys.now n 0) (sym items) (merged_front xs c.args.ys.now n c.requires.xs c.front-i.ensures.few c.front-i.ensures.sorted);
+      room = omega (arith, c.extend_from_slice.ensures.capacity);
+    }
 
 pub loop-i-preserved-in-Less : goal.loop-i-preserved-in-Less
 loop-i-preserved-in-Less c =
@@ -53,10 +61,10 @@ returns-clause-united c =
     let ys = c.args.ys.now in
     let i = c.loop-i.i in
     let j = c.loop-i.j in
-    let ok = c.extend_from_slice.ensures.succeeds (omega (arith, m.few, m.i_in, m.j_in, c.loop-i.invariant.room, c.requires.room, length-drop i xs, ap length (take_rest xs i))) in
-    let first = rw (ok, take_rest xs i) at c.extend_from_slice.ensures.items in
-    let ok2 = c.extend_from_slice-2.ensures.succeeds (omega (arith, m.few, m.i_in, m.j_in, c.loop-i.invariant.room, c.requires.room, length-drop i xs, length-drop j ys, ap length (take_rest ys j), ap length first, length-append c.loop-i.out.items (drop i xs), c.extend_from_slice.ensures.capacity)) in
-    let second = rw (ok2, take_rest ys j) at c.extend_from_slice-2.ensures.items in
+    let ok = c.extend_from_slice-2.ensures.succeeds (omega (arith, m.few, m.i_in, m.j_in, c.loop-i.invariant.room, c.requires.room, length-drop i xs, ap length (take_rest xs i))) in
+    let first = rw (ok, take_rest xs i) at c.extend_from_slice-2.ensures.items in
+    let ok2 = c.extend_from_slice-3.ensures.succeeds (omega (arith, m.few, m.i_in, m.j_in, c.loop-i.invariant.room, c.requires.room, length-drop i xs, length-drop j ys, ap length (take_rest ys j), ap length first, length-append c.loop-i.out.items (drop i xs), c.extend_from_slice-2.ensures.capacity)) in
+    let second = rw (ok2, take_rest ys j) at c.extend_from_slice-3.ensures.items in
     second ∙ ap (λ zs. zs ++ drop j ys) first ∙ merged_all c.loop-i.out.items xs ys i j place m c.requires.xs c.requires.ys (elim c.loop-i-test.branch [
       | then-loop-i-test+else-j-ys w ↦ inr w.if-j-ys.false
       | else-loop-i-test w ↦ inl w.loop-i-test.false
@@ -69,8 +77,8 @@ returns-clause-few c =
     let ys = c.args.ys.now in
     let i = c.loop-i.i in
     let j = c.loop-i.j in
-    let ok = c.extend_from_slice.ensures.succeeds (omega (arith, m.few, m.i_in, m.j_in, c.loop-i.invariant.room, c.requires.room, length-drop i xs, ap length (take_rest xs i))) in
-    let first = rw (ok, take_rest xs i) at c.extend_from_slice.ensures.items in
-    let ok2 = c.extend_from_slice-2.ensures.succeeds (omega (arith, m.few, m.i_in, m.j_in, c.loop-i.invariant.room, c.requires.room, length-drop i xs, length-drop j ys, ap length (take_rest ys j), ap length first, length-append c.loop-i.out.items (drop i xs), c.extend_from_slice.ensures.capacity)) in
-    let second = rw (ok2, take_rest ys j) at c.extend_from_slice-2.ensures.items in
-    omega (arith, m.few, m.i_in, m.j_in, length-drop i xs, length-drop j ys, ap length first, ap length second, length-append c.loop-i.out.items (drop i xs), length-append c.extend_from_slice.new.self.items (drop j ys))
+    let ok = c.extend_from_slice-2.ensures.succeeds (omega (arith, m.few, m.i_in, m.j_in, c.loop-i.invariant.room, c.requires.room, length-drop i xs, ap length (take_rest xs i))) in
+    let first = rw (ok, take_rest xs i) at c.extend_from_slice-2.ensures.items in
+    let ok2 = c.extend_from_slice-3.ensures.succeeds (omega (arith, m.few, m.i_in, m.j_in, c.loop-i.invariant.room, c.requires.room, length-drop i xs, length-drop j ys, ap length (take_rest ys j), ap length first, length-append c.loop-i.out.items (drop i xs), c.extend_from_slice-2.ensures.capacity)) in
+    let second = rw (ok2, take_rest ys j) at c.extend_from_slice-3.ensures.items in
+    omega (arith, m.few, m.i_in, m.j_in, length-drop i xs, length-drop j ys, ap length first, ap length second, length-append c.loop-i.out.items (drop i xs), length-append c.extend_from_slice-2.new.self.items (drop j ys))

@@ -4,4 +4,4 @@ use Rattle.fol_regions.proofs.regions.Regions.keeps_rules.Goals as goal
 
 pub returns : goal.returns
 unfolding grid_state grid_of
-returns c = rw (← c.self.view_is) c.self.invariant.rules
+returns c = rw (← c.self.view_is) c.self.invariant.0.rules

@@ -1,26 +1,37 @@
+use Rattle.std.proofs.Common.{◌≡◌, arith}
+use Rattle.fol_model.specs.declared.regions.State.TheVariants.{Ticking}
 use Rattle.fol_regions.specs.Released.{grid_of}
 use Rattle.fol_regions.specs.Table.{grid_state}
+use Rattle.fol_regions.proofs.DeadKept.{bounds_released}
 use Rattle.fol_regions.proofs.TableSteps as steps
 use Rattle.fol_regions.proofs.regions.Regions.release.Goals as goal
 
-pub release-requires-clause-ticks : goal.release-requires-clause-ticks
+pub release-left-requires-clause-ticks : goal.release-left-requires-clause-ticks
 unfolding grid_state grid_of
-release-requires-clause-ticks c = rw (← c.self.view_is) at c.requires.ticks
+release-left-requires-clause-ticks c = rw (← c.self.view_is) at c.requires.ticks
 
-pub release-requires-clause-few_ids : goal.release-requires-clause-few_ids
+pub release-left-requires-clause-few_ids : goal.release-left-requires-clause-few_ids
 unfolding grid_state
-release-requires-clause-few_ids c = rw (← c.self.view_is) at c.requires.few_ids
+release-left-requires-clause-few_ids c = rw (← c.self.view_is) at c.requires.few_ids
 
 pub invariant_of-self : goal.invariant_of-self
 unfolding grid_state grid_of
 invariant_of-self c =
     let ticks = rw (← c.self.view_is) at c.requires.ticks in
-    steps.released_kept c.self.inside.grid c.self.inside.sections c.self.inside.tables c.self.inside.spare _ _ c.self.invariant c.release.new.sections c.release.new.tables c.args.id ticks c.release.ensures.state c.release.ensures.presence c.release.ensures.rooms c.release.ensures.grid c.release.ensures.spare
+    let kept = steps.released_kept c.self.inside.grid c.self.inside.sections c.self.inside.tables c.self.inside.spare _ _ c.self.invariant.0 c.release-left.new.sections c.release-left.new.tables c.args.id ticks c.release-left.ensures.state c.release-left.ensures.presence c.release-left.ensures.rooms c.release-left.ensures.grid c.release-left.ensures.spare in
+    (kept, bounds_released (grid_of c.self.inside.sections c.self.inside.tables) c.args.id c.self.invariant.0.rules ticks (grid_of c.release-left.new.sections c.release-left.new.tables) c.release-left.ensures.state kept.rules _ _ c.release-left.result c.self.invariant.1 c.release-left.ensures.dead c.set.ensures)
+
+pub release-left-requires-clause-dead : goal.release-left-requires-clause-dead
+unfolding grid_state grid_of
+release-left-requires-clause-dead c =
+    let ticks : (grid_of c.self.inside.sections c.self.inside.tables).state c.args.id ≡ Ticking = rw (← c.self.view_is) at c.requires.ticks in
+    let most = c.self.invariant.1.at c.args.id (c.self.invariant.0.rules.given c.args.id (λ d. cc)) in
+    omega (arith, most, c.most-most.ensures)
 
 pub returns-clause-state : goal.returns-clause-state
 unfolding grid_state grid_of
-returns-clause-state c = rw (← c.self.view_is) c.release.ensures.state
+returns-clause-state c = rw (← c.self.view_is) c.release-left.ensures.state
 
 pub returns-clause-last : goal.returns-clause-last
 unfolding grid_state grid_of
-returns-clause-last c = rw (← c.self.view_is) c.release.ensures.change
+returns-clause-last c = rw (← c.self.view_is) c.release-left.ensures.change

@@ -1,4 +1,4 @@
-use Rattle.std.proofs.Common.{◌≡◌, ◌+◌, sym, ◌∙◌, ap, arith}
+use Rattle.std.proofs.Common.{◌≡◌, ◌+◌, sym, ◌∙◌, ap, arith, inl, inr}
 use Rattle.std.specs.Prelude.{Some, None}
 use Rattle.std.specs.HashMap.{hash_map_len, spare}
 use Rattle.std.specs.List.{slice_index_or}
@@ -6,7 +6,7 @@ use Rattle.std.specs.Option.{option_copied}
 use Rattle.fol_regions.specs.Slots.{SlotTable}
 use Rattle.fol_regions.proofs.LiveRegions.{ids_none, ids_skip, ids_more, ids_rise, ids_of_all}
 use Rattle.fol_regions.proofs.slots.Slots.ids.Goals as goal
-use Rattle.fol_regions.proofs.slots.Slots.ids.Goals.{in-Some+in_ok-push, in_default}
+use Rattle.fol_regions.proofs.slots.Slots.ids.Goals.{in-Some+in_ok-push, in_default, then-loop-slot-test+else-len-count, else-loop-slot-test}
 
 pub loop-slot-init : goal.loop-slot-init
 loop-slot-init c =
@@ -30,9 +30,15 @@ loop-slot-preserved c =
 pub returns-clause-rising : goal.returns-clause-rising
 returns-clause-rising c =
     let v : SlotTable = record { regions = c.self.inside.regions.slots; room = c.self.inside.regions.capacity } in
-    ids_rise v c.loop-slot.slot (omega (arith, c.capacity-slot-end.ensures.value)) c.loop-slot.ids.items c.sort_unstable.new.self.items c.loop-slot.invariant c.sort_unstable.ensures.permutation c.sort_unstable.ensures.sorted
+    ids_rise v c.loop-slot.slot c.self.invariant.within c.loop-slot.ids.items c.sort_unstable.new.self.items (elim c.loop-slot-test.branch [
+      | then-loop-slot-test+else-len-count w ↦ inr (omega (arith, w.if-len-count.false, c.len-count.ensures))
+      | else-loop-slot-test w ↦ inl (omega (arith, w.loop-slot-test.false, c.capacity-room.ensures.value))
+    ]) c.loop-slot.invariant c.sort_unstable.ensures.permutation c.sort_unstable.ensures.sorted
 
 pub returns-clause-members : goal.returns-clause-members
 returns-clause-members c =
     let v : SlotTable = record { regions = c.self.inside.regions.slots; room = c.self.inside.regions.capacity } in
-    rw (← c.self.view_is) (ids_of_all v c.loop-slot.slot (omega (arith, c.capacity-slot-end.ensures.value)) c.loop-slot.ids.items c.sort_unstable.new.self.items c.loop-slot.invariant c.sort_unstable.ensures.permutation)
+    rw (← c.self.view_is) (ids_of_all v c.loop-slot.slot c.self.invariant.within c.loop-slot.ids.items c.sort_unstable.new.self.items (elim c.loop-slot-test.branch [
+      | then-loop-slot-test+else-len-count w ↦ inr (omega (arith, w.if-len-count.false, c.len-count.ensures))
+      | else-loop-slot-test w ↦ inl (omega (arith, w.loop-slot-test.false, c.capacity-room.ensures.value))
+    ]) c.loop-slot.invariant c.sort_unstable.ensures.permutation)

@@ -1,0 +1,5 @@
+use Rattle.fol_regions.proofs.BoundSteps.{most_none}
+use Rattle.fol_regions.proofs.dead_bounds.DeadBounds.new.Goals as goal
+
+pub returns : goal.returns
+returns c = most_none _ c.in_ok-with_capacity.ensures.empty
