@@ -6,6 +6,7 @@ use Rattle.fol_model.specs.declared.places.ChunkPos.{ChunkPos}
 use Rattle.fol_model.specs.declared.events.Loaded.{Loaded}
 use Rattle.fol_model.specs.declared.events.Unloaded.{Unloaded}
 use Rattle.fol_model.specs.declared.actions.Action.{Action}
+use Rattle.fol_model.specs.Outputs.{owner_rows}
 use Rattle.fol_data.specs.declared.tick.Tick.{Tick}
 use Rattle.fol_core.specs.declared.answers.Posting.{Posting}
 use Rattle.fol_core.specs.declared.answers.Close.{Close}
@@ -15,8 +16,9 @@ use Rattle.fol_core.specs.Meaning.{Meaning, Records, Stays, world_of}
 use Rattle.fol_core.specs.Ticks.{SameTick}
 use Rattle.fol_live.specs.declared.answers.LivePhase.{LivePhase}
 use Rattle.fol_live.specs.declared.answers.LiveBegin.{LiveBegin}
+use Rattle.fol_live.specs.declared.answers.Owners.{Owners}
 use Rattle.fol_live.specs.Results.{LiveBegins, LivePhaseRecords, live_phase_result}
-use Rattle.fol_live.specs.Calls.{Begins, Closes, Finishes, Loads, Opens, Posts, Releases, Stops, Unloads}
+use Rattle.fol_live.specs.Calls.{Begins, Closes, Finishes, ListsOwners, Loads, Opens, Posts, Releases, Stops, Unloads}
 use Rattle.fol_live.specs.Seat.{Shown}
 use Rattle.fol_live.proofs.Bare.{bare_begin, bare_close, bare_finish, bare_load, bare_open, bare_post, bare_records, bare_stays, bare_stop, bare_unload, err_map, ok_map, on_ok_map}
 use Rattle.fol_live.proofs.Taken.{Done, bare, moved}
@@ -24,6 +26,15 @@ use Rattle.fol_live.proofs.Taken.{Done, bare, moved}
 module _ {old new : Shown} {m n : Meaning} {by : ℕ} (d : Done old new m n by) where
   stays : {X E : Type 0} (r : Result X E) → OnErr r (Stays m n) → OnErr r (Stays (bare m) (bare n))
   stays r = err_map (Stays m n) (Stays (bare m) (bare n)) r (bare_stays m n)
+
+  pub lists_owners : (r : Result Owners AllocError) → Stays m n → IfOk r (λ o. o.front ≡ length n.history) → IfOk r (λ o. o.rows.items ≡ owner_rows (world_of n)) → ListsOwners old new r
+  lists_owners r same front rows = record {
+    now = d.now;
+    turn = d.turn;
+    same = moved d (λ a b k. Stays a b) (bare_stays m n same);
+    front = moved d (λ a b k. IfOk r (λ x. x.front ≡ length b.history)) front;
+    rows = moved d (λ a b k. IfOk r (λ x. x.rows.items ≡ owner_rows (world_of b))) rows;
+  }
 
   pub loads : (c : ChunkPos) (r : Result Loaded AllocError) → IfOk r (λ a. a ≡ load_result (world_of m) c) → IfOk r (λ a. LoadRecords m n by c a) → OnErr r (Stays m n) → Loads old new c r
   loads c r answer recorded refused = record {

@@ -7,6 +7,7 @@ use Rattle.fol_model.specs.declared.events.Entry.{Entry}
 use Rattle.fol_model.specs.declared.events.Loaded.{Loaded}
 use Rattle.fol_model.specs.declared.events.Unloaded.{Unloaded}
 use Rattle.fol_model.specs.declared.actions.Action.{Action}
+use Rattle.fol_model.specs.Outputs.{owner_rows}
 use Rattle.fol_data.specs.declared.tick.Tick.{Tick}
 use Rattle.fol_core.specs.declared.answers.Posting.{Posting}
 use Rattle.fol_core.specs.declared.answers.Close.{Close}
@@ -16,6 +17,7 @@ use Rattle.fol_core.specs.Meaning.{Records, Stays, world_of}
 use Rattle.fol_core.specs.Ticks.{SameTick}
 use Rattle.fol_live.specs.declared.answers.LivePhase.{LivePhase}
 use Rattle.fol_live.specs.declared.answers.LiveBegin.{LiveBegin}
+use Rattle.fol_live.specs.declared.answers.Owners.{Owners}
 use Rattle.fol_live.specs.Results.{LiveBegins, LivePhaseRecords, live_phase_result}
 use Rattle.fol_live.specs.Seat.{Shown, meaning_of}
 use Rattle.fol_live.specs.Turned.{Adds, Looks}
@@ -25,6 +27,14 @@ pub record Turn (old now new : Shown) : Type 0 where
   pub looks : Looks old now
   pub added : List Entry
   pub adds : Adds now new added
+
+-- the owners after all that the seat has seen now were asked for; nothing was recorded
+pub record ListsOwners (old new : Shown) (r : Result Owners AllocError) : Type 0 where
+  pub now : Shown
+  pub turn : Turn old now new
+  pub same : Stays (meaning_of now) (meaning_of new)
+  pub front : IfOk r (λ o. o.front ≡ length new.seen)
+  pub rows : IfOk r (λ o. o.rows.items ≡ owner_rows (world_of (meaning_of new)))
 
 -- a ticket to a chunk was asked for
 pub record Loads (old new : Shown) (c : ChunkPos) (r : Result Loaded AllocError) : Type 0 where

@@ -1,6 +1,7 @@
 //! What the calls of a shared world answer, where a core's own answers don't say it.
 
 use fol_core::Tick;
+use fol_model::OwnerRow;
 
 /// What opening a phase came to.
 #[derive(Clone, Copy, Debug, PartialEq, Eq)]
@@ -23,4 +24,13 @@ pub enum LiveBegin {
     Idle,
     /// Finish or Stop stands in the history.
     Over,
+}
+
+/// Which region owns each present section, after so much of the history.
+#[derive(Drop)]
+pub struct Owners {
+    /// How many entries of the history come before.
+    pub front: u64,
+    /// By `(z, x)`, each section once.
+    pub rows: Vec<OwnerRow>,
 }

@@ -1,21 +1,22 @@
 //! The shared world.
 
-ghost use Rattle.std.specs.Prelude.{◌≡◌, ◌≢◌, ◌<◌, ◌≤◌, All, IfOk, IfErr, IsTrue};
+ghost use Rattle.std.specs.Prelude.{◌≡◌, ◌≢◌, ◌<◌, ◌≤◌, List, All, IfOk, IfErr, IsTrue};
+ghost use Rattle.fol_model.specs.declared.closings.OwnerRow.{OwnerRow};
 ghost use Rattle.fol_model.specs.Geometry.{is_chunk};
 ghost use Rattle.fol_model.specs.Limits.{is_action, is_delay, may_post};
 ghost use Rattle.fol_core.specs.Ticks.{IsOut};
 ghost use Rattle.fol_lock.specs.Lock.{seat_count};
-ghost use Rattle.fol_live.specs.Calls.{Begins, Closes, Finishes, Loads, Opens, Posts, Releases, Stops, Unloads};
+ghost use Rattle.fol_live.specs.Calls.{Begins, Closes, Finishes, ListsOwners, Loads, Opens, Posts, Releases, Stops, Unloads};
 ghost use Rattle.fol_live.specs.Lives.{live_id};
 ghost use Rattle.fol_live.specs.Seat.{meaning_of};
 ghost use Rattle.fol_live.specs.Seats.{AreAllSeats, AreNewSeats, ClosesAll, ClosingFault};
 
-use crate::answers::{LiveBegin, LivePhase};
+use crate::answers::{LiveBegin, LivePhase, Owners};
 use crate::seat::Seat;
 use crate::world::World;
 use fol_core::{Close, CloseFault, Finish, Posting, Tick};
 use fol_lock::{Lock, LockAndSeats};
-use fol_model::{Action, ChunkPos, Closing, Loaded, Opening, Unloaded};
+use fol_model::{Action, ChunkPos, Closing, Loaded, Opening, OwnerRow, Unloaded};
 use std::alloc::{AllocError, Global};
 use std::sync::Wait;
 
@@ -80,6 +81,19 @@ impl Live {
     /// How many seats have their turn or wait for it, as a hint: it may have changed when it is read. Takes no turn and no memory.
     pub fn crowd(&self) -> u64 {
         self.lock.crowd()
+    }
+
+    /// Which region owns each present section, after the whole history as the seat then has seen it. Records nothing.
+    pub fn owner_rows<R: Wait>(&self, rt: &R, seat: &mut Seat) -> Result<Owners, AllocError>
+        requires own { seat.old.lock ≡ live_id self.now }
+        ensures { ListsOwners seat.old seat.new result }
+    {
+        let turn = self.lock.take(rt, &mut seat.seat);
+        let answer = turn.state_ref().owner_rows();
+        let front = turn.state_ref().front();
+        seat.front = front;
+        self.lock.give(&mut seat.seat, turn);
+        owners_after(front, answer)
     }
 
     /// Asks for a ticket to a chunk, with the seat's number as the caller. Over exactly where Finish stands in the history; only
@@ -241,5 +255,16 @@ impl Live {
         seat.front = turn.state_ref().front();
         self.lock.give(&mut seat.seat, turn);
         answer
+    }
+}
+
+/// These owners after so much of the history, or want of memory.
+fn owners_after(front: u64, answer: Result<Vec<OwnerRow>, AllocError>) -> Result<Owners, AllocError>
+    ensures front { IfOk result (λ o. o.front ≡ front) }
+    ensures rows { (list : List OwnerRow) → IfOk answer (λ v. v.items ≡ list) → IfOk result (λ o. o.rows.items ≡ list) }
+{
+    match answer {
+        Ok(rows) => Ok(Owners { front, rows }),
+        Err(_) => Err(AllocError),
     }
 }

@@ -3,6 +3,7 @@
 ghost use Rattle.std.specs.Prelude.{◌≡◌, ◌≢◌, ◌≤◌, [], length, IfOk, IfErr, OnOk, OnErr, IsTrue};
 ghost use Rattle.fol_model.specs.Geometry.{is_chunk};
 ghost use Rattle.fol_model.specs.Limits.{is_action, is_delay, may_post};
+ghost use Rattle.fol_model.specs.Outputs.{owner_rows};
 ghost use Rattle.fol_core.specs.Answers.{CloseRecords, FinishRecords, LoadRecords, PostRecords, StopRecords, UnloadRecords, close_result, end_event, finish_result, is_over, load_result, post_result, unload_result};
 ghost use Rattle.fol_core.specs.Meaning.{Records, Stays, world_of};
 ghost use Rattle.fol_core.specs.Ticks.{IsOut, SameTick};
@@ -12,7 +13,7 @@ ghost use Rattle.fol_live.specs.Kept.{Keeps};
 use crate::answers::{LiveBegin, LivePhase};
 use fol_core::{BeginAnswer, Close, Core, Finish, Phase, Posting, Tick};
 use fol_lock::Kept;
-use fol_model::{Action, ChunkPos, Entry, Loaded, Opening, Unloaded};
+use fol_model::{Action, ChunkPos, Entry, Loaded, Opening, OwnerRow, Unloaded};
 use std::alloc::{AllocError, Global};
 use std::marker::Model;
 
@@ -67,6 +68,14 @@ impl World {
         ensures { result ≡ length self.now.history }
     {
         self.core.history().len() as u64
+    }
+
+    /// `Core::owner_rows`.
+    pub(crate) fn owner_rows(&self) -> Result<Vec<OwnerRow>, AllocError>
+        ensures keeps { Keeps self.now.opening self.now.history }
+        ensures rows { IfOk result (λ rows. rows.items ≡ owner_rows (world_of self.now)) }
+    {
+        self.core.owner_rows()
     }
 
     /// `Core::load` by the seat of this number.
