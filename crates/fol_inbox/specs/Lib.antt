@@ -1,0 +1,10 @@
+pub mod Letters
+pub mod Ids
+pub mod Notes
+pub mod Rule
+pub mod Sending
+pub mod Draining
+pub mod Receipts
+pub mod Drains
+pub mod Rest
+pub mod Law
