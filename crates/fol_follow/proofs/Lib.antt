@@ -1,0 +1,12 @@
+pub mod Numbers
+pub mod Pendings
+pub mod Linking
+pub mod Runs
+pub mod Fates
+pub mod Collecting
+pub mod Counting
+pub mod Keeping
+pub mod Turning
+pub mod Heres
+pub mod Follows
+pub mod NewSeats

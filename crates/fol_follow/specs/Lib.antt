@@ -1,0 +1,9 @@
+pub mod Here
+pub mod Visits
+pub mod Table
+pub mod Kept
+pub mod Meaning
+pub mod Calls
+pub mod Books
+pub mod Fates
+pub mod Follows
