@@ -60,10 +60,10 @@ impl<'a> ChunkList<'a> {
     {
         let last = self.chunks.len() - 1;
         let corner = self.chunks[0];
-        let width = (self.chunks[last].x as i64 - corner.x as i64).saturating_add(1);
-        let right = (c.x as i64 - corner.x as i64).max(-1).min(width);
-        let down = (c.z as i64).saturating_sub(corner.z as i64);
-        nearest(down.saturating_mul(width).saturating_add(right), last)
+        let width = self.chunks[last].x.wrapping_sub(corner.x).wrapping_add(1);
+        let right = c.x.wrapping_sub(corner.x).max(-1).min(width);
+        let down = c.z.wrapping_sub(corner.z);
+        nearest(down.wrapping_mul(width).wrapping_add(right), last)
     }
 
     /// `Some(false)` where the chunk would stand at this place, between two chunks of the list.
@@ -89,7 +89,7 @@ impl<'a> ChunkList<'a> {
 }
 
 /// The number from 0 to `last` that is nearest to this one.
-fn nearest(place: i64, last: usize) -> usize
+fn nearest(place: i32, last: usize) -> usize
     ensures { result ≤ last }
 {
     match usize::try_from(place) {

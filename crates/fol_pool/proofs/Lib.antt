@@ -1,5 +1,4 @@
 -- the ticks of a worker
-pub mod ToldAgain
 pub mod Asked
 pub mod Going
 pub mod TickSteps

@@ -42,7 +42,7 @@ use Rattle.fol_live.proofs.Hosted.{goes_still, goes_turn}
 use Rattle.fol_pool.specs.Works.{Calm, HasRun, Holds, SameSeat, Works}
 use Rattle.fol_pool.proofs.Asked.{turns_asked}
 use Rattle.fol_pool.proofs.Going.{begun_rest, calm_goes, goes_looks, signed_rest, stopped_before, stopped_to, turns_still, turns_to, works_still}
-use Rattle.fol_pool.proofs.ToldAgain.{told_again}
+use Rattle.fol_tick_laws.proofs.ToldAgain.{told_again}
 
 -- ---- the Begin
 

@@ -33,7 +33,9 @@ mod world_printer;
 mod worlds;
 
 pub use errors::ReadError;
-pub use numbers::read_number;
+pub use forms::key_of;
+pub use lines::next_word;
+pub use numbers::{is_natural, read_number};
 pub use script_printer::print_script;
 pub use scripts::read_script;
 pub use world_printer::print_world;

@@ -19,7 +19,7 @@ fn all_digits(word: &[u8]) -> bool
 }
 
 /// Whether the word is a number that is not negative: digits, the first 0 only where it stands alone.
-fn is_natural(word: &[u8]) -> bool
+pub fn is_natural(word: &[u8]) -> bool
     ensures { result ≡ spec.is_natural word.now }
 {
     match word {

@@ -29,7 +29,7 @@ alone d ds h e = elim (or_cases (not (eqb d 48)) (eqb (length ds) 0) h) [
   | inr b ↦ ap suc (eqb-true _ _ b)
 ]
 
-natural_spelled : (w : List ℕ) (n : ℕ) → natural w ≡ Some n → n < 2 ^ 64 → decimal n ≡ w
+pub natural_spelled : (w : List ℕ) (n : ℕ) → natural w ≡ Some n → n < 2 ^ 64 → decimal n ≡ w
 natural_spelled [] n e small = absurd cc
 natural_spelled (d ∷ ds) n e small = elim (cases_Bool (is_natural (d ∷ ds))) [
   | inl h ↦
@@ -104,7 +104,7 @@ first_is (suc n) d ds e small =
     let k : eqb d 48 ≡ false = grind (arith, nat_tests) in
     rw k refl
 
-natural_again : (n : ℕ) (w : List ℕ) → w ≡ decimal n → n < 2 ^ 64 → natural w ≡ Some n
+pub natural_again : (n : ℕ) (w : List ℕ) → w ≡ decimal n → n < 2 ^ 64 → natural w ≡ Some n
 natural_again n [] e small = absurd (let k = decimal_nonempty n small in omega (arith, k, ap length e))
 natural_again n (d ∷ ds) e small =
     let digits : list_all is_ascii_digit (d ∷ ds) ≡ true = subst (λ (v : List ℕ). list_all is_ascii_digit v ≡ true) (sym e) (digits_decimal own n small) in

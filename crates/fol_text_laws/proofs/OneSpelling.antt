@@ -24,16 +24,17 @@ use Rattle.fol_text_laws.proofs.Numerals.{reading_is, reading_again}
 
 -- ---- keys
 
-find_spelled : (w : List ℕ) (ks : List Keyword) (key : Keyword) → find (λ k. bytes_eq w (key_spelled k)) ks ≡ Some key → w ≡ key_spelled key
-find_spelled w [] key e = absurd cc
-find_spelled w (k ∷ ks) key e = elim (cases_Bool (bytes_eq w (key_spelled k))) [
-  | inl h ↦ let s : Some k ≡ Some key = rw h at e in let t : k ≡ key = cc in same_text w (key_spelled k) (sym h) ∙ ap key_spelled t
-  | inr h ↦ find_spelled w ks key (rw h at e)
+-- a word that is found among keys by its spelling is the spelling of what is found
+pub find_spelled : {K : Type 0} (spelt : K → List ℕ) (w : List ℕ) (ks : List K) (key : K) → find (λ k. bytes_eq w (spelt k)) ks ≡ Some key → w ≡ spelt key
+find_spelled spelt w [] key e = absurd cc
+find_spelled {K} spelt w (k ∷ ks) key e = elim (cases_Bool (bytes_eq w (spelt k))) [
+  | inl h ↦ let s : Some k ≡ Some key = rw h at e in let t : k ≡ key = cc in same_text w (spelt k) (sym h) ∙ ap spelt t
+  | inr h ↦ find_spelled spelt w ks key (rw h at e)
 ]
 
 pub key_is : (w : List ℕ) (key : Keyword) → key_of w ≡ Some key → w ≡ key_spelled key
 unfolding key_of
-key_is w key e = find_spelled w all_keys key e
+key_is w key e = find_spelled key_spelled w all_keys key e
 
 pub key_again : (key : Keyword) → key_of (key_spelled key) ≡ Some key
 unfolding key_of

@@ -2,3 +2,4 @@ pub mod FreshArrivals
 pub mod BegunTicks
 pub mod FinishedTicks
 pub mod OpenTicks
+pub mod ToldAgain
