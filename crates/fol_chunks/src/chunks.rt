@@ -85,7 +85,7 @@ impl Chunks {
         blocks::number_at(&self.blocks, at)
     }
 
-    /// All blocks with a number above 0, by x, then y, then z. Answers want of memory alone.
+    /// All blocks with a number above 0, by x, then y, then z. Fails only when out of memory.
     pub fn blocks(&self, alloc: Global) -> Result<Vec<BlockAt>, AllocError>
         ensures numbers { IfOk result (λ v. block_in v.items ≡ (flat_of self.now).blocks) }
         ensures order { IfOk result (λ v. IsStrictlySortedBy by_place v.items) }

@@ -54,7 +54,7 @@ covers_disturbed xs g c f k same cov r x = cov r (let b = same r in rw b at x)
 not_below : (k m : ℕ) → m ≤ k → nat_lt k m ≡ false
 not_below k m l = elim (cases_Bool (nat_lt k m)) [ inl e ↦ let x = ltb-true k m e in absurd (omega arith) | inr e ↦ e ]
 
--- ---- a hold more, in the middle of an End
+-- ---- an added hold, in the middle of an End
 module _ (t : Tables) (v : Contents) (w : World) (since : ℕ → ℕ) (r n : ℕ) (u : Underway t v w since r (n + 1)) (c : ChunkPos) (limits : is_chunk c ≡ true) where
   abbrev g : GridState
   g = w.grid

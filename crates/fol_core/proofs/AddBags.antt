@@ -1,4 +1,4 @@
--- The bags after a hold more.
+-- The bags after an added hold.
 use Rattle.std.proofs.Common.{◌≡◌, ◌≢◌, ℕ, ◌+◌, ◌≤◌, ◌<◌, le_antisymm, refl, sym, ◌∙◌, ap, arith, Bool, true, false, inl, inr, List, [], ◌∷◌, ◌&&◌, not, filter}
 use Rattle.std.specs.Prelude.{nat_eq, nat_lt}
 use Rattle.std.proofs.Math.Path.{fun_ext}

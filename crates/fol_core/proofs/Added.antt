@@ -1,4 +1,4 @@
--- A hold more: bags, counters and stack after it.
+-- An added hold: bags, counters and stack after it.
 use Rattle.std.proofs.Common.{◌≡◌, ◌≢◌, ℕ, ◌+◌, ◌≤◌, ◌<◌, refl, sym, ◌∙◌, ap, arith, true, false, inl, inr, ◌⊎◌, List, [], ◌∷◌, ◌++◌, length, ◌&&◌, not}
 use Rattle.std.specs.Prelude.{nat_eq, nat_lt}
 use Rattle.std.proofs.lemmas.Bool.{cases_Bool, cases_eq, eqb-true, eq-eqb, ne_eqb, leb-true, lt-ltb, ltb-true, and_parts, and_from, and_right, or_right, true≢false}
@@ -56,7 +56,7 @@ ready_of Transient a b e = absurd (e refl)
 ready_of Ticking a b e = absurd (true≢false (sym a))
 ready_of Dead a b e = absurd (b refl)
 
--- all of it, for the grid h and the change ch of a hold more
+-- all of it, for the grid h and the change ch of an added hold
 pub record AddedBags (g h : GridState) (c : ChunkPos) (ch : Changes) (owed owed' tick : ℕ → ℕ) (recorded : ℕ → Recorded) (f : ℕ → Bag) : Type 0 where
   pub bags : (r : ℕ) → IsBagBut h tick owed' recorded (h.owner (section_of g.grid c)) r (changed_bags ch f r)
   -- a chunk that was held already is no chunk more
@@ -67,7 +67,7 @@ pub record AddedBags (g h : GridState) (c : ChunkPos) (ch : Changes) (owed owed'
   pub covers : (xs : List ℕ) → Covers xs g f → Covers (xs ++ target_in ch.merges) h (changed_bags ch f)
   pub next : h.next ≡ g.next + length ch.created
 
--- the bags after a hold more, where the region that has a chunk more has to be gathered anew
+-- the bags after an added hold, where the region that has a chunk more has to be gathered anew
 pub gained_bags : (g h : GridState) (c : ChunkPos) (ch : Changes) (owed owed' tick : ℕ → ℕ) (recorded : ℕ → Recorded) (f : ℕ → Bag) → h ≡ add g c → AddedBags g h c ch owed owed' tick recorded f
     → ((r : ℕ) → h.state r ≢ Dead → 0 < r) → (r : ℕ) → IsBagOf h tick owed' recorded r (followed (gaining g.grid g c) ch f r)
 unfolding gaining
@@ -102,7 +102,7 @@ module _ (g : GridState) (c : ChunkPos) (rules : Rules g) (ok : IsGrid g.grid) (
       | inr s ↦ rw s refl
     ]
 
-    -- a hold more of a chunk that was held gives no region a chunk more
+    -- an added hold of a chunk that was held gives no region a chunk more
     same_chunks : is_loaded g c ≡ true → (r : ℕ) (q : ChunkPos) → is_chunk_of (counted g c) r q ≡ is_chunk_of g r q
     same_chunks l r q = elim (cases_Bool (same_chunk c q)) [
       | inl s ↦ let e : c ≡ q = same_chunk-true c q s in
@@ -273,7 +273,7 @@ module _ (g : GridState) (c : ChunkPos) (rules : Rules g) (ok : IsGrid g.grid) (
       | inr room ↦ let same = owed_counted room w in rw (room, w) (counted_bags (owed_after_add g c owed) same)
     ]
 
-    -- what a hold more does to bags and stack
+    -- what an added hold does to bags and stack
     pub added_bags : AddedBags g (add g c) c (add_change g c) owed (owed_after_add g c owed) tick recorded f
     added_bags = elim (cases_Bool (is_full g c)) [
       | inl full ↦ small_bags (inl full)

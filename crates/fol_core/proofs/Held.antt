@@ -1,4 +1,4 @@
--- A hold more of a chunk: what it needs, and what the tables stand for after it.
+-- An added hold of a chunk: what it needs, and what the tables stand for after it.
 use Rattle.std.proofs.Common.{◌≡◌, ℕ, zero, suc, ◌+◌, ◌≤◌, ◌<◌, ◌^◌, refl, sym, ◌∙◌, ap, arith, Bool, true, false, inl, inr, List, [], ◌∷◌, length}
 use Rattle.std.specs.Prelude.{Option}
 use Rattle.std.specs.Global.{Vec}
@@ -150,7 +150,7 @@ module _ (o : Opening) (h : List Entry) (t : Tables) (s : Stands o h t) where
       tickets = room.tickets;
     }
 
-    -- the store after a hold more
+    -- the store after an added hold
     module _ (e : Event) (ok : Allowed w e) (no_begin : (r : ℕ) → is_begin r e ≡ false) (no_end : (r : ℕ) → is_end r e ≡ false) (m : HeldMore w (after w e) c) where
       pub held_flat : (k : Stock) → flat_of k ≡ flat_of t.store → flat_of k ≡ outside (in_hands (after w e).grid (after w e).recorded) (after w e).flat
       held_flat k f = f ∙ s.fits.stored.flat ∙ sym (ap (λ (x : Recorded). outside x (after w e).flat) (hands_by w e good.sound ok no_begin no_end) ∙ ap (λ (x : Flat). outside (in_hands w.grid w.recorded) x) m.flat)

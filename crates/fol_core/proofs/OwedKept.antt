@@ -37,7 +37,7 @@ use Rattle.fol_laws.proofs.WholeRuns.{Good, good_after}
 use Rattle.fol_laws.proofs.WishLimits.{WishOk}
 use Rattle.fol_core.proofs.CalmRuns.{Calm, calm_after}
 
--- the target of a hold more does not tick
+-- the target of an added hold does not tick
 module _ (g : GridState) (c : ChunkPos) (rules : Rules g) (ok : IsGrid g.grid) (limits : is_chunk c ≡ true) (q : ℕ) (ticks : g.state q ≡ Ticking) where
   not_target : q ≢ target g c
   not_target e = elim (target_is g c rules ok limits) [

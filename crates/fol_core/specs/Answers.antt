@@ -127,7 +127,7 @@ end_event w worker r ran = events.End worker r (w.tick r + 1) ran (answers (run_
 abbrev pub is_ticking_in : World → ℕ → Bool
 is_ticking_in w r = is_ticking (w.grid.state r)
 
--- a region ticks, and this is the lowest such one; want of memory needs no cause
+-- a region ticks, and this is the lowest such one; out of memory needs no cause
 abbrev pub Faults : World → CloseFault → Type 0
 Faults w (faults.Ticking r) = (some_below (is_ticking_in w) w.grid.next ≡ true) × (r ≡ least (is_ticking_in w) w.grid.next)
 Faults w faults.NoMemory = Unit {0}

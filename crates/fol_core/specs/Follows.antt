@@ -26,11 +26,11 @@ use Rattle.fol_core.specs.Bags.{CanJoin, Follow, joined_bags, opened_bags, unset
 use Rattle.fol_core.specs.Agenda.{Covers, HaveBags, IsAgenda}
 use Rattle.fol_core.specs.Same.{SameThings}
 
--- the region that has a chunk more after a hold more of c, and 0 where c was held already
+-- the region that has a chunk more after an added hold of c, and 0 where c was held already
 unfoldable pub gaining : Grid → GridState → ChunkPos → ℕ
 gaining n g c = if is_loaded g c then 0 else (add g c).owner (section_of n c)
 
--- the region of the section s of c, which has a chunk less after a hold less of c, and 0 where c had another number of holds than 1
+-- the region of the section s of c, which has a chunk less after a removed hold of c, and 0 where c had another number of holds than 1
 unfoldable pub losing : SectionPos → GridState → ChunkPos → ℕ
 losing s g c = if nat_eq (g.holds c) 1 then g.owner s else 0
 
@@ -63,7 +63,7 @@ pub record CanCover (xs : List ℕ) (h : GridState) (ch : Changes) (f : ℕ → 
   pub bags : HaveBags h f
   pub covers : Covers (xs ++ target_in ch.merges) h f
 
--- there is memory for a hold more of c, and bags and stack can follow it
+-- there is memory for an added hold of c, and bags and stack can follow it
 pub record CanHold (t : Tables) (c : ChunkPos) : Type 0 where
   pub in_range : IsTrue (is_chunk c)
   pub spare : 1 ≤ t.regions.spare
@@ -93,7 +93,7 @@ load_answer_in g c = if is_full g c then Full (present_count g) (wanted g c) els
 abbrev pub tickets_after : Bool → (ChunkPos → ℕ) → ChunkPos → ChunkPos → ℕ
 tickets_after full tickets c q = if full then tickets q else (if same_chunk c q then tickets c + 1 else tickets q)
 
--- a ticket and a hold less, unless there was none
+-- a ticket and a removed hold, unless there was none
 pub record Drops (old new : Tables) (c : ChunkPos) (none : Bool) : Type 0 where
   pub grid : new.grid ≡ old.grid
   pub regions : grid_state new.regions ≡ (if none then grid_state old.regions else drop_hold (grid_state old.regions) c)

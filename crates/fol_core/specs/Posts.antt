@@ -30,7 +30,7 @@ pub record Queues (old new : Tables) (c : ChunkPos) (delay : ℕ) (action : Acti
   pub agenda : new.agenda ≡ old.agenda
   pub course : new.course ≡ record old.course { next_job = old.course.next_job + 1 }
 
--- the memory that a hold more leaves, where so many regions were made
+-- the memory that an added hold leaves, where so many regions were made
 pub record LeavesRoom (old new : Tables) (made : ℕ) : Type 0 where
   pub regions : old.regions.spare ≤ new.regions.spare + 1
   pub slots : old.store.slots ≤ new.store.slots + made

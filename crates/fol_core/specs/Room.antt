@@ -35,7 +35,7 @@ HasRoom (Some room) t h = BeginRoom room t h
 abbrev pub StopRoom : Course → Vec Entry → Type 0
 StopRoom c h = (c.finished || c.stopped) ≡ false → vec_len h < vec_capacity h
 
--- there is memory for an entry with one hold more, for so many tasks, and for a Stop after it
+-- there is memory for an entry with one hold added, for so many tasks, and for a Stop after it
 pub record HasGrown (t : Tables) (h : Vec Entry) (wanted : ℕ) : Type 0 where
   pub size : t.course.size < 2 ^ 50
   pub history : vec_len h + 2 ≤ vec_capacity h

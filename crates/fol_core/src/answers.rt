@@ -64,6 +64,6 @@ pub enum Finish {
 pub enum CloseFault {
     /// This region ticks; it is the lowest such one.
     Ticking(u64),
-    /// Want of memory.
+    /// Out of memory.
     NoMemory,
 }

@@ -40,7 +40,7 @@ struct Begun {
 
 impl Core {
     /// Takes the memory for a Begin of this region. The region is then ready to begin, until the next call that changes the core.
-    /// After want of memory nothing has changed, but an earlier readiness for a Begin may be lost.
+    /// If memory runs out, nothing has changed, but an earlier readiness for a Begin may be lost.
     pub fn reserve(&mut self, alloc: Global, id: u64) -> Result<(), AllocError>
         requires given { IsGiven (world_of self.old) id }
         ensures ready { OnOk result (IsReadyToBegin self.new id) }

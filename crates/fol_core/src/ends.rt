@@ -40,7 +40,7 @@ use fol_regions::{Regions, Removed};
 use fol_store::Store;
 use std::collections::VecDeque;
 
-/// Ends a finished tick: its holds are dropped, its wishes accepted, and its region released. Answers the event.
+/// Ends a finished tick: its holds are dropped, its wishes accepted, and its region released. Returns the event.
 pub(crate) fn end_tick(tables: &mut Tables, tick: Tick, mut accepts: Vec<Accept>) -> Event
     requires may { MayEnd tables.old tick }
     requires empty { accepts.items ≡ [] }

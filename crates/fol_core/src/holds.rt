@@ -29,7 +29,7 @@ use std::alloc::AllocError;
 
 impl Core {
     /// Adds a ticket to a chunk. Records the load by this caller with its answer, but at Over, which comes exactly where the
-    /// history is finished, and which changes nothing, the readiness for a Begin included. After want of memory nothing has changed,
+    /// history is finished, and which changes nothing, the readiness for a Begin included. If memory runs out, nothing has changed,
     /// but the readiness may be lost.
     pub fn load(&mut self, caller: u32, c: ChunkPos) -> Result<Loaded, AllocError>
         requires in_range { IsTrue (is_chunk c) }
@@ -53,7 +53,7 @@ impl Core {
     }
 
     /// Takes a ticket from a chunk. Records the unload by this caller with its answer, but at Over, which comes exactly where the
-    /// history is finished, and which changes nothing, the readiness for a Begin included. After want of memory nothing has changed,
+    /// history is finished, and which changes nothing, the readiness for a Begin included. If memory runs out, nothing has changed,
     /// but the readiness may be lost.
     pub fn unload(&mut self, caller: u32, c: ChunkPos) -> Result<Unloaded, AllocError>
         requires in_range { IsTrue (is_chunk c) }
@@ -122,7 +122,7 @@ fn lower(regions: &mut Regions, store: &mut Store, home: SectionPos, c: ChunkPos
     }
 }
 
-/// Counts a hold more of a chunk, and lets bags and stack follow.
+/// Adds a hold on a chunk, and lets bags and stack follow.
 #[tactic(auto, unfolding(crate::specs::Follows::gaining))]
 pub(crate) fn hold(tables: &mut Tables, c: ChunkPos) -> AddAnswer
     requires { CanHold tables.old c }

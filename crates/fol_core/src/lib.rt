@@ -1,6 +1,6 @@
 //! The machine of one thread: a core stands for an opening and a history that is a run of it.
 //!
-//! Each call answers what the world after the history says, and adds the entry that it says. The tables inside are the world after
+//! Each call returns what the world after the history says, and adds the entry that it says. The tables inside are the world after
 //! the history, so no call replays it. Nothing here waits or starts a thread: a lock round a core makes a shared world of it.
 #![tactic(auto)]
 

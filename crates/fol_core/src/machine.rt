@@ -57,7 +57,7 @@ impl Model for Core {
 }
 
 impl Core {
-    /// The world of an opening, before any event. Answers want of memory alone.
+    /// The world of an opening, before any event. Fails only when out of memory.
     pub fn start(alloc: Global, opening: Opening) -> Result<Core, AllocError>
         ensures opening { IfOk result (λ core. core.opening ≡ opening) }
         ensures empty { IfOk result (λ core. core.history ≡ []) }

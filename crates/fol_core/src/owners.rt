@@ -15,7 +15,7 @@ use std::alloc::{AllocError, Global};
 
 impl Core {
     /// A row for each present section, by `(z, x)`, with the region that owns it: the owners of a closing after this history. Goes over
-    /// the present sections alone, and takes memory for their rows. Answers want of memory alone.
+    /// the present sections alone, and takes memory for their rows. Fails only when out of memory.
     pub fn owner_rows(&self) -> Result<Vec<OwnerRow>, AllocError>
         ensures { IfOk result (λ rows. rows.items ≡ owner_rows (world_of self.now)) }
     {

@@ -24,7 +24,7 @@ use fol_regions::AddAnswer;
 impl Core {
     /// Asks for a task on a chunk, in the `delay`-th tick that the chunk's region then begins. Records the post by this caller with
     /// its answer, but at Over, which comes exactly where the history is finished, hands the action back and changes nothing, the
-    /// readiness for a Begin included. After want of memory, which hands the action back, nothing has changed, but the readiness may
+    /// readiness for a Begin included. If memory runs out, which hands the action back, nothing has changed, but the readiness may
     /// be lost.
     pub fn post(
         &mut self,
@@ -110,7 +110,7 @@ fn posting(answer: Accept) -> Posting
     }
 }
 
-/// Queues the next task, which is due in the `delay`-th tick that its chunk's region begins from now on. Answers its number.
+/// Queues the next task, which is due in the `delay`-th tick that its chunk's region begins from now on. Returns its number.
 pub(crate) fn queue(tables: &mut Tables, chunk: ChunkPos, delay: u32, action: Action) -> u64
     requires { CanQueue tables.old delay }
     ensures number { result ≡ tables.old.course.next_job }

@@ -21,7 +21,7 @@ const PARTS: u64 = 1820;
 const WISHES: u64 = u32::MAX as u64;
 
 impl Core {
-    /// Ends a tick that `begin` gave out and that is finished. Answers the new length of the history. After want of memory the tick is
+    /// Ends a tick that `begin` gave out and that is finished. Returns the new length of the history. If memory runs out, the tick is
     /// handed back, and nothing has changed, but the readiness for a Begin may be lost.
     pub fn release(&mut self, alloc: Global, tick: Tick) -> Result<u64, Tick>
         requires out { IsOut self.old tick }

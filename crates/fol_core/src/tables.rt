@@ -67,7 +67,7 @@ pub(crate) fn grow_history(history: &mut Vec<Entry>, course: &Course) -> Result<
     Ok(())
 }
 
-/// Takes the memory for an entry with one hold more, for so many tasks, and for a Stop after it.
+/// Takes the memory for an entry with one hold added, for so many tasks, and for a Stop after it.
 pub(crate) fn grow(
     tables: &mut Tables,
     history: &mut Vec<Entry>,

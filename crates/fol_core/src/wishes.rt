@@ -36,7 +36,7 @@ pub(crate) fn accept_all(
     }
 }
 
-/// Accepts a wish, and answers under which number, or why not.
+/// Accepts a wish, and returns under which number, or why not.
 fn accept_one(tables: &mut Tables, chunks: &mut Chunks, wish: Wish) -> Accept
     requires { MayAccept tables.old chunks.old wish }
     ensures accepted { (w : World) (since : ℕ → ℕ) (r n : ℕ) → Underway tables.old chunks.old w since r (n + 1) → WishOk (w.recorded r) wish → IsFree w wish → Underway tables.new chunks.new (accepted w wish) since r n }

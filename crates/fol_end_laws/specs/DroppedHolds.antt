@@ -6,7 +6,7 @@ use Rattle.fol_model.specs.Drop.{drop_hold}
 use Rattle.fol_model.specs.World.{World, due}
 use Rattle.fol_model.specs.End.{dropped}
 
--- a hold less of the chunk of each task
+-- a removed hold of the chunk of each task
 abbrev pub drop_each : GridState → List Task → GridState
 drop_each g [] = g
 drop_each g (t ∷ ts) = drop_each (drop_hold g t.chunk) ts

@@ -4,8 +4,8 @@
 //! visits that are due, each with the block at which the entity stands. A visit changes nothing in the world.
 //!
 //! 1. `Book::start` makes a book of an opening, with 1 to 64 numbered seats.
-//! 2. `Book::ask` asks for an entity in the n-th visit from now that has it, and answers a number, or Unknown.
-//! 3. `Book::visit` shows a tick that has run, before it is given back, and answers the visits that it makes, or Again.
+//! 2. `Book::ask` asks for an entity in the n-th visit from now that has it, and returns a number, or Unknown.
+//! 3. `Book::visit` shows a tick that has run, before it is given back, and returns the visits that it makes, or Again.
 //! 4. `BookSeat::number` tells which seat it is.
 //! 5. `Book::close` takes all seats back and gives all that was recorded, and the asks that are left.
 //!

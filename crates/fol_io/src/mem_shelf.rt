@@ -127,7 +127,7 @@ impl MemShelf {
         }
     }
 
-    /// What the next read answers.
+    /// What the next read returns.
     fn answer(&self, alloc: Global, name: &str, limit: u64) -> Read
         ensures whole { IfWhole result (λ bytes. held_under self.now name.now ≡ Some bytes) }
         ensures within { IfWhole result (λ bytes. length bytes ≤ limit) }

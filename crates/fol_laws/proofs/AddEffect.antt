@@ -130,7 +130,7 @@ module _ (g : GridState) (c : ChunkPos) (rules : Rules g) (ok : IsGrid g.grid) (
   pub target_owner : (s : SectionPos) → is_wanted g c s ≡ true → (extended g c).owner s ≡ target g c
   target_owner s w = rw w refl
 
-  -- a hold more: what was loaded, or the chunk
+  -- an added hold: what was loaded, or the chunk
   pub loaded_after : (q : ChunkPos) → 0 < at_chunk g.holds c (g.holds c + 1) q → (q ≡ c) ⊎ (0 < g.holds q)
   loaded_after q h = elim (cases_Bool (same_chunk c q)) [
     | inl e ↦ inl (sym (same_chunk-true c q e))

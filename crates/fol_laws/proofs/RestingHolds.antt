@@ -51,7 +51,7 @@ module _ (r : ℕ) (w : World) (s : SoundWorld w) (ready : w.grid.state r ≡ Re
     pub loaded : (q : ChunkPos) → ground w.grid r q ≡ true → is_loaded (add w.grid c) q ≡ is_loaded w.grid q
     pub owed : owed_after_add w.grid c w.owed r ≡ w.owed r
 
-  -- a hold more of a chunk that is loaded, or not of r
+  -- an added hold of a chunk that is loaded, or not of r
   still_loaded : (c q : ChunkPos) → is_full w.grid c ≡ false → (ground w.grid r c && not (is_loaded w.grid c)) ≡ false → ground w.grid r q ≡ true → is_loaded (add w.grid c) q ≡ is_loaded w.grid q
   still_loaded c q f n h = ap (λ (k : ℕ). nat_lt 0 k) (holds_add w.grid c q f) ∙ elim (cases_Bool (same_chunk c q)) [
     | inl e ↦ let x = same_chunk-true c q e in
@@ -134,7 +134,7 @@ module _ (r : ℕ) (w : World) (s : SoundWorld w) (ready : w.grid.state r ≡ Re
         m.stays (grid_add w.grid c) m.sections m.loaded m.owed refl (λ k. queued_off c d a k (post_off c f n)) refl refl)
   ]
 
-  -- a hold less: of a chunk that is not of r, that has no ticket, or that has another hold
+  -- a removed hold: of a chunk that is not of r, that has no ticket, or that has another hold
   pub rest_unloaded : (c : ChunkPos) → unload_touches w c r ≡ false → Resting r w (unloaded w c)
   unfolding unloaded drop_hold
   rest_unloaded c n = elim (cases_Bool (nat_eq (w.tickets c) 0)) [

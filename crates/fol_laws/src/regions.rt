@@ -11,12 +11,12 @@ pub fn empty_has_rules()
     ensures { EmptyHasRules }
 {}
 
-/// A hold more of a chunk keeps the rules.
+/// Adding a hold on a chunk keeps the rules.
 pub fn add_keeps_rules()
     ensures { AddKeepsRules }
 {}
 
-/// A hold less of a chunk keeps the rules.
+/// Removing a hold on a chunk keeps the rules.
 pub fn drop_keeps_rules()
     ensures { DropKeepsRules }
 {}
@@ -31,7 +31,7 @@ pub fn release_keeps_rules()
     ensures { ReleaseKeepsRules }
 {}
 
-/// A Ticking region keeps its sections at a hold more of any chunk.
+/// A Ticking region keeps its sections when a hold on any chunk is added.
 pub fn add_keeps_ticking_sections()
     ensures { AddKeepsTickingSections }
 {}
@@ -41,7 +41,7 @@ pub fn release_keeps_ticking_sections()
     ensures { ReleaseKeepsTickingSections }
 {}
 
-/// The sections of a hold more go to the largest near region that is not Ticking, or to a new one.
+/// The sections that an added hold wants go to the largest near region that is not Ticking, or to a new one.
 pub fn add_targets_the_largest()
     ensures { AddTargetsTheLargest }
 {}

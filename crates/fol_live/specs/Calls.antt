@@ -52,7 +52,7 @@ pub record Unloads (old new : Shown) (c : ChunkPos) (r : Result Unloaded AllocEr
   pub recorded : IfOk r (λ a. UnloadRecords (meaning_of now) (meaning_of new) old.number c a)
   pub refused : OnErr r (Stays (meaning_of now) (meaning_of new))
 
--- a task was asked for; want of memory hands the action back
+-- a task was asked for; out of memory hands the action back
 pub record Posts (old new : Shown) (c : ChunkPos) (d : ℕ) (x : Action) (r : Result Posting Action) : Type 0 where
   pub now : Shown
   pub turn : Turn old now new
@@ -98,7 +98,7 @@ pub record Begins (old new : Shown) (r : Result LiveBegin AllocError) : Type 0 w
   pub recorded : IfOk r (λ a. LiveBegins (meaning_of now) (meaning_of new) old.number a)
   pub refused : OnErr r (Stays (meaning_of now) (meaning_of new))
 
--- a tick was given back: the answer is how long the history is with its End; want of memory hands the same tick back
+-- a tick was given back: the answer is how long the history is with its End; out of memory hands the same tick back
 pub record Releases (old new : Shown) (tick : Tick) (r : Result ℕ Tick) : Type 0 where
   pub now : Shown
   pub turn : Turn old now new

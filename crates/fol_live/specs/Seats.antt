@@ -56,7 +56,7 @@ pub record Unclosed (seats : List Shown) (r : ℕ) : Type 0 where
   pub of : AreOf seats opening history
   pub ticks : Faults (world opening history) (faults.Ticking r)
 
--- want of memory needs no cause
+-- out of memory needs no cause
 abbrev pub ClosingFault : List Shown → CloseFault → Type 0
 ClosingFault seats (faults.Ticking r) = Unclosed seats r
 ClosingFault seats faults.NoMemory = Unit {0}

@@ -1,4 +1,4 @@
-//! What the calls of a shared world answer, where a core's own answers don't say it.
+//! What the calls of a shared world return, where a core's own answers don't say it.
 
 use fol_core::Tick;
 use fol_model::OwnerRow;

@@ -24,7 +24,7 @@ use std::sync::Wait;
 ///
 /// Each call with a seat waits for the seat's turn, and nothing is promised of when it returns. Its answer is that of a core at this
 /// turn. The seat's number and opening stay; what it has seen goes on to the whole history, which is a run of the opening; and its own
-/// entries grow by the one event of the call, last in what it has seen, or by none. Want of memory records nothing.
+/// entries grow by the one event of the call, last in what it has seen, or by none. Out of memory records nothing.
 #[derive(Drop)]
 pub struct Live {
     pub(crate) lock: Lock<World>,
@@ -39,7 +39,7 @@ pub struct LiveAndSeats {
 }
 
 impl Live {
-    /// The world of an opening before any event, with 1 to 65 seats. Answers want of memory alone.
+    /// The world of an opening before any event, with 1 to 65 seats. Fails only when out of memory.
     pub fn start(alloc: Global, opening: Opening, callers: u32) -> Result<LiveAndSeats, AllocError>
         requires count { (0 < callers) × (callers ≤ 65) }
         ensures count { IfOk result (λ made. seat_count made.live.lock ≡ callers) }
@@ -58,8 +58,8 @@ impl Live {
     }
 
     /// Ends the world, given all its seats. The closing's opening is theirs, its history begins with what each has seen and has of
-    /// each just its own entries, and no others, and its rows are those after that history. Answers Ticking exactly where a region
-    /// ticks, with the lowest such id, or want of memory; all is then dropped.
+    /// each just its own entries, and no others, and its rows are those after that history. Returns Ticking exactly where a region
+    /// ticks, with the lowest such id, or out of memory; all is then dropped.
     pub fn close(self, alloc: Global, seats: Vec<Seat>) -> Result<Closing, CloseFault>
         requires own { All (λ seat. seat.lock ≡ live_id self) seats.items }
         requires all { AreAllSeats (seat_count self.lock) seats.items }
@@ -132,7 +132,7 @@ impl Live {
     }
 
     /// Asks for a task on a chunk, with the seat's number as the caller. Over, which hands the action back, exactly where Finish
-    /// stands in the history; only Over is not recorded. Want of memory hands the action back too.
+    /// stands in the history; only Over is not recorded. Out of memory hands the action back too.
     pub fn post<R: Wait>(
         &self,
         rt: &R,
@@ -236,7 +236,7 @@ impl Live {
         answer
     }
 
-    /// Ends a tick of this seat that has run. Answers the length of the history with its End, or want of memory with the tick, which is
+    /// Ends a tick of this seat that has run. Returns the length of the history with its End, or out of memory with the tick, which is
     /// the same. It also works after a Stop.
     pub fn release<R: Wait>(
         &self,
@@ -258,7 +258,7 @@ impl Live {
     }
 }
 
-/// These owners after so much of the history, or want of memory.
+/// These owners after so much of the history, or out of memory.
 fn owners_after(front: u64, answer: Result<Vec<OwnerRow>, AllocError>) -> Result<Owners, AllocError>
     ensures front { IfOk result (λ o. o.front ≡ front) }
     ensures rows { (list : List OwnerRow) → IfOk answer (λ v. v.items ≡ list) → IfOk result (λ o. o.rows.items ≡ list) }

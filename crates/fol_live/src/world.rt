@@ -51,7 +51,7 @@ impl Kept for World {
 }
 
 impl World {
-    /// The world of an opening, before any event. Answers want of memory alone.
+    /// The world of an opening, before any event. Fails only when out of memory.
     pub(crate) fn start(alloc: Global, opening: Opening) -> Result<World, AllocError>
         ensures opening { IfOk result (λ w. w.opening ≡ opening) }
         ensures empty { IfOk result (λ w. w.history ≡ []) }

@@ -1,4 +1,4 @@
--- A hold more of a chunk: the sections that it needs come, and the near regions that do not tick become one.
+-- An added hold of a chunk: the sections that it needs come, and the near regions that do not tick become one.
 use Rattle.std.specs.Prelude.{ℕ, ◌+◌, Bool, not, ◌&&◌, ◌||◌, nat_eq, nat_lt, if◌then◌else◌}
 use Rattle.fol_model.specs.declared.places.TheConstants.{MOST_SECTIONS}
 use Rattle.fol_model.specs.Counting.{some_below, least}

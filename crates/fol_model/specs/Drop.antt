@@ -1,4 +1,4 @@
--- A hold less of a chunk. No section and no region changes until a release.
+-- A removed hold of a chunk. No section and no region changes until a release.
 use Rattle.std.specs.Prelude.{◌-◌}
 use Rattle.fol_model.specs.declared.places.ChunkPos.{ChunkPos}
 use Rattle.fol_model.specs.GridState.{GridState, at_chunk}

@@ -1,4 +1,4 @@
--- Loads, unloads and posts: a hold more or less of a chunk.
+-- Loads, unloads and posts: a hold added or removed of a chunk.
 use Rattle.std.specs.Prelude.{ℕ, ◌+◌, ◌-◌, nat_eq, if◌then◌else◌, Some}
 use Rattle.fol_model.specs.Job.{queued}
 use Rattle.fol_model.specs.declared.places.ChunkPos.{ChunkPos}

@@ -84,7 +84,7 @@ pub(crate) fn post<R: Wait>(
     }
 }
 
-/// What a task does that runs `count` times, `period` ticks apart. Answers want of memory alone.
+/// What a task does that runs `count` times, `period` ticks apart. Fails only when out of memory.
 pub(crate) fn repeated(
     alloc: Global,
     period: u32,

@@ -16,7 +16,7 @@ use std::sync::Wait;
 use std::thread::Threads;
 
 /// Runs a script on the world of an opening, with 1 to 64 workers, and passes the gate in each tick. Worker 1 ticks on the calling
-/// thread, at the end of each phase alone, and each further worker on a thread of its own, where one can be started. Answers `AllocError`
+/// thread, at the end of each phase alone, and each further worker on a thread of its own, where one can be started. Returns `AllocError`
 /// where memory is short, and where a call of the live world gives an answer that only another use of it could bring, which no
 /// clause rules out.
 ///

@@ -1,4 +1,4 @@
--- The steps of a hold more, region by region.
+-- The steps of an added hold, region by region.
 use Rattle.std.proofs.Common.{◌≡◌, ◌⊎◌, ℕ, zero, suc, ◌+◌, ◌≤◌, ◌<◌, refl, sym, ◌∙◌, ap, arith, Bool, true, false, cond, not, ◌&&◌, ◌||◌, List, [], ◌∷◌, ◌++◌, length, take, get_or, inl, inr, append_assoc}
 use Rattle.std.specs.Prelude.{◌≢◌, filter, nat_eq, nat_lt}
 use Rattle.std.specs.List.{list_any}

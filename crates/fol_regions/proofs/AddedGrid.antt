@@ -1,4 +1,4 @@
--- What the tables are after a hold more that wants sections.
+-- What the tables are after an added hold that wants sections.
 use Rattle.std.proofs.Common.{◌≡◌, ℕ, ◌+◌, ◌≤◌, ◌<◌, refl, sym, ◌∙◌, ap, arith, Bool, true, false, cond, not, ◌&&◌, ◌||◌, List, [], ◌∷◌, length, inl, inr}
 use Rattle.std.specs.Prelude.{◌≢◌, filter, nat_eq, nat_lt, nat_le, nat_abs}
 use Rattle.std.specs.List.{list_any}

@@ -1,4 +1,4 @@
--- The numbers that the dead sections of each region are at most, after a hold more and after a release.
+-- The numbers that the dead sections of each region are at most, after an added hold and after a release.
 use Rattle.std.proofs.Common.{◌≡◌, ℕ, ◌+◌, ◌≤◌, ◌<◌, refl, sym, ◌∙◌, ap, arith, Bool, true, false, inl, inr, not, ◌&&◌, List, [], ◌∷◌, length}
 use Rattle.std.specs.Prelude.{◌≢◌, nat_eq, nat_lt, if◌then◌else◌, min}
 use Rattle.std.specs.List.{list_any}
@@ -33,7 +33,7 @@ bounds_same g h most grid owner holds b = record { at = λ r p. omega (arith, b.
 pub bounds_none : (g : GridState) (most : List (ℕ × ℕ)) → Rules g → ((r : ℕ) → most_in most r ≡ 16384) → BoundsDead g (most_in most)
 bounds_none g most rules none = record { at = λ r p. omega (arith, dead_few g r rules p, none r) }
 
--- ---- a hold more
+-- ---- an added hold
 module _ (g : GridState) (c : ChunkPos) (rules : Rules g) (ok : IsGrid g.grid) (limits : is_chunk c ≡ true) where
   abbrev more : ChunkPos → ℕ
   more = at_chunk g.holds c (g.holds c + 1)

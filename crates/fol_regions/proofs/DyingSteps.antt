@@ -70,7 +70,7 @@ dead_fewer g h r was = count_by-mono (λ s. nat_eq (h.owner s) r && not (in_marg
     let m = w.1 in
     and_from (nat_eq (g.owner s) r) (not (in_margin g s)) (eq-eqb _ _ w.0) (rw m refl)) all_sections
 
--- ---- a hold less
+-- ---- a removed hold
 module _ (g h : GridState) (c : ChunkPos) (grid : h.grid ≡ g.grid) (owner : h.owner ≡ g.owner) (holds : h.holds ≡ at_chunk g.holds c (g.holds c - 1)) where
   still_loaded : (q : ChunkPos) → same_chunk c q ≡ false → h.holds q ≡ g.holds q
   still_loaded q n = ap (λ f. f q) holds ∙ rw n refl

@@ -1,4 +1,4 @@
--- The sections of a hold more go to the target.
+-- The sections that an added hold wants go to the target.
 use Rattle.std.proofs.Common.{◌≡◌, ℕ, ◌+◌, ◌≤◌, ◌<◌, refl, sym, ◌∙◌, ap, arith, Bool, true, false, cond, not, ◌&&◌, ◌||◌, List, [], ◌∷◌, length, inl, inr}
 use Rattle.std.specs.Prelude.{◌≢◌, nat_eq}
 use Rattle.std.specs.List.{list_any}

@@ -1,4 +1,4 @@
--- A hold more in both tables.
+-- An added hold in both tables.
 use Rattle.std.proofs.Common.{◌≡◌, ℕ, ◌+◌, ◌≤◌, ◌<◌, refl, sym, ◌∙◌, ap, arith, Bool, true, false, cond, not, ◌&&◌, ◌||◌, List, length, inl, inr}
 use Rattle.std.specs.Prelude.{filter, nat_eq, nat_lt}
 use Rattle.std.proofs.Math.Bool.{or-false, or-true}

@@ -71,7 +71,7 @@ module _ (grid : Grid) (s : sections.Table) (b : Book) (h : IsBook b) (same : s.
   }
 
 module _ (grid : Grid) (s : sections.Table) (b : Book) (events near made : ℕ) (k : IsKept grid s b events near made) where
-  -- ---- a hold less
+  -- ---- a removed hold
   module _ (e : sections.Table) (c : ChunkPos) (same : e.grid ≡ s.grid) (spare : e.spare ≡ s.spare) (holds : holds_of e ≡ at_chunk (holds_of s) c (holds_of s c - 1)) (presence : presence_of e ≡ presence_of s) where
     pub removed_state : grid_of e b ≡ drop_hold (grid_of s b) c
     unfolding grid_of drop_hold

@@ -1,4 +1,4 @@
--- What the steps of a hold more do to the tables of regions.
+-- What the steps of an added hold do to the tables of regions.
 use Rattle.std.specs.Prelude.{◌≡◌, ◌≢◌, ◌⊎◌, ◌∷◌, ℕ, ◌+◌, ◌<◌, ◌≤◌, Bool, true, false, not, ◌&&◌, ◌||◌, nat_eq, if◌then◌else◌, List, [], ◌++◌, length, filter}
 use Rattle.std.specs.List.{list_any}
 use Rattle.fol_lists.specs.Numbered.{total}
@@ -82,7 +82,7 @@ pub record Grows (old new : Book) (ids : List ℕ) (sections : List SectionPos) 
   pub ahead_room : new.ahead.room ≡ old.ahead.room
   pub behind_room : new.behind.room ≡ old.behind.room
 
--- what a hold more that wants sections changes in which regions there are
+-- what an added hold that wants sections changes in which regions there are
 abbrev pub extended_change : GridState → ChunkPos → Changes
 extended_change g c = record {
   created = if nat_eq (target g c) g.next then (g.next ∷ []) else [];

@@ -12,11 +12,11 @@ use Rattle.fol_sections.specs.declared.answers.Removed.TheVariants.{Gone, Lowere
 use Rattle.fol_regions.specs.declared.answers.Begun.{Begun}
 use Rattle.fol_regions.specs.declared.answers.Begun.TheVariants as begins
 
--- the answer to a hold more of a chunk
+-- the answer to an added hold of a chunk
 abbrev pub add_answer : GridState → ChunkPos → AddAnswer
 add_answer g c = if is_full g c then Full (present_count g) (wanted g c) else (if nat_eq (wanted g c) 0 then Counted else Changed)
 
--- the answer to a hold less of a chunk
+-- the answer to a removed hold of a chunk
 abbrev pub remove_answer : GridState → ChunkPos → Removed
 remove_answer g c = if nat_eq (g.holds c) 0 then NotLoaded else (if nat_eq (g.holds c) 1 then Gone else Lowered)
 

@@ -35,7 +35,7 @@ into t us = map (λ u. record { «from» = u; into = t }) us
 abbrev pub drawn_in : GridState → ChunkPos → List ℕ
 drawn_in g c = filter (λ r. is_near_calm g c r && not (nat_eq (target g c) r)) (numbers_below g.next)
 
--- a hold more that is Full or wants nothing changes no region
+-- an added hold that is Full or wants nothing changes no region
 unfoldable pub add_change : GridState → ChunkPos → Changes
 add_change g c =
     if is_full g c then nothing else (if nat_eq (wanted g c) 0 then nothing else (record {

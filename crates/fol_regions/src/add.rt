@@ -1,4 +1,4 @@
-//! What the missing sections of a hold more do to the regions.
+//! What the missing sections of an added hold do to the regions.
 
 ghost use Rattle.std.specs.Prelude.{◌≡◌, ◌≢◌, ℕ, ◌+◌, ◌<◌, ◌≤◌, ◌^◌, true, false, not, ◌&&◌, ◌||◌, IsTrue, [], ◌∷◌, length, filter, nat_eq, nat_lt, if◌then◌else◌};
 ghost use Rattle.std.specs.List.{list_any};
@@ -166,7 +166,7 @@ fn settled(waits: usize) -> State
     }
 }
 
-/// What a hold more of a chunk that wants sections does to the regions: the sections that it wants go to the largest near region
+/// What an added hold on a chunk that wants sections does to the regions: the sections that it wants go to the largest near region
 /// that does not tick, or to a new one, the other near regions that do not tick become part of that, and it waits for those that do.
 pub fn extend(
     tables: &mut Tables,
@@ -207,7 +207,7 @@ pub fn extend(
     settle(tables, target);
 }
 
-/// How far a hold more reaches: the create and the merge radius.
+/// How far an added hold reaches: the create and the merge radius.
 fn reach(grid: &Grid) -> u8
     requires { IsGrid grid.now }
     ensures { result ≡ grid.now.create + grid.now.merge }
@@ -215,7 +215,7 @@ fn reach(grid: &Grid) -> u8
     grid.create + grid.merge
 }
 
-/// Counts a hold more of a chunk in both tables, and says in `change` what that did to the regions.
+/// Adds a hold on a chunk in both tables, and says in `change` what that did to the regions.
 pub fn hold(
     sections: &mut Sections,
     tables: &mut Tables,

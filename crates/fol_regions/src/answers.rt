@@ -1,8 +1,8 @@
-//! What a region table answers.
+//! What a region table returns.
 
 use fol_model::State;
 
-/// The answer to a hold more of a chunk.
+/// What adding a hold on a chunk came to.
 #[derive(Clone, Copy, Debug, PartialEq, Eq)]
 pub enum AddAnswer {
     /// The hold was counted, and no section was missing.

@@ -87,7 +87,7 @@ fn note_gone(
     }
 }
 
-/// Counts the sections that are dead since a hold less of a chunk, to which this was the answer.
+/// Counts the sections that are dead since a hold on a chunk was removed, which came to this.
 pub fn note_dying(
     bounds: &mut DeadBounds,
     tables: &Tables,

@@ -127,7 +127,7 @@ impl Regions {
         self.spare
     }
 
-    /// Counts a hold more of a chunk, which has at most 2^62 holds; `spare` is at least 1. Takes no memory.
+    /// Adds a hold on a chunk, which has at most 2^62 holds; `spare` is at least 1. Takes no memory.
     pub fn add(&mut self, c: ChunkPos) -> AddAnswer
         requires spare { 1 ≤ self.old.spare }
         requires in_range { IsTrue (is_chunk c) }
@@ -152,7 +152,7 @@ impl Regions {
         answer
     }
 
-    /// Counts a hold less of a chunk. No section and no region changes. Takes no memory.
+    /// Removes a hold on a chunk. No section and no region changes. Takes no memory.
     pub fn remove(&mut self, c: ChunkPos) -> Removed
         ensures state { grid_state self.new ≡ drop_hold (grid_state self.old) c }
         ensures answer { result ≡ remove_answer (grid_state self.old) c }

@@ -153,7 +153,7 @@ impl Slots {
         }
     }
 
-    /// Gives a slot to a region that has none, and answers which. Takes no memory.
+    /// Gives a slot to a region that has none, and returns which. Takes no memory.
     pub fn insert(&mut self, id: u64, state: State) -> usize
         requires none { slot_of self.old id ≡ self.old.room }
         requires some_free { count_by is_some self.old.regions < self.old.room }

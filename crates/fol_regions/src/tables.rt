@@ -256,7 +256,7 @@ impl Tables {
         give_all(&mut self.owners, sections, id);
     }
 
-    /// Makes a region with the next id, which has sections that have no owner, and answers its id.
+    /// Makes a region with the next id, which has sections that have no owner, and returns its id.
     pub fn make(&mut self, sections: &[SectionPos], state: State) -> u64
         requires some { 0 < length sections.now }
         requires absent { (s : SectionPos) → is_among sections.now s ≡ true → owner_of self.old s ≡ 0 }

@@ -20,7 +20,7 @@ fn table(rt: &impl Abort, alloc: Global, create: u8, den: u32) -> Regions {
     Regions::new(alloc, grid).expect(rt, "memory")
 }
 
-/// Counts a hold more.
+/// Adds a hold.
 fn load(rt: &impl Abort, regions: &mut Regions, c: ChunkPos) -> AddAnswer {
     regions.reserve(1).expect(rt, "memory");
     assert!(rt; regions.spare() >= 1 && c.in_range() && regions.holds(c) < 1_000_000);

@@ -112,7 +112,7 @@ fn print_commands(alloc: Global, commands: &[Command]) -> Result<Vec<u8>, AllocE
 
 /// The text of a script, with no skipped line: the only text without one that reads as this script.
 ///
-/// It is the script's text in version 2, and in version 1 too where no task is repeated. Answers want of memory alone.
+/// It is the script's text in version 2, and in version 1 too where no task is repeated. Fails only when out of memory.
 pub fn print_script(alloc: Global, script: &Script) -> Result<Vec<u8>, AllocError>
     ensures text { IfOk result (λ v. v.items ≡ script_text script.now) }
     ensures reads { IfOk result (λ v. IsScriptText 2 v.items script.now) }

@@ -89,7 +89,7 @@ fn read_commands(alloc: Global, bytes: &[u8], kind: TextKind) -> Result<Vec<Comm
 
 /// The script of this text, as a world of this version reads it.
 ///
-/// Gives a script exactly where the text is that of one, and then that one; else the first bad line and its cause. Answers
+/// Gives a script exactly where the text is that of one, and then that one; else the first bad line and its cause. Returns
 /// `NoMemory` where memory runs out, whatever the text. The time is linear in the length of the text.
 pub fn read_script(alloc: Global, bytes: &[u8], version: u8) -> Result<Script, ReadError>
     requires low { 1 ≤ version }

@@ -94,7 +94,7 @@ fn push_entities(
 
 /// The text of an opening, with no skipped line: the version, the grid, the blocks in order of (x, y, z), the entities by id.
 ///
-/// It is the opening's text. Answers want of memory alone.
+/// It is the opening's text. Fails only when out of memory.
 pub fn print_world(alloc: Global, opening: &Opening) -> Result<Vec<u8>, AllocError>
     ensures text { IfOk result (λ v. v.items ≡ world_text opening.now) }
     ensures reads { IfOk result (λ v. IsWorldText v.items opening.now) }

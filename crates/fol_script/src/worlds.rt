@@ -66,7 +66,7 @@ fn make_opening(
 
 /// The opening that this text is of.
 ///
-/// Gives an opening exactly where the text is that of one, and then that one; else the first bad line and its cause. Answers
+/// Gives an opening exactly where the text is that of one, and then that one; else the first bad line and its cause. Returns
 /// `NoMemory` where memory runs out, whatever the text. The time is linear in the length of the text, but for the look-up
 /// of each block and entity among the earlier ones, which is logarithmic in their number.
 pub fn read_world(alloc: Global, bytes: &[u8]) -> Result<Opening, ReadError>

@@ -1,4 +1,4 @@
--- The answer to a hold more, by what a table keeps.
+-- The answer to an added hold, by what a table keeps.
 use Rattle.std.proofs.Common.{◌≡◌, ℕ, ◌+◌, ◌≤◌, ◌<◌, refl, sym, ◌∙◌, ap, arith, Bool, true, false, not, ◌&&◌, ◌||◌, inl, inr, List, length}
 use Rattle.std.specs.Prelude.{ℤ, pos, ◌-ℤ◌, nat_abs, nat_eq, nat_lt, is_some, Some, None, Option}
 use Rattle.std.specs.List.{IsDistinct, filter}

@@ -78,15 +78,15 @@ present_count t = count_sections (presence_of t)
 unfoldable pub is_full_for : Table → ChunkPos → Bool
 is_full_for t c = nat_lt MOST_SECTIONS (present_count t + missing_count t c)
 
--- the answer to a hold more of a chunk
+-- the answer to an added hold of a chunk
 unfoldable pub added : Table → ChunkPos → Added
 added t c = if is_full_for t c then Full (present_count t) (missing_count t c) else (if nat_eq (missing_count t c) 0 then Counted else Filled)
 
--- the answer to a hold less of a chunk
+-- the answer to a removed hold of a chunk
 unfoldable pub removed : Table → ChunkPos → Removed
 removed t c = if nat_eq (holds_of t c) 0 then NotLoaded else (if nat_eq (holds_of t c) 1 then Gone else Lowered)
 
--- what a table is after a hold more of a chunk, where there is room
+-- what a table is after an added hold of a chunk, where there is room
 pub record Adds (old new : Table) (c : ChunkPos) : Type 0 where
   pub holds : holds_of new ≡ at_chunk (holds_of old) c (holds_of old c + 1)
   pub presence : presence_of new ≡ (λ s. presence_of old s || is_missing old c s)

@@ -1,6 +1,6 @@
-//! What a table of sections answers to a hold more and to a hold less.
+//! What a table of sections returns when a hold is added or removed.
 
-/// The answer to a hold more of a chunk.
+/// What adding a hold on a chunk came to.
 #[derive(Clone, Copy, Debug, PartialEq, Eq)]
 pub enum Added {
     /// The hold was counted; all sections that the chunk needs were present.
@@ -11,7 +11,7 @@ pub enum Added {
     Full { present: u32, wanted: u32 },
 }
 
-/// The answer to a hold less of a chunk.
+/// What removing a hold on a chunk came to.
 #[derive(Clone, Copy, Debug, PartialEq, Eq)]
 pub enum Removed {
     /// The last hold fell.

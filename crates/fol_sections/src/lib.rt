@@ -2,7 +2,7 @@
 //!
 //! A [`Sections`] stands for a grid and two functions: how many holds each chunk has, and which sections are present. A hold
 //! more of a chunk makes the sections within the create radius of the chunk's own present, unless more than 16,384 would be
-//! present; a hold less changes no section; and `drop_dead` takes out those sections of a list that are not within the create
+//! present; a removed hold changes no section; and `drop_dead` takes out those sections of a list that are not within the create
 //! radius of any section with a held chunk. A call costs at most the area of the create radius, whatever else is in the table.
 //!
 //! The present sections stand in pages of 8 by 8, and a page is there only where one of its sections is. A section has its number

@@ -166,7 +166,7 @@ impl Sections {
         Ok(())
     }
 
-    /// Counts a hold more of a chunk, which is within the limits and has at most 2^62 holds. `spare` is at least 1.
+    /// Adds a hold on a chunk, which is within the limits and has at most 2^62 holds. `spare` is at least 1.
     ///
     /// The answer is `Full` exactly where the present sections and the missing ones that the chunk needs are more than 16,384;
     /// then nothing changes. Else the missing ones are present now, and one spare is used. Takes no memory.
@@ -206,7 +206,7 @@ impl Sections {
         }
     }
 
-    /// Counts a hold less of a chunk. No section changes. Takes no memory.
+    /// Removes a hold on a chunk. No section changes. Takes no memory.
     pub fn remove(&mut self, c: ChunkPos) -> Removed
         ensures answer { result ≡ removed self.old c }
         ensures holds { holds_of self.new ≡ at_chunk (holds_of self.old) c (holds_of self.old c - 1) }
@@ -273,7 +273,7 @@ fn keep_present(list: &mut Vec<SectionPos>, pages: &Pages)
     list.retain(|s| is_present(pages, *s));
 }
 
-/// The answer to a hold less of a chunk that had so many.
+/// What removing a hold comes to on a chunk that had so many.
 fn answer_for(count: u64) -> Removed
     ensures { result ≡ (if nat_eq count 0 then Removed.NotLoaded else (if nat_eq count 1 then Removed.Gone else Removed.Lowered)) }
 {
@@ -286,7 +286,7 @@ fn answer_for(count: u64) -> Removed
     }
 }
 
-/// Makes the missing sections present that a chunk of the section `home` needs, and counts a hold more of the chunk.
+/// Makes the missing sections present that a chunk of the section `home` needs, and adds a hold on the chunk.
 fn take_hold(
     holds: &mut Numbers,
     pages: &mut Pages,
@@ -338,7 +338,7 @@ fn fill(pages: &mut Pages, missing: &[SectionPos])
     }
 }
 
-/// Counts a hold more of a chunk in a table of such counts, and gives the count before. Takes no memory.
+/// Adds a hold on a chunk in a table of such counts, and gives the count before. Takes no memory.
 pub fn count_hold(holds: &mut Numbers, c: ChunkPos) -> u64
     requires room { 1 ≤ room_of holds.old }
     requires few { count_at holds.old.entries c < 2 ^ 62 }
@@ -351,7 +351,7 @@ pub fn count_hold(holds: &mut Numbers, c: ChunkPos) -> u64
     count
 }
 
-/// Counts a hold less of a chunk in a table of such counts, and gives the count before; a count of 0 stays. Takes no memory.
+/// Removes a hold on a chunk in a table of such counts, and gives the count before; a count of 0 stays. Takes no memory.
 pub fn drop_hold(holds: &mut Numbers, c: ChunkPos) -> u64
     ensures before { result ≡ count_at holds.old.entries c }
     ensures counts { (q : ChunkPos) → count_at holds.new.entries q ≡ at_chunk (count_at holds.old.entries) c (count_at holds.old.entries c - 1) q }

@@ -6,7 +6,7 @@ use std::alloc::{AllocError, Global};
 use std::process::Abort;
 use std::test::Fail;
 
-/// Counts a hold more.
+/// Adds a hold.
 fn load(rt: &impl Abort, sections: &mut Sections, x: i32, z: i32) -> Result<Added, Fail> {
     let c = ChunkPos { x, z };
     sections.reserve(1)?;

@@ -2,7 +2,7 @@
 
 use crate::word::Word;
 
-/// What a worker's claim of a slot answers.
+/// What a worker's claim of a slot returns.
 #[derive(Drop)]
 pub enum Claim<T> {
     /// The worker holds the slot, and has its body.
@@ -11,7 +11,7 @@ pub enum Claim<T> {
     Taken(Word),
 }
 
-/// What the keeper's try of a slot answers.
+/// What the keeper's try of a slot returns.
 #[derive(Clone, Copy)]
 pub enum Keep {
     /// The keeper keeps the slot.

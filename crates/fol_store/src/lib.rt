@@ -3,7 +3,7 @@
 //! A `Store` stands for one flat world, one map of queued tasks with their rests, and the bag of each region with the region's
 //! counters. What lies in it is kept in parts: a bag for each region, and a spot for each chunk. A task that is accepted waits for the
 //! next gathering in a list of its own. Moving things between the parts changes nothing of what the store stands for, so an event
-//! moves nothing, and want of memory in the middle of a gathering does no harm.
+//! moves nothing, and running out of memory in the middle of a gathering does no harm.
 //!
 //! The crate promises that `accept` queues exactly the task, that `gather` makes a bag hold exactly what lies on its chunks and loses
 //! nothing elsewhere, that `take` and `put` hand out and take back exactly that, and that `into_rows` lists all that the store holds. Only

@@ -10,7 +10,7 @@ use fol_data::RegionData;
 use fol_model::ChunkPos;
 use std::alloc::AllocError;
 
-/// Moves what lies on the chunks. The tasks keep their rests, and all counters stay. After want of memory nothing has moved.
+/// Moves what lies on the chunks. The tasks keep their rests, and all counters stay. If memory runs out, nothing has moved.
 pub fn shift(
     from: &mut RegionData,
     chunks: &[ChunkPos],

@@ -133,7 +133,7 @@ pub fn is_stirred(bags: &[Slot], id: usize) -> bool
     slot.listed && !slot.calm
 }
 
-/// Notes that tasks may lie in the spot of a chunk of a bag. After want of memory nothing is noted.
+/// Notes that tasks may lie in the spot of a chunk of a bag. If memory runs out, nothing is noted.
 pub fn touch(alloc: Global, bags: &mut Vec<Slot>, id: usize, c: ChunkPos) -> Result<(), AllocError>
     requires { id < vec_len bags.old }
     ensures noted { OnOk result ((slot_in bags.new.items id).touched ≡ (slot_in bags.old.items id).touched ++ c ∷ []) }
@@ -248,7 +248,7 @@ pub fn put_in(bags: &mut Vec<Slot>, id: usize, chunks: Vec<ChunkPos>, body: Regi
     slot.body = body;
 }
 
-/// Moves what lies on the chunks from one bag to another. The first has to be gathered anew. After want of memory nothing has moved.
+/// Moves what lies on the chunks from one bag to another. The first has to be gathered anew. If memory runs out, nothing has moved.
 pub fn shift_bags(
     alloc: Global,
     bags: &mut Vec<Slot>,
@@ -303,7 +303,7 @@ fn put_body(bags: &mut Vec<Slot>, id: usize, body: RegionData)
     slot.body = body;
 }
 
-/// Moves what lies on the chunks from elsewhere into a bag. After want of memory nothing has moved.
+/// Moves what lies on the chunks from elsewhere into a bag. If memory runs out, nothing has moved.
 pub fn shift_into(
     bags: &mut Vec<Slot>,
     id: usize,
@@ -329,7 +329,7 @@ pub fn shift_into(
     shift(from, chunks, &mut slot.body)
 }
 
-/// Moves what lies on the chunks from a bag elsewhere. After want of memory nothing has moved.
+/// Moves what lies on the chunks from a bag elsewhere. If memory runs out, nothing has moved.
 pub fn shift_out(
     bags: &mut Vec<Slot>,
     id: usize,

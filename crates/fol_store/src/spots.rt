@@ -29,7 +29,7 @@ pub fn add(alloc: Global, spots: &mut Vec<RegionData>) -> Result<(), AllocError>
     Ok(())
 }
 
-/// Moves what lies on the chunks from a spot into a bag. After want of memory nothing has moved.
+/// Moves what lies on the chunks from a spot into a bag. If memory runs out, nothing has moved.
 pub fn shift_to_bag(
     spots: &mut Vec<RegionData>,
     i: usize,
@@ -59,7 +59,7 @@ pub fn shift_to_bag(
     slots::shift_into(bags, id, chunks, spot)
 }
 
-/// Moves what lies on the chunks from a bag into a spot. After want of memory nothing has moved.
+/// Moves what lies on the chunks from a bag into a spot. If memory runs out, nothing has moved.
 pub fn shift_from_bag(
     bags: &mut Vec<Slot>,
     id: usize,

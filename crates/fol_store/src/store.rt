@@ -252,7 +252,7 @@ impl Store {
     }
 
     /// All blocks with a number above 0 by place, all standing entities by id, and all queued tasks by number, each with its rest. What
-    /// is out with a worker is not among them. Answers want of memory alone.
+    /// is out with a worker is not among them. Fails only when out of memory.
     pub fn into_rows(self, alloc: Global) -> Result<Rows, AllocError>
         ensures blocks { IfOk result (λ r. block_in r.blocks.items ≡ (flat_of self).blocks) }
         ensures block_order { IfOk result (λ r. IsStrictlySortedBy by_place r.blocks.items) }

@@ -10,7 +10,7 @@ use std::alloc::{AllocError, Global};
 /// Adds tickets to chunks and takes them away.
 ///
 /// What it is to its user are the calls that it answered, in order, with their answers. A call that finds no memory is not answered.
-/// A host never answers `Over`.
+/// A host never returns `Over`.
 pub trait Host {
     ghost use Rattle.std.specs.Prelude.{List, [], ◌++◌};
     ghost use Rattle.fol_tick.specs.Calls.{HostCall};

@@ -24,7 +24,7 @@ pub enum HostAnswer {
 }
 
 /// Gives its answers in order, one at each call. At their end, and where the next answer is one to the other kind of call, it
-/// answers `Counted` or `Lowered`. Contracts see the answers that are left.
+/// returns `Counted` or `Lowered`. Contracts see the answers that are left.
 #[derive(Drop)]
 pub struct ListHost {
     answers: VecDeque<HostAnswer>,

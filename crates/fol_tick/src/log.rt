@@ -27,7 +27,7 @@ fn reserve(ran: &mut Vec<Ran>, wishes: &mut Vec<Wish>, tasks: usize) -> Result<(
     wishes.reserve(2 * tasks)
 }
 
-/// Takes the lists out of a log, with room for what so many tasks add. Want of memory leaves the log as it was.
+/// Takes the lists out of a log, with room for what so many tasks add. Out of memory leaves the log as it was.
 pub(crate) fn open(alloc: Global, log: &mut TickLog, tasks: usize) -> Result<OpenLog, AllocError>
     requires { tasks < 2 ^ 63 }
     ensures ran { IfOk result (λ o. o.ran.items ≡ log.old.ran) }

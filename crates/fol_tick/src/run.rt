@@ -19,7 +19,7 @@ use std::collections::VecDeque;
 
 /// Runs what is left of a tick: the rest of its due tasks in order of number, and then the movement of the entities.
 ///
-/// Takes all memory that it needs itself before the first of these tasks. After want of memory either nothing but spare room has
+/// Takes all memory that it needs itself before the first of these tasks. If memory runs out, either nothing but spare room has
 /// changed, or it was the host that found none, for the task at `next`: the tasks before it have run, and another call goes on there.
 pub fn run_tick<H: Host>(alloc: Global, tick: &mut Tick, host: &mut H) -> Result<(), AllocError>
     requires { MayRun tick.old }

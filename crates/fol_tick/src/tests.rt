@@ -143,7 +143,7 @@ fn one_load_after_want_of_memory(rt: HostRuntime) -> Result<(), Fail> {
     Ok(())
 }
 
-/// Two calls meet want of memory at the second of three loads, and the third call runs it and the last.
+/// Two calls run out of memory at the second of three loads, and the third call runs it and the last.
 #[test]
 fn three_loads_after_want_of_memory(rt: HostRuntime) -> Result<(), Fail> {
     let alloc = rt.alloc();

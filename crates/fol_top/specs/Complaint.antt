@@ -54,6 +54,6 @@ is_bad_line (endings.World line cause) = true
 is_bad_line (endings.Script line cause) = true
 is_bad_line _ = false
 
--- the ending that is told: want of memory may take the place of a bad line
+-- the ending that is told: out of memory may take the place of a bad line
 abbrev pub IsTold : Ending → Ending → Type 0
 IsTold ending told = (told ≡ ending) ⊎ ((is_bad_line ending ≡ true) × (told ≡ endings.NoMemory))

@@ -86,7 +86,7 @@ pub record MakesWell (v : Course) : Type 0 where
   pub command : request_in v.words ≡ Some (make clusters)
   pub writes : ¬ Rose v.write_faults v.write_faults_later
 
--- a fault of the shelf or want of memory came before
+-- a fault of the shelf came before, or memory ran out
 abbrev pub Yields : Status → Type 0
 Yields s = (s.code ≡ 5) ⊎ (s.code ≡ 7)
 

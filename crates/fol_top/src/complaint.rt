@@ -10,8 +10,8 @@ use fol_model::Cause;
 use std::alloc::{AllocError, Global};
 use std::fmt::Write;
 
-/// Tells how a run ended, in one put, and answers the ending that was told: where memory for the text of a bad line is not found, that
-/// is want of memory. A fault of the sink changes nothing.
+/// Tells how a run ended, in one put, and returns the ending that was told: where memory for the text of a bad line is not found, that
+/// is out of memory. A fault of the sink changes nothing.
 pub(crate) fn complain<E: Sink>(alloc: Global, ending: Ending, err: &mut E) -> Ending
     ensures told { IsTold ending result }
     ensures text { Complains (E.received err.old) (E.received err.new) (E.faults err.old) (E.faults err.new) (status_of result) }

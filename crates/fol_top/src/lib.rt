@@ -1,7 +1,7 @@
 //! The program as one call: from the words of a command line to the bytes that are written.
 //!
 //! [`run`] runs a script on a world, both read from a shelf or made by the program itself, and writes the report, its JSON form or a
-//! summary to a sink. What it answers is a status with a code; `specs/Outcome.antt` says for each code when it comes and what was
+//! summary to a sink. What it returns is a status with a code; `specs/Outcome.antt` says for each code when it comes and what was
 //! written. Its headline: at code 0 the sink received the output of one legal history of the opening and the script that the two texts
 //! spell, and the region rules hold at each point of that history.
 //!

@@ -64,7 +64,7 @@ pub(crate) fn deal<R: Wait>(
     readers
 }
 
-/// A reader that knows what the writer knows. A refusal is no want of memory, and is tried again.
+/// A reader that knows what the writer knows. A refusal does not mean that memory ran out, and is tried again.
 fn reader<R: Wait>(rt: &R, writer: &mut Writer) -> Reader
     ensures shown { writer.new.desk.shown.value ≡ writer.old.desk.shown.value }
     ensures view { known writer.new.desk.place ≡ known writer.old.desk.place }

@@ -129,7 +129,7 @@ impl Publications {
         }
     }
 
-    /// Adds a publication to the history, and answers whether it did. It did not where the history was longer than this, which has
+    /// Adds a publication to the history, and returns whether it did. It did not where the history was longer than this, which has
     /// grown then.
     pub(crate) fn add(&mut self, head: &Head, publication: &Publication) -> bool
         requires head { head.now ≡ head_of self.old.book }

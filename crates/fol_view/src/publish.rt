@@ -12,7 +12,7 @@ use crate::rule::{Shows, Writer};
 use std::sync::Wait;
 use std::thread::yield_now;
 
-/// Adds a publication to the history, whose only writer this is, and answers a copy of the longer list. The history is never longer
+/// Adds a publication to the history, whose only writer this is, and returns a copy of the longer list. The history is never longer
 /// than the list of its only writer; a proof can't see that, so it would wait for ever.
 pub(crate) fn add<R: Wait>(
     rt: &R,
@@ -53,7 +53,7 @@ pub(crate) fn show<R: Wait>(rt: &R, writer: Writer, shown: Shown) -> Writer
     unreachable!()
 }
 
-/// Shows readers the last of what was appended. A refusal of the copies is no want of memory, and is tried again.
+/// Shows readers the last of what was appended. A refusal of the copies does not mean that memory ran out, and is tried again.
 pub(crate) fn publish<R: Wait>(rt: &R, writer: Writer) -> Writer
     requires { CanPublish writer.desk.shown.value (drop writer.behind writer.log.items) }
     ensures { Published (drop writer.behind writer.log.items) result.desk.shown.value (view result.desk.place) }

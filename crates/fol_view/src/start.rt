@@ -40,7 +40,7 @@ pub struct ViewParts {
 
 impl View {
     /// A view with 1 to 64 readers, whose writer has this seat. The owners after all of the history, which the seat then has seen, are
-    /// published. Answers want of memory alone, with the seat. A seat whose tick is open can't end it before `close` gives it back.
+    /// published. Fails only when out of memory, and then gives the seat back. A seat whose tick is open can't end it before `close` gives it back.
     pub fn start<R: Wait>(
         rt: &R,
         alloc: Global,

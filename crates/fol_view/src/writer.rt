@@ -69,7 +69,7 @@ impl Model for OwnerWriter {
 }
 
 impl OwnerWriter {
-    /// Publishes the owners after all of the history, which its seat then has seen, and answers their front. After want of memory what is
+    /// Publishes the owners after all of the history, which its seat then has seen, and returns their front. If memory runs out, what is
     /// published is as before.
     pub fn refresh<R: Wait>(
         &mut self,

@@ -17,7 +17,7 @@ impl Store {
     ghost use Rattle.fol_store.specs.Steps.{SameMeaning, Draws, IsTarget, IsGathered, IsReopened};
 
     /// Makes a listed bag whole: the tasks that came on its chunks go into it. Takes memory; contents and tasks stay either way, and
-    /// after want of memory the bag may have to be gathered anew.
+    /// if memory runs out, the bag may have to be gathered anew.
     pub fn settle(&mut self, id: u64) -> Result<(), AllocError>
         requires here { (bag_of self.old id).here ≡ true }
         requires listed { (bag_of self.old id).listed ≡ true }
