@@ -1,10 +1,11 @@
 //! The core.
 
-ghost use Rattle.std.specs.Prelude.{ℕ, ◌≡◌, ◌+◌, ◌≤◌, ◌<◌, ◌^◌, [], ◌∷◌, ◌++◌, length, vec_len, vec_capacity, IfOk, OnOk, OnErr, IfSome, IfNone, true, false};
+ghost use Rattle.std.specs.Prelude.{ℕ, ◌≡◌, ◌+◌, ◌≤◌, ◌<◌, ◌^◌, [], ◌∷◌, ◌++◌, length, vec_len, vec_capacity, IfOk, OnOk, OnErr, IfSome, IfNone, Some, true, false};
 ghost use Rattle.fol_model.specs.Run.{Run};
 ghost use Rattle.fol_core.specs.Meaning.{Records, Stays, world_of};
 ghost use Rattle.fol_core.specs.Answers.{is_owing, some_id, state_result};
 
+use crate::agenda::owes;
 use crate::tables::{Course, Tables};
 use fol_model::{Entry, Event, Opening, SectionPos, State, Task};
 use fol_regions::Regions;
@@ -89,11 +90,15 @@ impl Core {
         self.tables.course.sum
     }
 
-    /// A Ready region that owes a tick; `None` exactly where there is none. Which one is free.
-    pub fn next_owing(&self) -> Option<u64>
+    /// A Ready region that owes a tick, which is `first` where that is one; `None` exactly where there is none. Which other one is free.
+    pub fn next_owing(&self, first: u64) -> Option<u64>
+        ensures first { is_owing (world_of self.now) first ≡ true → result ≡ Some first }
         ensures some { IfSome result (λ r. is_owing (world_of self.now) r ≡ true) }
         ensures none { IfNone result ((r : ℕ) → 0 < r → r < (world_of self.now).grid.next → is_owing (world_of self.now) r ≡ false) }
     {
+        if owes(&self.tables.regions, &self.tables.store, first) {
+            return Some(first);
+        }
         self.tables.agenda.last().copied()
     }
 

@@ -49,7 +49,11 @@ impl Live {
         let mut dealt = Vec::with_capacity(alloc, callers as usize)?;
         let LockAndSeats { lock, seats } = Lock::new(alloc, world, callers)?;
         for seat in seats.into_vec() {
-            dealt.push_reserved(Seat { seat, front: 0 });
+            dealt.push_reserved(Seat {
+                seat,
+                front: 0,
+                region: 0,
+            });
         }
         Ok(LiveAndSeats {
             live: Live { lock },
@@ -70,7 +74,11 @@ impl Live {
             return Err(CloseFault::NoMemory);
         };
         for seat in seats {
-            let Seat { seat, front: _ } = seat;
+            let Seat {
+                seat,
+                front: _,
+                region: _,
+            } = seat;
             inner.push_reserved(seat);
         }
         let Live { lock } = self;
@@ -216,8 +224,8 @@ impl Live {
     }
 
     /// Begins a tick with the seat's number, which is not 0, as its worker. Over exactly where Finish or Stop stands in the history,
-    /// else Idle exactly where no Ready region owes a tick; regions that tick don't count. Which region it takes is free. Only Got is
-    /// recorded.
+    /// else Idle exactly where no Ready region owes a tick; regions that tick don't count. Which region it takes is free; the one whose tick
+    /// the seat ended last comes first, whose data are at hand. Only Got is recorded.
     pub fn begin<R: Wait>(
         &self,
         rt: &R,
@@ -230,7 +238,7 @@ impl Live {
     {
         let by = seat.seat.number();
         let mut turn = self.lock.take(rt, &mut seat.seat);
-        let answer = turn.state().begin(alloc, by);
+        let answer = turn.state().begin(alloc, by, seat.region);
         seat.front = turn.state_ref().front();
         self.lock.give(&mut seat.seat, turn);
         answer
@@ -250,6 +258,7 @@ impl Live {
         requires out { IsOut (meaning_of seat.old) tick }
         ensures { Releases seat.old seat.new tick result }
     {
+        seat.region = tick.region;
         let mut turn = self.lock.take(rt, &mut seat.seat);
         let answer = turn.state().release(alloc, tick);
         seat.front = turn.state_ref().front();

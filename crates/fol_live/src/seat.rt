@@ -12,6 +12,8 @@ pub struct Seat {
     pub(crate) seat: fol_lock::Seat<World>,
     /// How many entries it has seen.
     pub(crate) front: u64,
+    /// The region whose tick it ended last, or 0.
+    pub(crate) region: u64,
 }
 
 impl Model for Seat {

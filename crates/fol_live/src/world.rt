@@ -202,8 +202,9 @@ impl World {
         let _entries = core.history();
     }
 
-    /// Begins a tick of a Ready region that owes one, by the worker of this number; which one is free.
-    pub(crate) fn begin(&mut self, alloc: Global, by: u32) -> Result<LiveBegin, AllocError>
+    /// Begins a tick of a Ready region that owes one, by the worker of this number. It is `first` where that is one, and else which one
+    /// is free.
+    pub(crate) fn begin(&mut self, alloc: Global, by: u32, first: u64) -> Result<LiveBegin, AllocError>
         requires worker { by ≢ 0 }
         ensures before { Keeps self.old.opening self.old.history }
         ensures after { Keeps self.new.opening self.new.history }
@@ -215,7 +216,7 @@ impl World {
         if core.is_over() {
             return Ok(LiveBegin::Over);
         }
-        let Some(region) = core.next_owing() else {
+        let Some(region) = core.next_owing(first) else {
             return Ok(LiveBegin::Idle);
         };
         core.reserve(alloc, region)?;

@@ -284,7 +284,7 @@ fn a_region_beside_a_tick_waits_for_its_end(rt: HostRuntime) {
     }
     busy.end(&rt, alloc, tick);
     let Busy { mut core } = busy;
-    assert_eq!(rt; core.next_owing(), Some(1));
+    assert_eq!(rt; core.next_owing(1), Some(1));
     let answer = core.close_phase(0).expect(&rt, "memory");
     assert_eq!(rt; answer, Close::NotYet(1));
     closing_of(&rt, alloc, core, 1, 1);
