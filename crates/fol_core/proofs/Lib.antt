@@ -30,7 +30,7 @@ pub mod Accepted
 pub mod WishLists
 pub mod OwedKept
 pub mod FinishedRun
-mod OutAtBegin
+pub mod OutAtBegin
 pub mod BackTasks
 pub mod EndFacts
 pub mod EndSteps
