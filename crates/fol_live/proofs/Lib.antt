@@ -2,6 +2,7 @@ pub mod Taken
 pub mod Grown
 pub mod Bare
 pub mod Called
+pub mod TwoSteps
 pub mod StillOpen
 pub mod StillOut
 pub mod Owing

@@ -1,6 +1,6 @@
 -- What the calls of a shared world do: each is one turn, in which the core did what its own call says. `now` is what the seat shows
 -- while it has the turn, and the words of a core speak of the cores that have just the history that it has seen then, and after.
-use Rattle.std.specs.Prelude.{ℕ, ◌≡◌, List, Result, IfOk, IfErr, OnOk, OnErr, length}
+use Rattle.std.specs.Prelude.{ℕ, ◌≡◌, List, [], Result, Ok, Err, IfOk, IfErr, OnOk, OnErr, length}
 use Rattle.std.specs.declared.alloc.AllocError.{AllocError}
 use Rattle.fol_model.specs.declared.places.ChunkPos.{ChunkPos}
 use Rattle.fol_model.specs.declared.events.Entry.{Entry}
@@ -17,6 +17,7 @@ use Rattle.fol_core.specs.Meaning.{Records, Stays, world_of}
 use Rattle.fol_core.specs.Ticks.{SameTick}
 use Rattle.fol_live.specs.declared.answers.LivePhase.{LivePhase}
 use Rattle.fol_live.specs.declared.answers.LiveBegin.{LiveBegin}
+use Rattle.fol_live.specs.declared.answers.NextTick.{NextTick}
 use Rattle.fol_live.specs.declared.answers.Owners.{Owners}
 use Rattle.fol_live.specs.Results.{LiveBegins, LivePhaseRecords, live_phase_result}
 use Rattle.fol_live.specs.Seat.{Shown, meaning_of}
@@ -106,3 +107,14 @@ pub record Releases (old new : Shown) (tick : Tick) (r : Result ℕ Tick) : Type
   pub recorded : OnOk r (Records (meaning_of now) (meaning_of new) tick.worker (end_event (world_of (meaning_of now)) tick.worker tick.region tick.log.ran))
   pub back : IfErr r (λ t. SameTick tick t)
   pub refused : OnErr r (Stays (meaning_of now) (meaning_of new))
+
+-- a tick was given back and the next one asked for, with nothing between
+pub record EndedAndBegan (old new : Shown) (tick : Tick) (next : NextTick) : Type 0 where
+  pub ended : Shown
+  pub releases : Releases old ended tick (Ok next.length)
+  pub begins : Begins ended new next.begun
+  pub at_once : begins.turn.looks.between ≡ []
+
+abbrev pub ReleasesAndBegins : Shown → Shown → Tick → Result NextTick Tick → Type 0
+ReleasesAndBegins old new tick (Ok next) = EndedAndBegan old new tick next
+ReleasesAndBegins old new tick (Err back) = Releases old new tick (Err back)

@@ -1,14 +1,17 @@
 -- What each call answers in a world, and what it records, where the core has no word for it.
-use Rattle.std.specs.Prelude.{ℕ, ◌≡◌, ◌+◌, ◌<◌, true, false, ◌||◌, nat_eq, nat_lt, if◌then◌else◌, length}
+use Rattle.std.specs.Prelude.{ℕ, ◌≡◌, ◌+◌, ◌<◌, true, false, ◌||◌, nat_eq, nat_lt, if◌then◌else◌, length, IfOk, OnErr}
 use Rattle.fol_model.specs.declared.events.Event.TheVariants as events
 use Rattle.fol_model.specs.World.{World}
 use Rattle.fol_core.specs.Meaning.{Meaning, Records, Stays, world_of}
-use Rattle.fol_core.specs.Answers.{is_over, is_owing}
+use Rattle.fol_data.specs.declared.tick.Tick.{Tick}
+use Rattle.fol_core.specs.Answers.{end_event, is_over, is_owing}
 use Rattle.fol_core.specs.Ticks.{IsTick}
 use Rattle.fol_live.specs.declared.answers.LivePhase.{LivePhase}
 use Rattle.fol_live.specs.declared.answers.LivePhase.TheVariants as phases
 use Rattle.fol_live.specs.declared.answers.LiveBegin.{LiveBegin}
 use Rattle.fol_live.specs.declared.answers.LiveBegin.TheVariants as begins
+use Rattle.fol_live.specs.declared.answers.NextTick.{NextTick}
+use Rattle.fol_live.specs.Kept.{Keeps}
 
 -- any number of ticks may be asked for
 abbrev pub live_phase_result : World → ℕ → LivePhase
@@ -28,3 +31,12 @@ LiveBegins old new by (begins.Got tick) =
     × Records old new by (events.Begin by tick.region)
 LiveBegins old new by begins.Idle = (is_over (world_of old) ≡ false) × ((r : ℕ) → 0 < r → r < (world_of old).grid.next → is_owing (world_of old) r ≡ false) × Stays old new
 LiveBegins old new by begins.Over = (is_over (world_of old) ≡ true) × Stays old new
+
+-- the End of the tick was recorded, and right behind it what `begin` says of the next one
+pub record EndsAndBegins (old new : Meaning) (tick : Tick) (next : NextTick) : Type 0 where
+  pub ended : Meaning
+  pub keeps : Keeps ended.opening ended.history
+  pub length : next.length ≡ length ended.history
+  pub recorded : Records old ended tick.worker (end_event (world_of old) tick.worker tick.region tick.log.ran)
+  pub begun : IfOk next.begun (λ a. LiveBegins ended new tick.worker a)
+  pub refused : OnErr next.begun (Stays ended new)

@@ -2,6 +2,7 @@
 
 use fol_core::Tick;
 use fol_model::OwnerRow;
+use std::alloc::AllocError;
 
 /// What opening a phase came to.
 #[derive(Clone, Copy, Debug, PartialEq, Eq)]
@@ -24,6 +25,16 @@ pub enum LiveBegin {
     Idle,
     /// Finish or Stop stands in the history.
     Over,
+}
+
+/// What ending a tick and beginning the next one in the same turn came to.
+#[derive(Drop)]
+pub struct NextTick {
+    /// The length of the history with the End.
+    pub length: u64,
+
+    /// The tick that was begun right behind the End, or why none was.
+    pub begun: Result<LiveBegin, AllocError>,
 }
 
 /// Which region owns each present section, after so much of the history.

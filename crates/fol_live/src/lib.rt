@@ -18,7 +18,7 @@ mod seat;
 mod tests;
 mod world;
 
-pub use answers::{LiveBegin, LivePhase, Owners};
+pub use answers::{LiveBegin, LivePhase, NextTick, Owners};
 pub use fol_core::{Close, CloseFault, Finish, Posting};
 pub use host::LiveHost;
 pub use laws::{

@@ -6,12 +6,12 @@ ghost use Rattle.fol_model.specs.Geometry.{is_chunk};
 ghost use Rattle.fol_model.specs.Limits.{is_action, is_delay, may_post};
 ghost use Rattle.fol_core.specs.Ticks.{IsOut};
 ghost use Rattle.fol_lock.specs.Lock.{seat_count};
-ghost use Rattle.fol_live.specs.Calls.{Begins, Closes, Finishes, ListsOwners, Loads, Opens, Posts, Releases, Stops, Unloads};
+ghost use Rattle.fol_live.specs.Calls.{Begins, Closes, Finishes, ListsOwners, Loads, Opens, Posts, Releases, ReleasesAndBegins, Stops, Unloads};
 ghost use Rattle.fol_live.specs.Lives.{live_id};
 ghost use Rattle.fol_live.specs.Seat.{meaning_of};
 ghost use Rattle.fol_live.specs.Seats.{AreAllSeats, AreNewSeats, ClosesAll, ClosingFault};
 
-use crate::answers::{LiveBegin, LivePhase, Owners};
+use crate::answers::{LiveBegin, LivePhase, NextTick, Owners};
 use crate::seat::Seat;
 use crate::world::World;
 use fol_core::{Close, CloseFault, Finish, Posting, Tick};
@@ -258,10 +258,35 @@ impl Live {
         requires out { IsOut (meaning_of seat.old) tick }
         ensures { Releases seat.old seat.new tick result }
     {
-        seat.region = tick.region;
+        let region = tick.region;
         let mut turn = self.lock.take(rt, &mut seat.seat);
         let answer = turn.state().release(alloc, tick);
         seat.front = turn.state_ref().front();
+        seat.region = region;
+        self.lock.give(&mut seat.seat, turn);
+        answer
+    }
+
+    /// Ends a tick of this seat that has run, as `release` does, and begins the next one as `begin` does, in one turn with nothing
+    /// between. Where the tick is handed back, none is begun.
+    pub fn release_and_begin<R: Wait>(
+        &self,
+        rt: &R,
+        alloc: Global,
+        seat: &mut Seat,
+        tick: Tick,
+    ) -> Result<NextTick, Tick>
+        requires own { seat.old.lock ≡ live_id self.now }
+        requires worker { seat.old.number ≢ 0 }
+        requires mine { tick.worker ≡ seat.old.number }
+        requires out { IsOut (meaning_of seat.old) tick }
+        ensures { ReleasesAndBegins seat.old seat.new tick result }
+    {
+        let region = tick.region;
+        let mut turn = self.lock.take(rt, &mut seat.seat);
+        let answer = turn.state().release_and_begin(alloc, tick);
+        seat.front = turn.state_ref().front();
+        seat.region = region;
         self.lock.give(&mut seat.seat, turn);
         answer
     }

@@ -7,10 +7,10 @@ ghost use Rattle.fol_model.specs.Outputs.{owner_rows};
 ghost use Rattle.fol_core.specs.Answers.{CloseRecords, FinishRecords, LoadRecords, PostRecords, StopRecords, UnloadRecords, close_result, end_event, finish_result, is_over, load_result, post_result, unload_result};
 ghost use Rattle.fol_core.specs.Meaning.{Records, Stays, world_of};
 ghost use Rattle.fol_core.specs.Ticks.{IsOut, SameTick};
-ghost use Rattle.fol_live.specs.Results.{LiveBegins, LivePhaseRecords, live_phase_result};
+ghost use Rattle.fol_live.specs.Results.{EndsAndBegins, LiveBegins, LivePhaseRecords, live_phase_result};
 ghost use Rattle.fol_live.specs.Kept.{Keeps};
 
-use crate::answers::{LiveBegin, LivePhase};
+use crate::answers::{LiveBegin, LivePhase, NextTick};
 use fol_core::{BeginAnswer, Close, Core, Finish, Phase, Posting, Tick};
 use fol_lock::Kept;
 use fol_model::{Action, ChunkPos, Entry, Loaded, Opening, OwnerRow, Unloaded};
@@ -204,7 +204,12 @@ impl World {
 
     /// Begins a tick of a Ready region that owes one, by the worker of this number. It is `first` where that is one, and else which one
     /// is free.
-    pub(crate) fn begin(&mut self, alloc: Global, by: u32, first: u64) -> Result<LiveBegin, AllocError>
+    pub(crate) fn begin(
+        &mut self,
+        alloc: Global,
+        by: u32,
+        first: u64,
+    ) -> Result<LiveBegin, AllocError>
         requires worker { by ≢ 0 }
         ensures before { Keeps self.old.opening self.old.history }
         ensures after { Keeps self.new.opening self.new.history }
@@ -245,6 +250,23 @@ impl World {
         let answer = core.release(alloc, tick);
         let _entries = core.history();
         answer
+    }
+
+    /// `release`, and behind it `begin` by the tick's worker, of the same region first.
+    pub(crate) fn release_and_begin(&mut self, alloc: Global, tick: Tick) -> Result<NextTick, Tick>
+        requires out { Keeps self.old.opening self.old.history → IsOut self.old tick }
+        requires worker { tick.worker ≢ 0 }
+        ensures before { Keeps self.old.opening self.old.history }
+        ensures after { Keeps self.new.opening self.new.history }
+        ensures next { IfOk result (λ next. EndsAndBegins self.old self.new tick next) }
+        ensures back { IfErr result (λ t. SameTick tick t) }
+        ensures refused { OnErr result (Stays self.old self.new) }
+    {
+        let worker = tick.worker;
+        let region = tick.region;
+        let length = self.release(alloc, tick)?;
+        let begun = self.begin(alloc, worker, region);
+        Ok(NextTick { length, begun })
     }
 
     /// The core itself.

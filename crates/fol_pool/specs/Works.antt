@@ -1,5 +1,6 @@
 -- What a worker's seat keeps, between ticks and in one.
-use Rattle.std.specs.Prelude.{◌≡◌, ◌≤◌, true, false, List, [], filter, nat_eq}
+use Rattle.std.specs.Prelude.{◌≡◌, ◌≤◌, true, false, List, [], filter, nat_eq, Result}
+use Rattle.std.specs.declared.alloc.AllocError.{AllocError}
 use Rattle.std.specs.List.{AllByRecursion, list_any}
 use Rattle.fol_model.specs.declared.events.Entry.{Entry}
 use Rattle.fol_model.specs.declared.tasks.Ran.{Ran}
@@ -9,10 +10,14 @@ use Rattle.fol_model.specs.Legal.{idle, ticking, asking}
 use Rattle.fol_data.specs.declared.tick.Tick.{Tick}
 use Rattle.fol_seat_laws.specs.Signed.{is_phase, own_of}
 use Rattle.fol_seat_laws.specs.Turns.{Turns}
+use Rattle.fol_live.specs.declared.answers.LiveBegin.{LiveBegin}
 use Rattle.fol_live.specs.Busy.{is_busy}
+use Rattle.fol_live.specs.Calls.{Begins}
 use Rattle.fol_live.specs.Held.{HoldsRun, HoldsTick}
 use Rattle.fol_live.specs.Kept.{Keeps}
 use Rattle.fol_live.specs.Seat.{Shown}
+use Rattle.fol_pool.specs.declared.tick.Next.{Next}
+use Rattle.fol_pool.specs.declared.tick.Next.TheVariants as nexts
 
 -- the same seat of the same world
 pub record SameSeat (old new : Shown) : Type 0 where
@@ -52,3 +57,14 @@ pub record HasRun (s : Shown) (tick : Tick) : Type 0 where
 pub record IsBack (given back : Shown) : Type 0 where
   pub same : SameSeat given back
   pub works : Works back
+
+-- the seat asked for a tick when its ticks were whole, and this came of it
+pub record HasAsked (s : Shown) (r : Result LiveBegin AllocError) : Type 0 where
+  pub before : Shown
+  pub works : Works before
+  pub begins : Begins before s r
+
+-- it holds the tick that it is at, or its ticks are whole
+abbrev pub Stands : Shown → Next → Type 0
+Stands s (nexts.Tick tick) = Holds s tick
+Stands s (nexts.Rest rest) = Works s

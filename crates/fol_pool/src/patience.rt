@@ -25,8 +25,8 @@ const CALLER_DOUBLINGS: u32 = 1;
 /// How many seats may be in the lock before a worker stays away at once.
 const BEARABLE_CROWD: u64 = 2;
 
-/// How many more entries of others a tick that is worth a worker of its own sees than the wait for it.
-const WORTH: u64 = 2;
+/// How much pressure goes where a tick ends and finds the lock free.
+const RELIEF: u32 = 2;
 
 /// How much pressure a worker bears before it stays away from any crowd, and how much it remembers at most.
 const BEARABLE_PRESSURE: u32 = 8;
@@ -38,8 +38,10 @@ const MOST_PRESSURE: u32 = 40;
 pub(crate) struct Patience {
     /// How many misses there were in a row.
     misses: u32,
-    /// How much more often, of late, a tick was not worth a worker of its own.
+    /// How much more often, of late, a tick ended and found others in the lock.
     pressure: u32,
+    /// How much pressure it bears.
+    bearable: u32,
     doublings: u32,
     parker: Parker,
 }
@@ -47,44 +49,41 @@ pub(crate) struct Patience {
 impl Patience {
     /// Of a worker on a thread of its own.
     pub(crate) fn of_worker() -> Patience {
-        Patience::new(WORKER_DOUBLINGS)
+        Patience::new(WORKER_DOUBLINGS, BEARABLE_PRESSURE)
     }
 
-    /// Of the thread that waits for the end of a phase.
+    /// Of the thread that waits for the end of a phase, which leaves nothing to others.
     pub(crate) fn of_caller() -> Patience {
-        Patience::new(CALLER_DOUBLINGS)
+        Patience::new(CALLER_DOUBLINGS, MOST_PRESSURE)
     }
 
-    fn new(doublings: u32) -> Patience {
+    fn new(doublings: u32, bearable: u32) -> Patience {
         Patience {
             misses: 0,
             pressure: 0,
+            bearable,
             doublings,
             parker: Parker::new(),
         }
     }
 
-    /// There was something to do, so the next miss is met by a short stay.
-    pub(crate) fn found(&mut self) {
-        self.misses = 0;
-    }
-
-    /// A tick was run. Others recorded so many entries from the end of the last one to its begin, and so many more before its own end.
+    /// A tick has run, and so many seats are in the lock. Whether its worker had better leave the next one to others.
     ///
-    /// Where others got no further during the tick than while its worker waited to begin it, ticks are so short that all of them wait for
-    /// the lock, and one worker fewer is faster. Under such pressure the next miss is met by a long stay.
-    pub(crate) fn found_beside(&mut self, before: u64, during: u64) {
-        let is_worth = during >= before.saturating_add(WORTH);
-        self.pressure = if is_worth || during == 0 {
-            self.pressure.saturating_sub(2)
+    /// Where it finds others in the lock again and again, ticks are so short that all of them wait for it, and one worker fewer is
+    /// faster. It then stays away the longer, the more often that was so.
+    pub(crate) fn leaves(&mut self, crowd: u64) -> bool {
+        self.pressure = if crowd == 0 {
+            self.pressure.saturating_sub(RELIEF)
         } else {
             self.pressure.saturating_add(1).min(MOST_PRESSURE)
         };
-        self.misses = if self.pressure > BEARABLE_PRESSURE {
+        let leaves = self.pressure > self.bearable;
+        self.misses = if leaves {
             AWAKE.saturating_add(self.pressure / 4)
         } else {
             0
         };
+        leaves
     }
 
     /// There was nothing to do, or no room to do it: stays away, longer each time.
@@ -101,7 +100,7 @@ impl Patience {
 
     /// Whether so many seats in the lock are too many: more than bearable, or under pressure any.
     pub(crate) fn is_crowded(&self, crowd: u64) -> bool {
-        crowd > BEARABLE_CROWD || (crowd > 0 && self.pressure > BEARABLE_PRESSURE)
+        crowd > BEARABLE_CROWD || (crowd > 0 && self.pressure > self.bearable)
     }
 
     /// Sleeps, where each doubling makes it twice as long, up to a limit.

@@ -8,7 +8,7 @@ ghost use Rattle.fol_pool.specs.Works.{IsBack, SameSeat, Works};
 
 use crate::commands::GivesUp;
 use crate::patience::Patience;
-use crate::tick::{Tried, tick};
+use crate::tick::{Rest, ticks};
 use fol_io::Gate;
 use fol_live::{Close, Live, Seat};
 use std::alloc::Global;
@@ -35,12 +35,11 @@ pub(crate) fn end_phase<R: Wait, G: Gate + Sync>(
     let mut worker = worker;
     let mut patience = Patience::of_caller();
     for _turn in rt.forever() {
-        let (back, tried) = tick(rt, alloc, live, worker, gate);
+        let (back, rest) = ticks(rt, alloc, live, worker, &mut patience, gate);
         worker = back;
-        match tried {
-            Tried::Done { .. } => patience.found(),
-            Tried::Over => return (worker, Err(GivesUp)),
-            Tried::Idle => match live.close_phase(rt, caller) {
+        match rest {
+            Rest::Over => return (worker, Err(GivesUp)),
+            Rest::Left | Rest::Idle => match live.close_phase(rt, caller) {
                 Ok(Close::Closed) => return (worker, Ok(())),
                 Ok(Close::NotYet(_)) => patience.step_back(rt),
                 Ok(Close::NoPhase | Close::Over) | Err(_) => return (worker, Err(GivesUp)),

@@ -1,47 +1,85 @@
-//! One tick of a worker.
+//! The ticks of a worker.
 
 ghost use Rattle.std.specs.Prelude.{◌≡◌};
 ghost use Rattle.fol_live.specs.Lives.{live_id};
-ghost use Rattle.fol_pool.specs.Works.{HasRun, Holds, SameSeat, Works};
+ghost use Rattle.fol_pool.specs.Works.{HasAsked, HasRun, Holds, SameSeat, Stands, Works};
 
+use crate::patience::Patience;
 use fol_core::Tick;
 use fol_io::Gate;
-use fol_live::{Live, LiveBegin, LiveHost, Seat};
+use fol_live::{Live, LiveBegin, LiveHost, NextTick, Seat};
 use fol_tick::run_tick;
-use std::alloc::Global;
+use std::alloc::{AllocError, Global};
 use std::sync::Wait;
 
-/// What trying a tick came to.
+/// Why a worker has no tick.
 #[derive(Clone, Copy)]
-pub(crate) enum Tried {
-    /// A tick was run: its Begin stands at this place of the history, and its End is the last of so many entries.
-    Done { begun: u64, length: u64 },
-    /// No region owed a tick.
+pub(crate) enum Rest {
+    /// It left the next one to others, since too many wait for the lock.
+    Left,
+    /// No region owed one.
     Idle,
     /// The history is over, or memory was not found, and the world was stopped.
     Over,
 }
 
-/// Begins, runs and ends one tick, where a Ready region owes one. The gate is passed between its Begin and its End.
-pub(crate) fn tick<R: Wait, G: Gate + Sync>(
+/// What a worker is at.
+#[derive(Drop)]
+pub(crate) enum Next {
+    Tick(Tick),
+    Rest(Rest),
+}
+
+/// Begins, runs and ends ticks, until there is no next one. Each End and the Begin behind it are one turn of the lock. The gate is passed
+/// between the Begin and the End of each.
+pub(crate) fn ticks<R: Wait, G: Gate + Sync>(
     rt: &R,
     alloc: Global,
     live: &Live,
-    mut seat: Seat,
+    seat: Seat,
+    patience: &mut Patience,
     gate: &G,
-) -> (Seat, Tried)
+) -> (Seat, Rest)
     requires own { seat.lock ≡ live_id live.now }
     requires works { Works seat }
     ensures same { SameSeat seat result.0 }
     ensures works { Works result.0 }
 {
-    match live.begin(rt, alloc, &mut seat) {
-        Ok(LiveBegin::Got(tick)) => run(rt, alloc, live, seat, tick, gate),
-        Ok(LiveBegin::Idle) => (seat, Tried::Idle),
-        Ok(LiveBegin::Over) => (seat, Tried::Over),
+    let mut seat = seat;
+    let begun = live.begin(rt, alloc, &mut seat);
+    let mut next = next_tick(rt, live, &mut seat, begun);
+    for _turn in rt.forever() {
+        match next {
+            Next::Rest(rest) => return (seat, rest),
+            Next::Tick(tick) => {
+                let (back, then) = run(rt, alloc, live, seat, tick, patience, gate);
+                seat = back;
+                next = then;
+            }
+        }
+    }
+    unreachable!()
+}
+
+/// What a worker is at after it asked for a tick. Where memory was not found, it stops the world.
+fn next_tick<R: Wait>(
+    rt: &R,
+    live: &Live,
+    seat: &mut Seat,
+    begun: Result<LiveBegin, AllocError>,
+) -> Next
+    requires own { seat.old.lock ≡ live_id live.now }
+    requires asked { HasAsked seat.old begun }
+    ensures same { SameSeat seat.old seat.new }
+    ensures stands { Stands seat.new result }
+{
+    match begun {
+        Ok(LiveBegin::Got(tick)) => Next::Tick(tick),
+        Ok(LiveBegin::Idle) => Next::Rest(Rest::Idle),
+        Ok(LiveBegin::Over) => Next::Rest(Rest::Over),
         Err(_) => {
-            live.stop(rt, &mut seat);
-            (seat, Tried::Over)
+            live.stop(rt, seat);
+            Next::Rest(Rest::Over)
         }
     }
 }
@@ -53,12 +91,13 @@ fn run<R: Wait, G: Gate + Sync>(
     live: &Live,
     seat: Seat,
     tick: Tick,
+    patience: &mut Patience,
     gate: &G,
-) -> (Seat, Tried)
+) -> (Seat, Next)
     requires own { seat.lock ≡ live_id live.now }
     requires holds { Holds seat tick }
     ensures same { SameSeat seat result.0 }
-    ensures works { Works result.0 }
+    ensures stands { Stands result.0 result.1 }
 {
     gate.passed(tick.worker, tick.region);
     let mut tick = tick;
@@ -66,27 +105,55 @@ fn run<R: Wait, G: Gate + Sync>(
     let ran = run_tick(alloc, &mut tick, &mut host);
     let mut seat = host.into_seat();
     match ran {
-        Ok(()) => end(rt, alloc, live, seat, tick),
+        Ok(()) => {
+            let next = end(rt, alloc, live, &mut seat, tick, patience);
+            (seat, next)
+        }
         Err(_) => {
             live.stop(rt, &mut seat);
-            (seat, Tried::Over)
+            (seat, Next::Rest(Rest::Over))
         }
     }
 }
 
-/// Ends a tick that has run.
-fn end<R: Wait>(rt: &R, alloc: Global, live: &Live, mut seat: Seat, tick: Tick) -> (Seat, Tried)
-    requires own { seat.lock ≡ live_id live.now }
-    requires ran { HasRun seat tick }
-    ensures same { SameSeat seat result.0 }
-    ensures works { Works result.0 }
+/// Ends a tick that has run, and begins the next one unless too many wait for the lock.
+fn end<R: Wait>(
+    rt: &R,
+    alloc: Global,
+    live: &Live,
+    seat: &mut Seat,
+    tick: Tick,
+    patience: &mut Patience,
+) -> Next
+    requires own { seat.old.lock ≡ live_id live.now }
+    requires ran { HasRun seat.old tick }
+    ensures same { SameSeat seat.old seat.new }
+    ensures stands { Stands seat.new result }
 {
-    let begun = tick.begun;
-    match live.release(rt, alloc, &mut seat, tick) {
-        Ok(length) => (seat, Tried::Done { begun, length }),
+    if patience.leaves(live.crowd()) {
+        return leave(rt, alloc, live, seat, tick);
+    }
+    match live.release_and_begin(rt, alloc, seat, tick) {
+        Ok(NextTick { length: _, begun }) => next_tick(rt, live, seat, begun),
         Err(_) => {
-            live.stop(rt, &mut seat);
-            (seat, Tried::Over)
+            live.stop(rt, seat);
+            Next::Rest(Rest::Over)
+        }
+    }
+}
+
+/// Ends a tick that has run, and leaves the next one to others.
+fn leave<R: Wait>(rt: &R, alloc: Global, live: &Live, seat: &mut Seat, tick: Tick) -> Next
+    requires own { seat.old.lock ≡ live_id live.now }
+    requires ran { HasRun seat.old tick }
+    ensures same { SameSeat seat.old seat.new }
+    ensures stands { Stands seat.new result }
+{
+    match live.release(rt, alloc, seat, tick) {
+        Ok(_) => Next::Rest(Rest::Left),
+        Err(_) => {
+            live.stop(rt, seat);
+            Next::Rest(Rest::Over)
         }
     }
 }

@@ -5,7 +5,7 @@ ghost use Rattle.fol_live.specs.Lives.{live_id};
 ghost use Rattle.fol_pool.specs.Works.{SameSeat, Works};
 
 use crate::patience::Patience;
-use crate::tick::{Tried, tick};
+use crate::tick::{Rest, ticks};
 use fol_io::Gate;
 use fol_live::{Live, Seat};
 use std::alloc::Global;
@@ -43,16 +43,11 @@ pub(crate) fn work<R: Wait, G: Gate + Sync>(
             patience.step_back(rt);
             continue;
         }
-        let front = seat.front();
-        let (back, tried) = tick(rt, alloc, live, seat, gate);
+        let (back, rest) = ticks(rt, alloc, live, seat, &mut patience, gate);
         seat = back;
-        match tried {
-            Tried::Done { begun, length } => patience.found_beside(
-                begun.saturating_sub(front),
-                length.saturating_sub(begun).saturating_sub(2),
-            ),
-            Tried::Idle => patience.step_back(rt),
-            Tried::Over => return seat,
+        match rest {
+            Rest::Left | Rest::Idle => patience.step_back(rt),
+            Rest::Over => return seat,
         }
     }
     unreachable!()
