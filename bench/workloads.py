@@ -150,6 +150,88 @@ def churn(size):
             yield from run(2, inside)
 
 
+def repeating(size):
+    """One task repeats for 2,000 ticks in a region of SIZE chunks, 60 wide, in which nothing else happens."""
+    yield from grid(0, 1, 1, 2, 1, 6, version=2)
+    yield from script()
+    yield from square(0, 0, 60, size // 60)
+    yield "every 0 0 1 1 2000 set 0 0 0 1"
+    yield from run(2_000)
+
+
+def beside(size):
+    """A chunk beside a region of SIZE chunks and one inside it come and go, 500 times each, with a tick after each."""
+    yield from grid(0, 1, 1, 2, 1, 6)
+    yield from script()
+    yield from square(0, 0, 60, size // 60)
+    for _ in range(500):
+        for what, x, z in (("load", 60, 0), ("unload", 60, 0), ("unload", 30, 1), ("load", 30, 1)):
+            yield f"{what} {x} {z}"
+            yield from run(1)
+
+
+def sets(size):
+    """SIZE tasks set as many blocks in one region of 16 by 16 chunks, in no order, over 100 ticks."""
+    yield from grid(0, 1, 1, 2, 1, 6)
+    yield from script()
+    yield from square(0, 0, 16, 16)
+    for number in range(size):
+        x, z, y = spread(number)
+        yield f"post {x // 16} {z // 16} {1 + number % 100} set {x} {y} {z} {1 + number % 65_535}"
+    yield from run(100)
+
+
+def laid(size):
+    """The world has SIZE blocks in one region of 16 by 16 chunks, in no order, and ticks ten times."""
+    yield from grid(0, 1, 1, 2, 1, 6)
+    for number in range(size):
+        x, z, y = spread(number)
+        yield f"block {x} {y} {z} {1 + number % 65_535}"
+    yield from script()
+    yield from square(0, 0, 16, 16)
+    yield from run(10)
+
+
+def standing(size):
+    """SIZE entities stand in one region of 16 by 16 chunks for 500 ticks, and ten more walk."""
+    yield from grid(0, 1, 1, 2, 1, 6)
+    for number in range(size + 10):
+        x, z, y = spread(number)
+        yield f"entity {number + 1} {x} {y} {z} {int(number >= size)} 0"
+    yield from script()
+    yield from square(0, 0, 16, 16)
+    yield from run(500)
+
+
+def far(size):
+    """20,000 loads and unloads of chunks far from a region of SIZE chunks and from each other, with ten ticks."""
+    yield from grid(0, 1, 1, 2, 1, 6)
+    yield from script()
+    yield from square(0, 0, 60, size // 60)
+    for turn in range(10):
+        places = [(2_000 + 8 * (place % 40), 8 * (place // 40)) for place in range(1_000)]
+        yield from (f"load {x} {z}" for x, z in places)
+        yield from run(1)
+        yield from (f"unload {x} {z}" for x, z in places)
+
+
+def players(size):
+    """The areas of 60 players, 5 by 5 chunks each, walk SIZE steps through the world, meet, merge and part; a tick after each step."""
+    yield from grid(0, 1, 1, 2, 1, 6)
+    yield from script()
+    ways = ((1, 0), (0, 1), (-1, 0), (0, -1))
+    places = [(20 * (player % 8), 20 * (player // 8)) for player in range(60)]
+    for x, z in places:
+        yield from square(x, z, 5, 5)
+    for step in range(size):
+        for player, (x, z) in enumerate(places):
+            dx, dz = ways[(player + step // 40) % 4]
+            yield from edge("load", x + dx, z + dz, dx, dz)
+            yield from edge("unload", x, z, -dx, -dz)
+            places[player] = x + dx, z + dz
+        yield from run(1)
+
+
 # Each workload with its least size.
 WORKLOADS = {
     "idle": (idle, 450),
@@ -161,6 +243,13 @@ WORKLOADS = {
     "crowds": (crowds, 50),
     "chains": (chains, 2_500),
     "churn": (churn, 25),
+    "repeating": (repeating, 900),
+    "beside": (beside, 900),
+    "sets": (sets, 60_000),
+    "laid": (laid, 100_000),
+    "standing": (standing, 5_000),
+    "far": (far, 900),
+    "players": (players, 40),
 }
 
 
@@ -180,6 +269,20 @@ def square(left, top, width, height):
     for z in range(top, top + height):
         for x in range(left, left + width):
             yield f"load {x} {z}"
+
+
+def edge(what, left, top, dx, dz):
+    """The side of an area of 5 by 5 chunks to which (dx, dz) points."""
+    for place in range(5):
+        x = left + (place if dz else (4 if dx > 0 else 0))
+        z = top + (place if dx else (4 if dz > 0 else 0))
+        yield f"{what} {x} {z}"
+
+
+def spread(number):
+    """A place in the first 16 by 16 chunks, another for each number below 16,777,216, in no order of places."""
+    place = number * 9_973 % 16_777_216
+    return place % 256, place // 256 % 256, place // 65_536
 
 
 def run(ticks, inside=()):
