@@ -24,7 +24,7 @@ use Rattle.fol_live.proofs.Bare.{bare_begin, bare_close, bare_finish, bare_load,
 use Rattle.fol_live.proofs.Taken.{Done, bare, moved}
 
 module _ {old new : Shown} {m n : Meaning} {by : ℕ} (d : Done old new m n by) where
-  stays : {X E : Type 0} (r : Result X E) → OnErr r (Stays m n) → OnErr r (Stays (bare m) (bare n))
+  pub stays : {X E : Type 0} (r : Result X E) → OnErr r (Stays m n) → OnErr r (Stays (bare m) (bare n))
   stays r = err_map (Stays m n) (Stays (bare m) (bare n)) r (bare_stays m n)
 
   pub lists_owners : (r : Result Owners AllocError) → Stays m n → IfOk r (λ o. o.front ≡ length n.history) → IfOk r (λ o. o.rows.items ≡ owner_rows (world_of n)) → ListsOwners old new r
@@ -103,7 +103,7 @@ module _ {old new : Shown} {m n : Meaning} {by : ℕ} (d : Done old new m n by) 
     recorded = moved d (λ a b k. StopRecords a b k (is_over (world_of a))) (bare_stop m n by (is_over (world_of m)) recorded);
   }
 
-  pub begins : (r : Result LiveBegin AllocError) → IfOk r (λ a. LiveBegins m n by a) → OnErr r (Stays m n) → Begins old new r
+  unfoldable pub begins : (r : Result LiveBegin AllocError) → IfOk r (λ a. LiveBegins m n by a) → OnErr r (Stays m n) → Begins old new r
   begins r recorded refused = record {
     now = d.now;
     turn = d.turn;

@@ -123,13 +123,13 @@ module _ {s t u : SeatOfLock} {m n : Meaning} {by : ℕ} {l : LockId} (v : Visit
   own_is : own_of s.number v.grew.added ≡ v.grew.added
   own_is = given_by-own by_of s.number v.grew.added (let same = sym v.number in rw same v.grew.own)
 
-  opening_is : n.opening ≡ opening_of u.origin
+  pub opening_is : n.opening ≡ opening_of u.origin
   opening_is = v.grew.opening ∙ opening_of_turn s m v.is v.continues ∙ ap opening_of (sym origin_is)
 
   abbrev now : Shown
   now = record { lock = s.lock; opening = m.opening; number = s.number; seen = m.history; mine = s.mine }
 
-  looks : Looks (view s) now
+  unfoldable pub looks : Looks (view s) now
   looks = record {
     lock = refl;
     opening = opening_of_turn s m v.is v.continues;
@@ -142,7 +142,7 @@ module _ {s t u : SeatOfLock} {m n : Meaning} {by : ℕ} {l : LockId} (v : Visit
     keeps = v.before;
   }
 
-  adds : s.lock ≡ l → Adds now (view u) v.grew.added
+  pub adds : s.lock ≡ l → Adds now (view u) v.grew.added
   adds own = record {
     lock = idle.0 ∙ sym own;
     opening = sym opening_is ∙ v.grew.opening;
@@ -153,7 +153,7 @@ module _ {s t u : SeatOfLock} {m n : Meaning} {by : ℕ} {l : LockId} (v : Visit
     keeps = (let opening = sym opening_is in rw (opening, seen) v.after);
   }
 
-  done_here : s.lock ≡ l → Done (view s) (view u) m n by
+  unfoldable pub done_here : s.lock ≡ l → Done (view s) (view u) m n by
   done_here own = record {
     now = now;
     turn = record { looks = looks; added = v.grew.added; adds = adds own };

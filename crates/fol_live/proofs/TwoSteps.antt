@@ -1,5 +1,5 @@
 -- A turn in which the core did two things, as two turns with nothing between.
-use Rattle.std.proofs.Common.{◌≡◌, ℕ, refl, sym, ◌∙◌, ap, List, [], ◌++◌, length, append_assoc}
+use Rattle.std.proofs.Common.{◌≡◌, ℕ, false, refl, sym, ◌∙◌, ap, List, [], ◌++◌, length, append_assoc}
 use Rattle.std.proofs.lemmas.List.{append-nil, append_cancel_left}
 use Rattle.std.specs.Prelude.{Result, Ok, Err, IfOk, IfErr, OnOk, OnErr}
 use Rattle.std.specs.declared.alloc.AllocError.{AllocError}
@@ -20,7 +20,7 @@ use Rattle.fol_live.specs.Results.{EndsAndBegins, LiveBegins}
 use Rattle.fol_live.specs.Seat.{HasFront, IsSeat, Shown, opening_of}
 use Rattle.fol_live.proofs.Called.{begins, releases}
 use Rattle.fol_live.proofs.Grown.{grew_begin, grew_one, grew_same}
-use Rattle.fol_live.proofs.Taken.{Done, Grew, IsIdleSeat, SeatOfLock, Visit, by_of, done, idle_seat, log_grows, view}
+use Rattle.fol_live.proofs.Taken.{Done, Grew, IsIdleSeat, SeatOfLock, Visit, by_of, done, done_here, idle_seat, log_grows, looks, view}
 
 -- the seat after the first step, if it had given the turn back
 abbrev pub halfway : SeatOfLock → Meaning → List Entry → SeatOfLock
@@ -40,7 +40,7 @@ module _ {s t : SeatOfLock} {m k n : Meaning} {by : ℕ} (v : Visit s t m k by) 
   half_is : IsIdleSeat half
   half_is = record { idle = refl; origin = v.is.origin; own = half_own }
 
-  half_continues : Continues (λ (w : Meaning). w.history) (λ (w : Meaning). w.opening) by_of half k
+  unfoldable half_continues : Continues (λ (w : Meaning). w.history) (λ (w : Meaning). w.opening) by_of half k
   half_continues = record {
     origin_is = (let same = v.grew.opening in rw same v.continues.origin_is);
     seen = ([], sym (append-nil k.history));
@@ -48,7 +48,7 @@ module _ {s t : SeatOfLock} {m k n : Meaning} {by : ℕ} (v : Visit s t m k by) 
   }
 
   -- the second step, as a turn of its own
-  second : Visit half (at_turn half k.history) k n by
+  unfoldable second : Visit half (at_turn half k.history) k n by
   second = record { is = half_is; continues = half_continues; taken = refl; number = v.number; before = v.after; after = after; grew = grew }
 
   taken_mine : (added : List Entry) → k.history ≡ t.seen ++ added → half.mine ≡ t.mine ++ added
@@ -58,9 +58,13 @@ module _ {s t : SeatOfLock} {m k n : Meaning} {by : ℕ} (v : Visit s t m k by) 
       rw taken (ap (λ (xs : List Entry). s.mine ++ xs) (append_cancel_left m.history v.grew.added added f))
 
   first_done : {old : Shown} {l : LockId} → view s ≡ old → old.lock ≡ l → s.lock ≡ l → Done old (view half) m k by
-  first_done is own lock =
+  first_done {old} {l} is own lock =
       let taken = v.taken in
-      done v {half} (lock, refl) (sym (ap (λ (x : SeatOfLock). x.number) taken)) (sym (ap (λ (x : SeatOfLock). x.origin) taken)) refl taken_mine is own
+      let idle : IsIdle l half = (lock, refl) in
+      let number : half.number ≡ t.number = sym (ap (λ (x : SeatOfLock). x.number) taken) in
+      let origin : half.origin ≡ t.origin = sym (ap (λ (x : SeatOfLock). x.origin) taken) in
+      let seen : half.seen ≡ k.history = refl in
+      done v idle number origin seen taken_mine is own
 
   -- what the whole turn adds
   pub both_grow : Extends by_of t.number t.seen n.history
@@ -86,8 +90,8 @@ module _ {s t : SeatOfLock} {m k n : Meaning} {by : ℕ} (v : Visit s t m k by) 
         let own = mine (v.grew.added ++ added) (rw taken whole) in
         rw taken at own ∙ sym (append_assoc s.mine v.grew.added added)
 
-    second_done : s.lock ≡ l → Done (view half) (view u) k n by
-    second_done lock = done second idle number_half origin_half seen mine_half refl lock
+    unfoldable second_done : s.lock ≡ l → Done (view half) (view u) k n by
+    second_done lock = done_here second idle number_half origin_half seen mine_half lock
 
     -- the seat is again one that is idle
     pub both_idle : (front : ℕ) → front ≡ length n.history → IsIdleSeat u × HasFront front u
@@ -111,7 +115,7 @@ lent m is same continues taken number before = record { is = is; continues = rw 
 visited : {s t : SeatOfLock} {m n : Meaning} {by : ℕ} → Lent s t m by → Keeps n.opening n.history → Grew m n by → Visit s t m n by
 visited l after grew = record { is = l.is; continues = l.continues; taken = l.taken; number = l.number; before = l.before; after = after; grew = grew }
 
-module _ {s t : SeatOfLock} {m n : Meaning} (tick : Tick) (l : Lent s t m tick.worker) (after : Keeps n.opening n.history) where
+module _ {s t : SeatOfLock} {m : Meaning} (n : Meaning) (tick : Tick) (l : Lent s t m tick.worker) (after : Keeps n.opening n.history) where
   ended : (next : NextTick) (e : EndsAndBegins m n tick next) → Visit s t m e.ended tick.worker
   ended next e = visited l e.keeps (grew_one m e.ended tick.worker (end_event (world_of m) tick.worker tick.region tick.log.ran) e.recorded)
 
@@ -131,14 +135,15 @@ module _ {s t : SeatOfLock} {m n : Meaning} (tick : Tick) (l : Lent s t m tick.w
     -- what the call says of the seat
     pub releases_and_begins : {old : Shown} (r : Result NextTick Tick) → view s ≡ old → old.lock ≡ lock → s.lock ≡ lock
         → IfOk r (λ next. EndsAndBegins m n tick next) → IfErr r (λ b. SameTick tick b) → OnErr r (Stays m n) → ReleasesAndBegins old (view u) tick r
+    unfolding begins done_here looks half_continues second second_done
     releases_and_begins (Ok next) is own same e back stays = record {
       ended = view (halfway s e.ended (ended next e).grew.added);
-      releases = releases tick (Ok next.length) (first_done (ended next e) after (begun next e) is own same) e.length e.recorded refl refl;
+      releases = releases tick (Ok next.length) (first_done (ended next e) after (begun next e) is own same) e.length e.recorded tt tt;
       begins = begins (second_done (ended next e) after (begun next e) idle number origin seen mine same) next.begun e.begun e.refused;
       at_once = refl;
     }
     releases_and_begins (Err b) is own same e back stays =
-        releases tick (Err b) (done (refused stays) idle number origin seen mine is own) refl refl back stays
+        releases tick (Err b) (done (refused stays) idle number origin seen mine is own) tt tt back stays
 
     -- the seat is again one that is idle
     pub idle_again : (r : Result NextTick Tick) → IfOk r (λ next. EndsAndBegins m n tick next) → OnErr r (Stays m n) → (front : ℕ) → front ≡ length n.history

@@ -19,7 +19,7 @@ give-requires-clause-log g c =
     let m : Meaning = c.state.result.now in
     let told = c.release_and_begin-answer.ensures in
     let l = lent m c.seat.invariant.0 c.state.ensures.value c.take-turn.ensures.state c.take-turn.ensures.seat (c.requires.mine ∙ ap (λ (x : Shown). x.number) (sym c.seat.view_is)) told.before in
-    turn_grows c.args.tick l told.after c.release_and_begin-answer.result told.next told.refused
+    turn_grows c.release_and_begin-answer.new.self c.args.tick l told.after c.release_and_begin-answer.result told.next told.refused
 
 pub returns : goal.returns
 returns g c =
@@ -27,7 +27,7 @@ returns g c =
     let told = c.release_and_begin-answer.ensures in
     let own = c.requires.own in
     let l = lent m c.seat.invariant.0 c.state.ensures.value c.take-turn.ensures.state c.take-turn.ensures.seat (c.requires.mine ∙ ap (λ (x : Shown). x.number) (sym c.seat.view_is)) told.before in
-    releases_and_begins c.args.tick l told.after c.give.ensures.idle c.give.ensures.number c.give.ensures.origin c.give.ensures.seen c.give.ensures.mine
+    releases_and_begins c.release_and_begin-answer.new.self c.args.tick l told.after c.give.ensures.idle c.give.ensures.number c.give.ensures.origin c.give.ensures.seen c.give.ensures.mine
     c.release_and_begin-answer.result c.seat.view_is own (ap (λ (x : Shown). x.lock) c.seat.view_is ∙ own) told.next told.back told.refused
 
 pub invariant_of-seat : goal.invariant_of-seat
@@ -35,5 +35,5 @@ invariant_of-seat g c =
     let m : Meaning = c.state.result.now in
     let told = c.release_and_begin-answer.ensures in
     let l = lent m c.seat.invariant.0 c.state.ensures.value c.take-turn.ensures.state c.take-turn.ensures.seat (c.requires.mine ∙ ap (λ (x : Shown). x.number) (sym c.seat.view_is)) told.before in
-    idle_again c.args.tick l told.after c.give.ensures.idle c.give.ensures.number c.give.ensures.origin c.give.ensures.seen c.give.ensures.mine
+    idle_again c.release_and_begin-answer.new.self c.args.tick l told.after c.give.ensures.idle c.give.ensures.number c.give.ensures.origin c.give.ensures.seen c.give.ensures.mine
     c.release_and_begin-answer.result told.next told.refused c.front-seat-inside.result (c.front-seat-inside.ensures ∙ ap (λ (w : Meaning). length w.history) c.state_ref.ensures)
