@@ -39,7 +39,7 @@ use Rattle.fol_live.specs.declared.answers.LiveBegin.TheVariants as begins
 use Rattle.fol_live.proofs.Busies.{busy_both}
 use Rattle.fol_live.proofs.Held.{held, run_out}
 use Rattle.fol_live.proofs.Hosted.{goes_still, goes_turn}
-use Rattle.fol_pool.specs.Works.{Calm, HasRun, Holds, SameSeat, Works}
+use Rattle.fol_pool.specs.Works.{HasAsked, Calm, HasRun, Holds, SameSeat, Works}
 use Rattle.fol_pool.proofs.Asked.{turns_asked}
 use Rattle.fol_pool.proofs.Going.{begun_rest, calm_goes, goes_looks, signed_rest, stopped_before, stopped_to, turns_still, turns_to, works_still}
 use Rattle.fol_tick_laws.proofs.ToldAgain.{told_again}
@@ -104,6 +104,13 @@ module _ (s u : Shown) (tick : Tick) (works : Works s) (did : Begins s u (Ok (be
     held = held s u tick did;
     ticks = turns_begun;
   }
+
+-- whatever came of asking for a tick
+pub begin_asks : (s u : Shown) (r : Result LiveBegin AllocError) → Works s → Begins s u r → HasAsked u r
+begin_asks s u (Ok (begins.Got tick)) works did = begin_holds s u tick works did
+begin_asks s u (Ok begins.Idle) works did = begin_idles s u works did
+begin_asks s u (Ok begins.Over) works did = begin_overs s u works did
+begin_asks s u (Err e) works did = begin_fails s u e works did
 
 pub begin_same : (s u : Shown) (r : Result LiveBegin AllocError) → Begins s u r → SameSeat s u
 begin_same s u r did = record {

@@ -1,5 +1,5 @@
 -- What a worker's seat keeps, between ticks and in one.
-use Rattle.std.specs.Prelude.{◌≡◌, ◌≤◌, true, false, List, [], filter, nat_eq, Result}
+use Rattle.std.specs.Prelude.{◌≡◌, ◌≤◌, true, false, List, [], filter, nat_eq, Result, Ok, Err}
 use Rattle.std.specs.declared.alloc.AllocError.{AllocError}
 use Rattle.std.specs.List.{AllByRecursion, list_any}
 use Rattle.fol_model.specs.declared.events.Entry.{Entry}
@@ -11,8 +11,8 @@ use Rattle.fol_data.specs.declared.tick.Tick.{Tick}
 use Rattle.fol_seat_laws.specs.Signed.{is_phase, own_of}
 use Rattle.fol_seat_laws.specs.Turns.{Turns}
 use Rattle.fol_live.specs.declared.answers.LiveBegin.{LiveBegin}
+use Rattle.fol_live.specs.declared.answers.LiveBegin.TheVariants as begins
 use Rattle.fol_live.specs.Busy.{is_busy}
-use Rattle.fol_live.specs.Calls.{Begins}
 use Rattle.fol_live.specs.Held.{HoldsRun, HoldsTick}
 use Rattle.fol_live.specs.Kept.{Keeps}
 use Rattle.fol_live.specs.Seat.{Shown}
@@ -59,10 +59,11 @@ pub record IsBack (given back : Shown) : Type 0 where
   pub works : Works back
 
 -- the seat asked for a tick when its ticks were whole, and this came of it
-pub record HasAsked (s : Shown) (r : Result LiveBegin AllocError) : Type 0 where
-  pub before : Shown
-  pub works : Works before
-  pub begins : Begins before s r
+abbrev pub HasAsked : Shown → Result LiveBegin AllocError → Type 0
+HasAsked s (Ok (begins.Got tick)) = Holds s tick
+HasAsked s (Ok begins.Idle) = Works s
+HasAsked s (Ok begins.Over) = Works s
+HasAsked s (Err e) = Works s
 
 -- it holds the tick that it is at, or its ticks are whole
 abbrev pub Stands : Shown → Next → Type 0

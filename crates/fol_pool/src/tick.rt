@@ -106,7 +106,11 @@ fn run<R: Wait, G: Gate + Sync>(
     let mut seat = host.into_seat();
     match ran {
         Ok(()) => {
-            let next = end(rt, alloc, live, &mut seat, tick, patience);
+            let next = if patience.leaves(live.crowd()) {
+                leave(rt, alloc, live, &mut seat, tick)
+            } else {
+                go_on(rt, alloc, live, &mut seat, tick)
+            };
             (seat, next)
         }
         Err(_) => {
@@ -116,30 +120,30 @@ fn run<R: Wait, G: Gate + Sync>(
     }
 }
 
-/// Ends a tick that has run, and begins the next one unless too many wait for the lock.
-fn end<R: Wait>(
-    rt: &R,
-    alloc: Global,
-    live: &Live,
-    seat: &mut Seat,
-    tick: Tick,
-    patience: &mut Patience,
-) -> Next
+/// Ends a tick that has run, and begins the next one.
+fn go_on<R: Wait>(rt: &R, alloc: Global, live: &Live, seat: &mut Seat, tick: Tick) -> Next
     requires own { seat.old.lock ≡ live_id live.now }
     requires ran { HasRun seat.old tick }
     ensures same { SameSeat seat.old seat.new }
     ensures stands { Stands seat.new result }
 {
-    if patience.leaves(live.crowd()) {
-        return leave(rt, alloc, live, seat, tick);
-    }
     match live.release_and_begin(rt, alloc, seat, tick) {
-        Ok(NextTick { length: _, begun }) => next_tick(rt, live, seat, begun),
+        Ok(next) => {
+            let begun = begun_next(next);
+            next_tick(rt, live, seat, begun)
+        }
         Err(_) => {
             live.stop(rt, seat);
             Next::Rest(Rest::Over)
         }
     }
+}
+
+/// What came of asking for the next tick.
+fn begun_next(next: NextTick) -> Result<LiveBegin, AllocError>
+    ensures { result ≡ next.begun }
+{
+    next.begun
 }
 
 /// Ends a tick that has run, and leaves the next one to others.

@@ -16,5 +16,5 @@ loop-turn-preserved g c =
     let still = still_closing c.loop-turn.caller c.close_phase.new.seat c.in-Ok-NotYet.field-0-0 (rw c.in-Ok-NotYet.field-0-is at c.in-Ok-NotYet.ensures) in
     record {
       caller = goes_both c.args.caller.now c.loop-turn.caller c.close_phase.new.seat [] [] c.loop-turn.invariant.caller still;
-      worker = back_then c.args.worker c.loop-turn.worker c.tick-back.result.0 c.loop-turn.invariant.worker c.tick-back.ensures.same c.tick-back.ensures.works;
+      worker = back_then c.args.worker c.loop-turn.worker c.ticks-back.result.0 c.loop-turn.invariant.worker c.ticks-back.ensures.same c.ticks-back.ensures.works;
     }

@@ -7,8 +7,16 @@ use Rattle.fol_pool.proofs.tick.run.Goals as goal
 pub run_tick-ran-requires : goal.run_tick-ran-requires
 run_tick-ran-requires g c = held_may_run c.args.seat c.args.tick c.requires.holds.held
 
-pub end-next-requires-clause-ran : goal.end-next-requires-clause-ran
-end-next-requires-clause-ran g c =
+pub leave-next-requires-clause-ran : goal.leave-next-requires-clause-ran
+leave-next-requires-clause-ran g c =
+    let ok = c.in-Ok.ensures.ok in
+    let taken : c.of-host.result.seat ≡ c.args.seat = c.of-host.ensures.seat in
+    let given : c.into_seat-seat.result ≡ c.run_tick-ran.new.host.seat = c.into_seat-seat.ensures in
+    let served = serves_to c.of-host.result.seat c.args.seat c.run_tick-ran.new.host.seat c.into_seat-seat.result ok.0 taken given ok.1 in
+    run_ran c.args.seat c.into_seat-seat.result c.args.tick c.run_tick-ran.new.tick ok.0 c.requires.holds served ok.2
+
+pub go_on-next-requires-clause-ran : goal.go_on-next-requires-clause-ran
+go_on-next-requires-clause-ran g c =
     let ok = c.in-Ok.ensures.ok in
     let taken : c.of-host.result.seat ≡ c.args.seat = c.of-host.ensures.seat in
     let given : c.into_seat-seat.result ≡ c.run_tick-ran.new.host.seat = c.into_seat-seat.ensures in
