@@ -1,0 +1,12 @@
+pub mod Steps
+pub mod Naturals
+pub mod Places
+pub mod FirstWords
+pub mod Lists
+pub mod AnswerWords
+pub mod Posting
+pub mod Near
+pub mod Cuts
+pub mod OneReading
+pub mod PostLines
+pub mod EndLines

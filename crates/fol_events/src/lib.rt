@@ -1,0 +1,42 @@
+//! The reader of the event lines of a report.
+//!
+//! `fol_model` says which words each event has in a report. `read_events` gives the history that the bytes of a report tell, or the first
+//! line of its head and its event lines that is not as it must be: it is no line of any event whose numbers are within their types,
+//! whose places are within the limits, and whose posts may be asked for. The rest of a report is not read.
+//!
+//! From the bottom up: `words` cuts a line into words and reads numbers and places, `answers` and `actions` read what an event holds,
+//! `heads` the first word of a line, `events` and `ends` a whole event, `lines` one line of a report, and `reading` all of them.
+//! Two laws say that a line tells one event and a report one history. The crate serves the checker of reports.
+#![tactic(auto)]
+
+ghost use Rattle.fol_events.specs.Laws.{OneEvent, OneHistory, NoFault};
+
+mod actions;
+mod answers;
+mod ends;
+mod events;
+mod faults;
+mod heads;
+mod lines;
+mod numbers;
+mod reading;
+#[cfg(test)]
+mod tests;
+mod words;
+
+pub use reading::{EventLines, read_events};
+
+/// Two events in range with the same words are the same.
+pub fn one_event()
+    ensures { OneEvent }
+{}
+
+/// Bytes begin with the event lines of one history at most, whatever follows them.
+pub fn one_history()
+    ensures { OneHistory }
+{}
+
+/// Bytes with a fault do not begin with the event lines of any history in range.
+pub fn no_fault()
+    ensures { NoFault }
+{}
