@@ -53,9 +53,6 @@ line_no_feed ws some ink = in_line_no_feed (line_of ws) (line_in_line ws some in
 pub line_cut : (ws : List Word) (l a more : List ℕ) → 0 < length ws → list_all is_ink_word ws ≡ true → has_no_feed l ≡ true → l ++ 10 ∷ a ≡ line ws ++ more → (l ≡ line_of ws) × (a ≡ more)
 line_cut ws l a more some ink h e = one_cut l (line_of ws) a more h (line_no_feed ws some ink) (e ∙ line_end ws more)
 
-pub no_line : (ws : List Word) (bytes more : List ℕ) → has_no_feed bytes ≡ true → bytes ≡ line ws ++ more → ⊥
-no_line ws bytes more h e = feed_in (line_of ws) more (ap has_no_feed (sym (e ∙ line_end ws more)) ∙ h)
-
 -- ---- the line of an event
 
 pub event_some : (e : Event) → 0 < length (event_words e)

@@ -60,6 +60,3 @@ pub so_far_more : {T X : Type 0} (spelt : T → List X) (xs : List T) (x : T) (b
 so_far_more {T} {X} spelt xs x behind now next e f =
     e ∙ ap (λ (l : List X). flat_map spelt xs ++ l) f ∙ sym (append_assoc (flat_map spelt xs) (spelt x) next)
     ∙ ap (λ (l : List X). l ++ next) (ap (λ (l : List X). flat_map spelt xs ++ l) (sym (append-nil (spelt x))) ∙ sym (flat_map-append spelt xs (x ∷ [])))
-
-pub counted_is : {T : Type 0} (spelt : T → List Word) (xs : List T) (n : ℕ) (old behind now : List Word) → length xs ≡ n → old ≡ decimal n ∷ behind → behind ≡ flat_map spelt xs ++ now → old ≡ counted spelt xs ++ now
-counted_is spelt xs n old behind now len e f = e ∙ ap (λ (l : List Word). decimal n ∷ l) f ∙ ap (λ (k : ℕ). decimal k ∷ (flat_map spelt xs ++ now)) (sym len)

@@ -13,10 +13,8 @@ use Rattle.fol_report_laws.proofs.Rows.{is_ink, is_ink_word, line_words}
 use Rattle.fol_report_laws.proofs.InkWords.{decimal_ink}
 use Rattle.fol_report_laws.proofs.Events.{event_in, event_again}
 use Rattle.fol_events.specs.InRange.{InRange, AllInRange}
-use Rattle.fol_events.specs.declared.reading.EventLines.{EventLines}
-use Rattle.fol_events.specs.declared.reading.EventLines.TheVariants.{Events, Text}
-use Rattle.fol_events.specs.Told.{events_text, count_line, Tells, Continues}
-use Rattle.fol_events.specs.Laws.{OneEvent, OneHistory, NoFault}
+use Rattle.fol_events.specs.Told.{events_text, count_line}
+use Rattle.fol_events.specs.Laws.{OneEvent, OneHistory, NoFault, FewEvents}
 use Rattle.fol_events.proofs.Lists.{Cuts, same_number, next_of}
 use Rattle.fol_events.proofs.Cuts.{line_cut, line_end, line_no_feed, event_some, event_ink}
 use Rattle.fol_events.proofs.Near.{is_told}
@@ -73,26 +71,6 @@ behind head count es rest = append_assoc head (count ++ es) rest ∙ ap (λ (l :
 pub text_falls : (h : List Entry) (rest : List ℕ) → events_text h ++ rest ≡ codes "report 1\n" ++ (count_line (length h) ++ (lines_of entry_words h ++ rest))
 text_falls h rest = behind (codes "report 1\n") (count_line (length h)) (lines_of entry_words h) rest
 
--- what lines tell behind the head and the count, the bytes tell
-pub continues_tells : (bytes behind text : List ℕ) (n : ℕ) (r : EventLines) → n ≤ 16777216 → bytes ≡ codes "report 1\n" ++ behind → behind ≡ count_line n ++ text → Continues n text r → Tells bytes r
-continues_tells bytes behind text n (Events h) few e f c =
-    let e2 = ap (λ (l : List ℕ). codes "report 1\n" ++ l) f in
-    let e3 = ap (λ (l : List ℕ). codes "report 1\n" ++ (count_line n ++ l)) c.text_is in
-    let e4 = ap (λ (k : ℕ). codes "report 1\n" ++ (count_line k ++ (lines_of entry_words h ++ c.rest))) (sym c.all) in
-    record { few = omega (arith, few, c.all); in_range = c.in_range; rest = c.rest; text = e ∙ e2 ∙ e3 ∙ e4 ∙ sym (text_falls h c.rest) }
-continues_tells bytes behind text n (Text l) few e f c =
-    let e2 = ap (λ (l : List ℕ). codes "report 1\n" ++ l) f in
-    let e3 = ap (λ (l : List ℕ). codes "report 1\n" ++ (count_line n ++ l)) c.text_is in
-    inr (inr (record {
-      count = n;
-      history = c.history;
-      rest = c.rest;
-      begins = record { few = few; text = e ∙ e2 ∙ e3; in_range = c.in_range };
-      more = c.more;
-      place = c.place;
-      none = c.none;
-    }))
-
 behind_line : (x : Entry) (xs : List Entry) (l : List ℕ) → lines_of entry_words (x ∷ xs) ++ l ≡ entry_line x ++ (lines_of entry_words xs ++ l)
 behind_line x xs l = append_assoc (entry_line x) (lines_of entry_words xs) l
 
@@ -139,7 +117,7 @@ few_lines (x ∷ xs) l =
     let n = ap length e ∙ ap length (line_end (entry_words x) (lines_of entry_words xs ++ l)) ∙ length-append (line_of (entry_words x)) (10 ∷ (lines_of entry_words xs ++ l)) in
     omega (arith, rest, n)
 
-pub few_events : (bytes : List ℕ) (h : List Entry) (rest : List ℕ) → length bytes ≤ 16777216 → bytes ≡ events_text h ++ rest → length h ≤ 16777216
+pub few_events : FewEvents
 few_events bytes h rest few e =
     let n = ap length (e ∙ text_falls h rest) ∙ length-append (codes "report 1\n") (count_line (length h) ++ (lines_of entry_words h ++ rest)) in
     let m = length-append (count_line (length h)) (lines_of entry_words h ++ rest) in

@@ -157,9 +157,6 @@ simple_post n c d inner some chunk delay h =
 
 -- ---- nothing round it
 
-pub simple_more : (n : ℕ) (d : Deed) → IsSimple 0 d → IsSimple n d
-simple_more n d h = record { posts = h.posts; few = let few : length d.wraps ≤ 0 = h.few in omega arith; no_arrival = h.no_arrival; within = h.within; entity = h.entity }
-
 at_no_post : (n : ℕ) (w : Word) (ws : List Word) → NotSpelt deed_words (IsSimple 0) (w ∷ ws) → ((0 < n) × (w ≡ codes "post") → ⊥) → (xs : List Wrap) (p : Plain) → IsSimple n (deed xs p) → w ∷ ws ≡ deed_words (deed xs p) → ⊥
 at_no_post n w ws none why [] p h e = none (deed [] p) (record { posts = refl; few = omega arith; no_arrival = h.no_arrival; within = h.within; entity = h.entity }) e
 at_no_post n w ws none why (every period left ∷ xs) p h e = absurd (let k : false ≡ true = h.posts in cc)
@@ -212,36 +209,6 @@ simple_parts d h =
     let a = and_parts (list_all is_post d.wraps) (nat_le (length d.wraps) 7 && not (is_arrival d.plain)) h in
     let b = and_parts (nat_le (length d.wraps) 7) (not (is_arrival d.plain)) a.1 in
     record { posts = a.0; few = leb-true (length d.wraps) 7 b.0; no_arrival = no_arrival_is (is_arrival d.plain) b.1 }
-
-pub postable_simple : (a : Action) → IsSimple 7 (deed_of a) → IsPostable a
-postable_simple (action.Set at id) h = record { action = h.within; may_post = refl; entity = h.entity }
-postable_simple (action.Copy at to) h = record { action = h.within; may_post = refl; entity = h.entity }
-postable_simple (action.Load c) h = record { action = h.within; may_post = refl; entity = h.entity }
-postable_simple (action.Unload c) h = record { action = h.within; may_post = refl; entity = h.entity }
-postable_simple (action.Send entity to) h = record { action = h.within; may_post = refl; entity = h.entity }
-postable_simple (action.Arrive e) h = absurd (let k : true ≡ false = h.no_arrival in cc)
-postable_simple (action.Every period left inner) h = absurd (let k : false ≡ true = h.posts in cc)
-postable_simple (action.Post c d inner) h =
-    let few : length (post c d ∷ inner.wraps) ≤ 7 = h.few in
-    let six : length inner.wraps ≤ 6 = omega arith in
-    let all = and_parts (is_wrap (post c d) && list_all is_wrap inner.wraps) (is_plain inner.plain) h.within in
-    let wraps = and_parts (is_wrap (post c d)) (list_all is_wrap inner.wraps) all.0 in
-    let simple = simple_is inner (record { posts = h.posts; few = omega arith; no_arrival = h.no_arrival; within = and_from (list_all is_wrap inner.wraps) (is_plain inner.plain) wraps.1 all.1; entity = h.entity }) in
-    record { action = h.within; may_post = and_from (nat_le (length inner.wraps) 6) (is_simple inner) (le-leb (length inner.wraps) 6 six) simple; entity = h.entity }
-
-pub simple_postable : (a : Action) (w : Word) (ws : List Word) → IsPostable a → w ∷ ws ≡ posted_words a → (w ≡ codes "every" → ⊥) → IsSimple 7 (deed_of a)
-simple_postable (action.Set at id) w ws h e never = record { posts = refl; few = omega arith; no_arrival = refl; within = h.action; entity = h.entity }
-simple_postable (action.Copy at to) w ws h e never = record { posts = refl; few = omega arith; no_arrival = refl; within = h.action; entity = h.entity }
-simple_postable (action.Load c) w ws h e never = record { posts = refl; few = omega arith; no_arrival = refl; within = h.action; entity = h.entity }
-simple_postable (action.Unload c) w ws h e never = record { posts = refl; few = omega arith; no_arrival = refl; within = h.action; entity = h.entity }
-simple_postable (action.Send entity to) w ws h e never = record { posts = refl; few = omega arith; no_arrival = refl; within = h.action; entity = h.entity }
-simple_postable (action.Arrive x) w ws h e never = absurd (let k : false ≡ true = h.may_post in cc)
-simple_postable (action.Every period left inner) w ws h e never = absurd (never (first_word w ws (every period left ∷ inner.wraps) inner.plain e))
-simple_postable (action.Post c d inner) w ws h e never =
-    let m = and_parts (nat_le (length inner.wraps) 6) (is_simple inner) h.may_post in
-    let six : length inner.wraps ≤ 6 = leb-true (length inner.wraps) 6 m.0 in
-    let s = simple_parts inner m.1 in
-    record { posts = s.posts; few = omega arith; no_arrival = s.no_arrival; within = h.action; entity = h.entity }
 
 pub every_postable : (period left : ℕ) (inner : Deed) → is_delay period ≡ true → is_count left ≡ true → IsSimple 7 inner → IsPostable (action.Every period left inner)
 every_postable period left inner delay count h =
@@ -299,12 +266,6 @@ pub every_words : (ws now next : List Word) (k j : ℕ) (d : Deed) → ws ≡ de
 every_words ws now next k j d f g e = cc
 
 -- an action that does not repeat
-
-pub no_posted : (ws : List Word) → ws ≡ [] → NotSpelt posted_words IsPostable ws
-no_posted ws none a h e = some_words (deed_of a) (sym none ∙ e)
-
-pub no_postable : (w : Word) (ws : List Word) → (w ≡ codes "every" → ⊥) → NotSpelt deed_words (IsSimple 7) (w ∷ ws) → NotSpelt posted_words IsPostable (w ∷ ws)
-no_postable w ws never none a h e = none (deed_of a) (simple_postable a w ws h e never) e
 
 pub postable_no_arrival : (a : Action) → may_post a ≡ true → is_arrival (deed_of a).plain ≡ false
 postable_no_arrival (action.Set at id) h = refl

@@ -18,3 +18,7 @@ OneHistory = (bytes : List ℕ) (g h : List Entry) (r s : List ℕ) → length g
 -- bytes with a fault do not begin with the event lines of a history in range
 abbrev pub NoFault : Type 0
 NoFault = (bytes : List ℕ) (l : ℕ) (h : List Entry) (rest : List ℕ) → IsFault bytes l → length h ≤ 16777216 → AllInRange h → bytes ≡ events_text h ++ rest → ⊥
+
+-- bytes of the length of a file begin with few event lines
+abbrev pub FewEvents : Type 0
+FewEvents = (bytes : List ℕ) (h : List Entry) (rest : List ℕ) → length bytes ≤ 16777216 → bytes ≡ events_text h ++ rest → length h ≤ 16777216

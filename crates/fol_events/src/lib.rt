@@ -6,10 +6,10 @@
 //!
 //! From the bottom up: `words` cuts a line into words and reads numbers and places, `answers` and `actions` read what an event holds,
 //! `heads` the first word of a line, `events` and `ends` a whole event, `lines` one line of a report, and `reading` all of them.
-//! Two laws say that a line tells one event and a report one history. The crate serves the checker of reports.
+//! Laws say that a line tells one event, a report one history, and one with a fault none. The crate serves the checker of reports.
 #![tactic(auto)]
 
-ghost use Rattle.fol_events.specs.Laws.{OneEvent, OneHistory, NoFault};
+ghost use Rattle.fol_events.specs.Laws.{OneEvent, OneHistory, NoFault, FewEvents};
 
 mod actions;
 mod answers;
@@ -39,4 +39,9 @@ pub fn one_history()
 /// Bytes with a fault do not begin with the event lines of any history in range.
 pub fn no_fault()
     ensures { NoFault }
+{}
+
+/// Bytes of at most 16,777,216 begin with the event lines of a history of at most so many events.
+pub fn few_events()
+    ensures { FewEvents }
 {}
