@@ -1,0 +1,17 @@
+pub mod Following
+pub mod Determined
+pub mod Answering
+pub mod Answered
+pub mod Growing
+pub mod Carried
+pub mod Calling
+pub mod Ticking
+pub mod CalmEnds
+pub mod Closing
+pub mod Places
+pub mod Wholly
+pub mod Prefixes
+pub mod Judging
+pub mod Ranges
+pub mod SameBy
+pub mod Deciding

@@ -1,0 +1,92 @@
+//! The replay of a whole list of events.
+
+ghost use Rattle.std.specs.Prelude.{◌≡◌, ◌++◌, ◌∷◌, [], false, List, IfOk};
+ghost use Rattle.fol_model.specs.declared.events.Entry.{Entry as EntryOf};
+ghost use Rattle.fol_events.specs.InRange.{AllInRange};
+ghost use Rattle.fol_report_laws.specs.Laws.{events};
+ghost use Rattle.fol_check.specs.Replays.{Closes, LastFinishes, Replays, is_last};
+ghost use Rattle.fol_check.specs.Standing.{Stands};
+
+use crate::replay::Replay;
+use fol_core::CloseFault;
+use fol_model::{Closing, Entry, Event, Opening, Script, Sequence};
+use std::alloc::{AllocError, Global};
+use std::collections::VecDeque;
+
+/// What a replay of events came to.
+#[derive(Drop)]
+pub(crate) enum Replayed {
+    /// They are a legal history of the script, with this closing.
+    Whole(Closing),
+    /// The events before the one with this number, counted from 1, are the beginning of a history of the script, and with it they are not.
+    /// It is one more than there are where they are such a beginning, and the last is not Finish.
+    Stops(u64),
+}
+
+/// Replays the events of a history on the world of an opening, as a history of a script that at most 64 workers run.
+pub(crate) fn replay_events(
+    alloc: Global,
+    opening: Opening,
+    script: Script,
+    history: Sequence<Entry>,
+) -> Result<Replayed, AllocError>
+    requires in_range { AllInRange history }
+    ensures { IfOk result (λ r. Replays opening script (events history) r) }
+{
+    let mut replay = Replay::start(alloc, opening, script)?;
+    let mut left = VecDeque::from_vec(history.into_vec());
+    let mut place: u64 = 1;
+    'events: while let Some(entry) = left.pop_front() {
+        if !replay.step(alloc, entry.event)? {
+            return Ok(Replayed::Stops(place));
+        }
+        place += 1;
+    }
+    if !replay.is_finished() {
+        return Ok(Replayed::Stops(place));
+    }
+    let closing = replay.close(alloc)?;
+    Ok(Replayed::Whole(closing))
+}
+
+impl Replay {
+    /// Whether the last event is Finish.
+    fn is_finished(&self) -> bool
+        ensures some { (hs : List EntryOf) (e : EntryOf) → self.now.core.history ≡ hs ++ e ∷ [] → result ≡ is_last e.event }
+        ensures none { self.now.core.history ≡ [] → result ≡ false }
+    {
+        match self.core.history().last() {
+            Some(entry) => is_finish(&entry.event),
+            None => false,
+        }
+    }
+
+    /// The closing of a history that is finished.
+    fn close(self, alloc: Global) -> Result<Closing, AllocError>
+        requires stands { Stands self }
+        requires finished { LastFinishes self.core.history }
+        ensures { IfOk result (λ c. Closes self c) }
+    {
+        let Replay {
+            core,
+            script: _,
+            next: _,
+            workers: _,
+        } = self;
+        match core.closing(alloc) {
+            Ok(closing) => Ok(closing),
+            Err(CloseFault::NoMemory) => Err(AllocError),
+            Err(CloseFault::Ticking(_)) => unreachable!(),
+        }
+    }
+}
+
+/// Whether the event is Finish.
+fn is_finish(event: &Event) -> bool
+    ensures { result ≡ is_last event.now }
+{
+    match event {
+        Event::Finish => true,
+        _ => false,
+    }
+}
