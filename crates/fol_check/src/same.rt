@@ -9,65 +9,34 @@ pub(crate) fn same_action(a: &Action, b: &Action) -> bool
     ensures { IsTrue result ↔ (a.now ≡ b.now) }
 {
     match a {
-        Action::Set { at, id } => match b {
-            Action::Set { at: at_b, id: id_b } => *at == *at_b && *id == *id_b,
-            _ => false,
-        },
-        Action::Copy { at, to } => match b {
-            Action::Copy { at: at_b, to: to_b } => same_place(*at, *at_b) && same_place(*to, *to_b),
-            _ => false,
-        },
-        Action::Load(chunk) => match b {
-            Action::Load(chunk_b) => *chunk == *chunk_b,
-            _ => false,
-        },
-        Action::Unload(chunk) => match b {
-            Action::Unload(chunk_b) => *chunk == *chunk_b,
-            _ => false,
-        },
+        Action::Set { at, id } => {
+            matches!(b, Action::Set { at: p, id: n } if *p == *at && *n == *id)
+        }
+        Action::Copy { at, to } => {
+            matches!(b, Action::Copy { at: p, to: q } if same_place(*at, *p) && same_place(*to, *q))
+        }
+        Action::Load(chunk) => matches!(b, Action::Load(c) if *chunk == *c),
+        Action::Unload(chunk) => matches!(b, Action::Unload(c) if *chunk == *c),
         Action::Post {
             chunk,
             delay,
             action,
-        } => match b {
-            Action::Post {
-                chunk: chunk_b,
-                delay: delay_b,
-                action: action_b,
-            } => {
-                *chunk == *chunk_b
-                    && *delay == *delay_b
-                    && same_action(action.get(), action_b.get())
-            }
-            _ => false,
-        },
-        Action::Send { entity, to } => match b {
-            Action::Send {
-                entity: entity_b,
-                to: to_b,
-            } => *entity == *entity_b && *to == *to_b,
-            _ => false,
-        },
-        Action::Arrive(entity) => match b {
-            Action::Arrive(entity_b) => same_entity(*entity, *entity_b),
-            _ => false,
-        },
+        } => {
+            matches!(b, Action::Post { chunk: c, delay: d, action: x }
+                if *chunk == *c && *delay == *d && same_action(action.get(), x.get()))
+        }
+        Action::Send { entity, to } => {
+            matches!(b, Action::Send { entity: e, to: p } if *entity == *e && *to == *p)
+        }
+        Action::Arrive(entity) => matches!(b, Action::Arrive(e) if same_entity(*entity, *e)),
         Action::Every {
             period,
             left,
             action,
-        } => match b {
-            Action::Every {
-                period: period_b,
-                left: left_b,
-                action: action_b,
-            } => {
-                *period == *period_b
-                    && *left == *left_b
-                    && same_action(action.get(), action_b.get())
-            }
-            _ => false,
-        },
+        } => {
+            matches!(b, Action::Every { period: p, left: n, action: x }
+                if *period == *p && *left == *n && same_action(action.get(), x.get()))
+        }
     }
 }
 
