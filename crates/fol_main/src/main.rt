@@ -1,4 +1,4 @@
-//! The program: `fol run WORLD SCRIPT WORKERS`, `fol run WORLD SCRIPT WORKERS json` and `fol make N`.
+//! The program: `fol run WORLD SCRIPT WORKERS`, `fol run WORLD SCRIPT WORKERS json`, `fol check WORLD SCRIPT REPORT` and `fol make N`.
 //!
 //! It gives the top call the real files and the standard streams, and ends with the code of its status. Where memory for the words of
 //! the command line is not found, it ends as the top call does where it finds none.

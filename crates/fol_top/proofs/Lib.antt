@@ -1,4 +1,9 @@
 pub mod GoodTexts
+pub mod LegalReports
 pub mod MadeTexts
+pub mod NamedFiles
 pub mod Outcomes
+pub mod ReadEndings
 pub mod RunEndings
+pub mod ShortScripts
+pub mod ToldTexts

@@ -28,6 +28,10 @@ cause_text (Some cause) = cause_word cause
 abbrev pub bad_line_text : List ℕ → ℕ → Option Cause → List ℕ
 bad_line_text text line cause = codes "fol: " ++ text ++ codes " line " ++ decimal line ++ codes " " ++ cause_text cause ++ codes "\n"
 
+-- `fol: TEXT N` and the end of the line
+abbrev pub numbered_text : List ℕ → ℕ → List ℕ
+numbered_text text number = codes "fol: " ++ text ++ codes " " ++ decimal number ++ codes "\n"
+
 -- the text of a status; there is none at code 0
 abbrev pub text_of : Status → List ℕ
 text_of s =
@@ -38,7 +42,10 @@ text_of s =
     else (if nat_eq s.code 6 then codes "fol: write fault\n"
     else (if nat_eq s.code 7 then codes "fol: no memory\n"
     else (if nat_eq s.code 8 then codes "fol: too long\n"
-    else []))))))
+    else (if nat_eq s.code 10 then numbered_text (codes "text line") s.line
+    else (if nat_eq s.code 11 then numbered_text (codes "event") s.line
+    else (if nat_eq s.code 12 then numbered_text (codes "state line") s.line
+    else [])))))))))
 
 -- a sink was given the text in one put: it received it, or a prefix of it where its count of faults rose
 abbrev pub Puts : Option (List ℕ) → Option (List ℕ) → ℕ → ℕ → List ℕ → Type 0
@@ -49,11 +56,15 @@ pub record Complains (before now : Option (List ℕ)) (faults later : ℕ) (s : 
   pub nothing : s.code ≡ 0 → now ≡ before
   pub text : s.code ≢ 0 → Puts before now faults later (text_of s)
 
-abbrev pub is_bad_line : Ending → Bool
-is_bad_line (endings.World line cause) = true
-is_bad_line (endings.Script line cause) = true
-is_bad_line _ = false
+-- its text has a number
+abbrev pub has_number : Ending → Bool
+has_number (endings.World line cause) = true
+has_number (endings.Script line cause) = true
+has_number (endings.ReportText line) = true
+has_number (endings.ReportEvent number) = true
+has_number (endings.ReportState line) = true
+has_number _ = false
 
--- the ending that is told: out of memory may take the place of a bad line
+-- the ending that is told: out of memory may take the place of one whose text has a number
 abbrev pub IsTold : Ending → Ending → Type 0
-IsTold ending told = (told ≡ ending) ⊎ ((is_bad_line ending ≡ true) × (told ≡ endings.NoMemory))
+IsTold ending told = (told ≡ ending) ⊎ ((has_number ending ≡ true) × (told ≡ endings.NoMemory))

@@ -1,9 +1,9 @@
--- The bytes of the two files that `run` names.
-use Rattle.std.specs.Prelude.{ℕ, ◌≡◌, ◌≤◌, ◌⊎◌, List, length, Option, Some}
+-- The bytes of the files that the words name.
+use Rattle.std.specs.Prelude.{ℕ, ◌≡◌, ◌≤◌, ◌+◌, List, ◌∷◌, ◌++◌, length, Option, Some}
+use Rattle.std.specs.List.{AllByRecursion, AllZip}
 use Rattle.fol_io.specs.Counts.{raised, Rose}
 use Rattle.fol_io.specs.Shelf.{IsHeld, IsTooLong}
-use Rattle.fol_top.specs.Command.{FileNames, request_in, run}
-use Rattle.fol_top.specs.declared.form.Form.{Form}
+use Rattle.fol_top.specs.Command.{Request, names_of, request_in}
 
 -- what a shelf holds under each name, where it tells that
 abbrev pub Held : Type 0
@@ -17,38 +17,39 @@ Faults = List ℕ → ℕ
 abbrev pub size_limit : ℕ
 size_limit = 16777216
 
--- the words are a `run`, and these are the bytes that the shelf holds under its two names, as far as it tells, within the limit
-pub record Inputs (words : List (List ℕ)) (held : Held) (world script : List ℕ) : Type 0 where
-  pub names : FileNames
-  pub workers : ℕ
-  pub form : Form
-  pub command : request_in words ≡ Some (run names workers form)
-  pub world_held : IsHeld (held names.world) world
-  pub world_within : length world ≤ size_limit
-  pub script_held : IsHeld (held names.script) script
-  pub script_within : length script ≤ size_limit
+-- the shelf holds these files under these names, place by place, as far as it tells, each within the limit
+abbrev pub AreHeld : Held → List (List ℕ) → List (List ℕ) → Type 0
+AreHeld held names files = AllZip (λ name bytes. IsHeld (held name) bytes × (length bytes ≤ size_limit)) names files
+
+-- the words ask for work on files, and these are the files that the shelf holds under their names, in the order in which they are read
+pub record Inputs (words : List (List ℕ)) (held : Held) (files : List (List ℕ)) : Type 0 where
+  pub request : Request
+  pub command : request_in words ≡ Some request
+  pub are_held : AreHeld held (names_of request) files
 
 -- a file is within the limit, as far as the shelf tells
 abbrev pub IsShort : Option (List ℕ) → Type 0
 IsShort held = (bytes : List ℕ) × IsHeld held bytes × (length bytes ≤ size_limit)
 
--- the reading of two files ended in this way with the first, and it was the only one that was read; or with the second, where the first was
--- read within the limit
-abbrev pub ReadingEnds : Held → ℕ → ℕ → List ℕ → List ℕ → (List ℕ → Type 0) → Type 0
-ReadingEnds held reads later world script Ends = (Ends world × (later ≡ raised 1 reads)) ⊎ (IsShort (held world) × Ends script × (later ≡ raised 2 reads))
+-- the reading of the files of these names, in order, ended in this way with one of them: those before it were read within the limit, and
+-- none behind it was read
+pub record ReadingEnds (held : Held) (reads later : ℕ) (names : List (List ℕ)) (Ends : List ℕ → Type 0) : Type 0 where
+  pub before : List (List ℕ)
+  pub name : List ℕ
+  pub behind : List (List ℕ)
+  pub order : names ≡ before ++ name ∷ behind
+  pub short : AllByRecursion (λ n. IsShort (held n)) before
+  pub ends : Ends name
+  pub counted : later ≡ raised (length before + 1) reads
 
--- the words are a `run`, and the reading of its two files ended with a file whose count of faults rose
+-- the words ask for work on files, and their reading ended with a file whose count of faults rose
 pub record Faulted (words : List (List ℕ)) (held : Held) (before now : Faults) (reads later : ℕ) : Type 0 where
-  pub names : FileNames
-  pub workers : ℕ
-  pub form : Form
-  pub command : request_in words ≡ Some (run names workers form)
-  pub ends : ReadingEnds held reads later names.world names.script (λ name. Rose (before name) (now name))
+  pub request : Request
+  pub command : request_in words ≡ Some request
+  pub ends : ReadingEnds held reads later (names_of request) (λ name. Rose (before name) (now name))
 
--- the words are a `run`, and the reading of its two files ended with one that is longer than the limit
+-- the words ask for work on files, and their reading ended with one that is longer than the limit
 pub record Overlong (words : List (List ℕ)) (held : Held) (before now reads later : ℕ) : Type 0 where
-  pub names : FileNames
-  pub workers : ℕ
-  pub form : Form
-  pub command : request_in words ≡ Some (run names workers form)
-  pub ends : ReadingEnds held reads later names.world names.script (λ name. IsTooLong (held name) size_limit before now)
+  pub request : Request
+  pub command : request_in words ≡ Some request
+  pub ends : ReadingEnds held reads later (names_of request) (λ name. IsTooLong (held name) size_limit before now)

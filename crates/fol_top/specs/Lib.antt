@@ -7,6 +7,7 @@ pub mod Ending
 pub mod Reading
 pub mod Spelling
 pub mod Writing
+pub mod Checking
 pub mod Complaint
 pub mod Outcome
 pub mod Came

@@ -1,5 +1,5 @@
--- What is written: the report, the JSON text or the summary of a legal history.
-use Rattle.std.specs.Prelude.{ℕ, ◌≡◌, ◌⊎◌, List, ◌++◌, Option, Some}
+-- What is written: the report, the JSON text or the summary of a legal history, or that a report is one.
+use Rattle.std.specs.Prelude.{ℕ, ◌≡◌, ◌⊎◌, List, [], ◌∷◌, ◌++◌, Option, Some, codes}
 use Rattle.fol_model.specs.declared.openings.Opening.{Opening}
 use Rattle.fol_model.specs.declared.scripts.Command.{Command}
 use Rattle.fol_model.specs.declared.events.Entry.{Entry}
@@ -15,8 +15,11 @@ use Rattle.fol_model.specs.JsonReport.{json_text}
 use Rattle.fol_model.specs.Summary.{summary_text}
 use Rattle.fol_model.specs.Run.{world}
 use Rattle.fol_gen.specs.MadeTexts as made
+use Rattle.fol_check.specs.Verdicts.{Judges}
+use Rattle.fol_check.specs.declared.verdicts.Verdict.{Verdict}
+use Rattle.fol_check.specs.declared.verdicts.Verdict.TheVariants as verdicts
 use Rattle.fol_io.specs.Sink.{Received, ReceivedInPieces}
-use Rattle.fol_top.specs.Command.{make, request_in}
+use Rattle.fol_top.specs.Command.{FileNames, make, request_in, run}
 use Rattle.fol_top.specs.Inputs.{Held, Inputs}
 use Rattle.fol_top.specs.Kept.{KeepsRules, KeepsTasks}
 use Rattle.fol_top.specs.declared.form.Form.{Form}
@@ -39,20 +42,24 @@ pub record IsReport (form : Form) (o : Opening) (script : List Command) (workers
   pub outputs : Outputs o history closing
   pub text : bytes ≡ text_in form closing
 
--- the two files are the texts of this opening and this script
-pub record Spelled (words : List (List ℕ)) (held : Held) (o : Opening) (script : List Command) : Type 0 where
+-- the first two of the files that the words name are the texts of this opening and this script, and these are the others
+pub record Spelled (words : List (List ℕ)) (held : Held) (others : List (List ℕ)) (o : Opening) (script : List Command) : Type 0 where
   pub world_bytes : List ℕ
   pub script_bytes : List ℕ
-  pub inputs : Inputs words held world_bytes script_bytes
+  pub inputs : Inputs words held (world_bytes ∷ script_bytes ∷ others)
   pub world_text : IsWorldText world_bytes o
   pub script_text : IsScriptText o.version script_bytes script
 
 -- the output of `run`: of the two files that the words name, in the form and with the number of workers that they ask for
 pub record IsRunOutput (words : List (List ℕ)) (held : Held) (bytes : List ℕ) : Type 0 where
+  pub names : FileNames
+  pub workers : ℕ
+  pub form : Form
+  pub command : request_in words ≡ Some (run names workers form)
   pub opening : Opening
   pub script : List Command
-  pub spelled : Spelled words held opening script
-  pub report : IsReport spelled.inputs.form opening script spelled.inputs.workers bytes
+  pub spelled : Spelled words held [] opening script
+  pub report : IsReport form opening script workers bytes
 
 -- a summary of the made texts of so many clusters, with four workers
 pub record IsSummary (clusters : ℕ) (bytes : List ℕ) : Type 0 where
@@ -68,9 +75,31 @@ pub record IsMakeOutput (words : List (List ℕ)) (bytes : List ℕ) : Type 0 wh
   pub command : request_in words ≡ Some (make clusters)
   pub summary : IsSummary clusters bytes
 
+-- the words are a `check`, whose third file is a report, and this is the verdict on it, of the script and the opening that the other two spell
+pub record Judged (words : List (List ℕ)) (held : Held) (verdict : Verdict) : Type 0 where
+  pub report : List ℕ
+  pub opening : Opening
+  pub script : List Command
+  pub spelled : Spelled words held (report ∷ []) opening script
+  pub judges : Judges opening script report verdict
+
+-- the bytes say `legal` of a report, on which this is the verdict: a run with 64 workers may write it
+pub record SaysLegal (o : Opening) (script : List Command) (report bytes : List ℕ) : Type 0 where
+  pub verdict : Judges o script report verdicts.Legal
+  pub legal : IsReport Text o script 64 report
+  pub text : bytes ≡ codes "legal\n"
+
+-- the output of `check`: of the report that is the third file, and of the opening and the script that the other two spell
+pub record IsCheckOutput (words : List (List ℕ)) (held : Held) (bytes : List ℕ) : Type 0 where
+  pub report : List ℕ
+  pub opening : Opening
+  pub script : List Command
+  pub spelled : Spelled words held (report ∷ []) opening script
+  pub says : SaysLegal opening script report bytes
+
 -- the output that the words ask for
 abbrev pub IsOutput : List (List ℕ) → Held → List ℕ → Type 0
-IsOutput words held bytes = IsRunOutput words held bytes ⊎ IsMakeOutput words bytes
+IsOutput words held bytes = IsRunOutput words held bytes ⊎ (IsMakeOutput words bytes ⊎ IsCheckOutput words held bytes)
 
 -- a sink received such an output, whole
 pub record Written (words : List (List ℕ)) (held : Held) (before now : Option (List ℕ)) : Type 0 where
@@ -87,8 +116,8 @@ pub record WrittenInPart (words : List (List ℕ)) (held : Held) (before now : O
 -- the world has a bad line, and this is the first, with its cause
 pub record BadWorld (words : List (List ℕ)) (held : Held) (line : ℕ) (cause : Option Cause) : Type 0 where
   pub world_bytes : List ℕ
-  pub script_bytes : List ℕ
-  pub inputs : Inputs words held world_bytes script_bytes
+  pub others : List (List ℕ)
+  pub inputs : Inputs words held (world_bytes ∷ others)
   pub why : Cause
   pub told : cause ≡ Some why
   pub first : first_bad kinds.World world_bytes ≡ Some (line, why)
@@ -97,7 +126,8 @@ pub record BadWorld (words : List (List ℕ)) (held : Held) (line : ℕ) (cause 
 pub record BadScript (words : List (List ℕ)) (held : Held) (line : ℕ) (cause : Option Cause) : Type 0 where
   pub world_bytes : List ℕ
   pub script_bytes : List ℕ
-  pub inputs : Inputs words held world_bytes script_bytes
+  pub others : List (List ℕ)
+  pub inputs : Inputs words held (world_bytes ∷ script_bytes ∷ others)
   pub opening : Opening
   pub world_text : IsWorldText world_bytes opening
   pub why : Cause

@@ -3,13 +3,13 @@
 ghost use Rattle.std.specs.Prelude.{◌≡◌, ◌≤◌, pos, map, Some, None, IfSome, MatchOption};
 ghost use Rattle.fol_model.specs.TextNumbers.{reading};
 ghost use Rattle.fol_top.specs.Asked.{IsWithin, asked};
-ghost use Rattle.fol_top.specs.Command.{form_in, is_name, is_run, make_of, request_in, run_asked, workers_in};
+ghost use Rattle.fol_top.specs.Command.{check_asked, form_in, is_check, is_name, is_run, make_of, request_in, run_asked, workers_in};
 
 use crate::form::Form;
 use fol_model::Reading;
 use fol_script::read_number;
 
-/// The names of the two files that `run` reads.
+/// The names of a world and of a script.
 #[derive(Clone, Copy)]
 pub(crate) struct Names<'a> {
     pub(crate) world: &'a str,
@@ -25,11 +25,16 @@ pub(crate) enum Request<'a> {
         workers: u32,
         form: Form,
     },
+    /// A check of the report of this name against two files.
+    Check {
+        names: Names<'a>,
+        report: &'a str,
+    },
     /// A run of the made texts of so many clusters, from 1 to 500.
     Make(u32),
 }
 
-/// What `run WORLD SCRIPT WORKERS`, `run WORLD SCRIPT WORKERS json` or `make N` asks for; `None` exactly where the words are no command.
+/// What `run WORLD SCRIPT WORKERS`, `run WORLD SCRIPT WORKERS json`, `check WORLD SCRIPT REPORT` or `make N` asks for; `None` exactly where the words are no command.
 pub(crate) fn request_in<'a>(words: &[&'a str]) -> Option<Request<'a>>
     ensures request { MatchOption result (request_in (map (λ w. w.now) words.now) ≡ None) (λ r. request_in (map (λ w. w.now) words.now) ≡ Some (asked r)) }
     ensures within { IfSome result IsWithin }
@@ -42,8 +47,12 @@ pub(crate) fn request_in<'a>(words: &[&'a str]) -> Option<Request<'a>>
                 None
             }
         }
-        [command, world, script, workers, more @ ..] => {
-            run_asked(command, world, script, workers, more)
+        [command, world, script, last, more @ ..] => {
+            if *command == "check" {
+                check_asked(command, world, script, last, more)
+            } else {
+                run_asked(command, world, script, last, more)
+            }
         }
         _ => None,
     }
@@ -79,6 +88,33 @@ fn is_run(command: &str, world: &str, script: &str) -> bool
     ensures { result ≡ is_run command.now world.now script.now }
 {
     command == "run" && is_name(world) && is_name(script)
+}
+
+/// What `check WORLD SCRIPT REPORT` asks for, with what stands behind it; `None` where the words are no such command.
+#[tactic(auto, unfolding(crate::specs::Command::check_asked))]
+fn check_asked<'a>(
+    command: &str,
+    world: &'a str,
+    script: &'a str,
+    report: &'a str,
+    more: &[&str],
+) -> Option<Request<'a>>
+    ensures request { MatchOption result (check_asked command.now world.now script.now report.now (map (λ w. w.now) more.now) ≡ None) (λ r. check_asked command.now world.now script.now report.now (map (λ w. w.now) more.now) ≡ Some (asked r)) }
+    ensures within { IfSome result IsWithin }
+{
+    if is_check(command, world, script, report) && more.is_empty() {
+        let names = Names { world, script };
+        Some(Request::Check { names, report })
+    } else {
+        None
+    }
+}
+
+/// Whether the words are `check WORLD SCRIPT REPORT`.
+fn is_check(command: &str, world: &str, script: &str, report: &str) -> bool
+    ensures { result ≡ is_check command.now world.now script.now report.now }
+{
+    command == "check" && is_name(world) && is_name(script) && is_name(report)
 }
 
 /// The number of workers, from 1 to 64; `None` where the word is no such number.

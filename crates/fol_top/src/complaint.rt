@@ -1,7 +1,7 @@
 //! What is told to the sink of errors.
 
 ghost use Rattle.std.specs.Prelude.{◌≡◌, ◌++◌, IsTrue, IfOk, Some, codes, string_bytes, true};
-ghost use Rattle.fol_top.specs.Complaint.{Complains, IsTold, Puts, bad_line_text, cause_word, is_bad_line, text_of};
+ghost use Rattle.fol_top.specs.Complaint.{Complains, IsTold, Puts, bad_line_text, cause_word, has_number, numbered_text, text_of};
 ghost use Rattle.fol_top.specs.Ending.{status_of};
 
 use crate::ending::Ending;
@@ -10,7 +10,7 @@ use fol_model::Cause;
 use std::alloc::{AllocError, Global};
 use std::fmt::Write;
 
-/// Tells how a run ended, in one put, and returns the ending that was told: where memory for the text of a bad line is not found, that
+/// Tells how the work ended, in one put, and returns the ending that was told: where memory for a text with a number is not found, that
 /// is out of memory. A fault of the sink changes nothing.
 pub(crate) fn complain<E: Sink>(alloc: Global, ending: Ending, err: &mut E) -> Ending
     ensures told { IsTold ending result }
@@ -24,6 +24,18 @@ pub(crate) fn complain<E: Sink>(alloc: Global, ending: Ending, err: &mut E) -> E
         }
         Ending::Script { line, cause } => {
             let text = bad_line_text(alloc, "script", line, cause);
+            put_line(ending, text, err)
+        }
+        Ending::ReportText { line } => {
+            let text = numbered_text(alloc, "text line", line);
+            put_line(ending, text, err)
+        }
+        Ending::ReportEvent { number } => {
+            let text = numbered_text(alloc, "event", number);
+            put_line(ending, text, err)
+        }
+        Ending::ReportState { line } => {
+            let text = numbered_text(alloc, "state line", line);
             put_line(ending, text, err)
         }
         Ending::Words => put_text(ending, "fol: words\n", err),
@@ -44,9 +56,9 @@ fn put_text<E: Sink>(ending: Ending, text: &str, err: &mut E) -> Ending
     ending
 }
 
-/// Puts the text of a bad line, where memory for it was found.
+/// Puts a text with a number, where memory for it was found.
 fn put_line<E: Sink>(ending: Ending, text: Result<String, AllocError>, err: &mut E) -> Ending
-    requires bad_line { is_bad_line ending ≡ true }
+    requires number { has_number ending ≡ true }
     requires text { IfOk text (λ t. string_bytes t ≡ text_of (status_of ending)) }
     ensures told { IsTold ending result }
     ensures puts { Puts (E.received err.old) (E.received err.new) (E.faults err.old) (E.faults err.new) (text_of (status_of result)) }
@@ -68,6 +80,16 @@ fn bad_line_text(alloc: Global, text: &str, line: u64, cause: Cause) -> Result<S
     out.push_str(" ")?;
     out.push_str(cause_word(cause))?;
     out.push_str("\n")?;
+    Ok(out)
+}
+
+/// A text that ends with a number.
+fn numbered_text(alloc: Global, text: &str, number: u64) -> Result<String, AllocError>
+    ensures { IfOk result (λ t. string_bytes t ≡ numbered_text text.now number) }
+{
+    let mut out = String::from_str(alloc, "fol: ")?;
+    out.push_str(text)?;
+    write!(out, " {number}\n")?;
     Ok(out)
 }
 

@@ -10,9 +10,9 @@ use fol_model::Cause;
 pub struct Status {
     /// 0 where the whole output was written, and else the number of the cause.
     pub code: u8,
-    /// The line that a bad text was found bad at, and 0 at every other code.
+    /// The line that a bad text or report was found bad at, at code 11 the number of the event, and 0 at every other code.
     pub line: u64,
-    /// What is wrong with that line, and `None` at every other code.
+    /// What is wrong with a line of a text, at codes 3 and 4, and `None` at every other code.
     pub cause: Option<Cause>,
 }
 
@@ -35,6 +35,12 @@ pub(crate) enum Ending {
     NoMemory,
     /// A file is too long.
     TooLong,
+    /// This line of the report is the first that is not spelled as one of a report.
+    ReportText { line: u64 },
+    /// With the event of this number those of the report are no longer the beginning of a history of the script.
+    ReportEvent { number: u64 },
+    /// This line of the report is the first that is not that of its history.
+    ReportState { line: u64 },
 }
 
 impl Ending {
@@ -51,6 +57,9 @@ impl Ending {
             Ending::WriteFault => plain(6),
             Ending::NoMemory => plain(7),
             Ending::TooLong => plain(8),
+            Ending::ReportText { line } => numbered(10, line),
+            Ending::ReportEvent { number } => numbered(11, number),
+            Ending::ReportState { line } => numbered(12, line),
         }
     }
 }
@@ -72,5 +81,15 @@ fn bad_line(code: u8, line: u64, cause: Cause) -> Status
         code,
         line,
         cause: Some(cause),
+    }
+}
+
+fn numbered(code: u8, number: u64) -> Status
+    ensures { result ≡ record { code = code; line = number; cause = None } }
+{
+    Status {
+        code,
+        line: number,
+        cause: None,
     }
 }

@@ -24,7 +24,14 @@ pub(crate) fn write_output<K: Sink>(
         Ok(bytes) => bytes,
         Err(_) => return Ending::NoMemory,
     };
-    match put_in_pieces(out, bytes.as_slice()) {
+    put_output(bytes.as_slice(), out)
+}
+
+/// Puts an output that is whole.
+pub(crate) fn put_output<K: Sink>(bytes: &[u8], out: &mut K) -> Ending
+    ensures { WriteEnds (K.received out.old) (K.received out.new) (K.faults out.old) (K.faults out.new) (K.puts out.old) (K.puts out.new) bytes.now result }
+{
+    match put_in_pieces(out, bytes) {
         Put::Ok => Ending::Written,
         Put::Failed => Ending::WriteFault,
     }

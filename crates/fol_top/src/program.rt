@@ -9,6 +9,7 @@ ghost use Rattle.fol_top.specs.Outcome.{Outcome, Untouched};
 ghost use Rattle.fol_top.specs.Report.{IsReport, IsSummary};
 ghost use Rattle.fol_top.specs.Writing.{OutputEnds};
 
+use crate::checking::check_files;
 use crate::command::{Names, Request, request_in};
 use crate::complaint::complain;
 use crate::ending::{Ending, Status};
@@ -31,10 +32,12 @@ const MAKE_WORKERS: u32 = 4;
 /// - `run WORLD SCRIPT WORKERS`, with WORKERS from 1 to 64, reads both files from the shelf, runs the script on the world by so many workers, and
 ///   writes the report to `out`.
 /// - `run WORLD SCRIPT WORKERS json` writes the report as JSON.
+/// - `check WORLD SCRIPT REPORT` reads the three files from the shelf, and writes `legal` to `out` where the report is that of a legal history of the
+///   script on the world, by at most 64 workers.
 /// - `make N`, with N from 1 to 500, runs the made texts of N clusters by 4 workers and writes the summary. It reads nothing from the shelf.
 ///
 /// The status tells how it ended, by these codes. The first of them that comes up on the way decides: words, world read, script read,
-/// world text, script text, run, write.
+/// report read, world text, script text, run or check, write.
 ///
 /// - 0: the whole output was written.
 /// - 2: the words are no command.
@@ -42,6 +45,9 @@ const MAKE_WORKERS: u32 = 4;
 /// - 5 and 6: the shelf, or `out`, met a fault and counted it.
 /// - 7: memory was not found.
 /// - 8: a file has more than 16,777,216 bytes.
+/// - 10: `line` is the first line of the report that is not spelled as one of a report.
+/// - 11: `line` is the number of the first event of the report with which its events are no longer the beginning of a history of the script.
+/// - 12: `line` is the first line of the report that is not that of the history which its events are.
 ///
 /// Nothing goes to `out` but at codes 0 and 6. At every code but 0 one line goes to `err`; a fault of `err` changes nothing. The gate is
 /// passed once in each tick.
@@ -82,6 +88,7 @@ fn work<R: Threads + Wait + Sync, F: Shelf, K: Sink, G: Gate + Sync>(
                 form,
             },
         ) => run_files(rt, alloc, names, workers, form, shelf, out, gate),
+        Some(Request::Check { names, report }) => check_files(alloc, names, report, shelf, out),
         Some(Request::Make(clusters)) => run_made(rt, alloc, clusters, out, gate),
     }
 }
@@ -100,7 +107,7 @@ fn run_files<R: Threads + Wait + Sync, F: Shelf, K: Sink, G: Gate + Sync>(
     requires { (1 ≤ workers) × (workers ≤ 64) }
     ensures { (words : List (List ℕ)) → request_in words ≡ Some (run (record { world = names.entry.world.now; script = names.entry.script.now }) workers form) → Came (record { words = words; held = F.held shelf.old; faults = F.faults shelf.old; faults_later = F.faults shelf.new; taken = F.taken shelf.old; taken_later = F.taken shelf.new; reads = F.reads shelf.old; reads_later = F.reads shelf.new; received = K.received out.old; received_later = K.received out.new; write_faults = K.faults out.old; write_faults_later = K.faults out.new; puts = K.puts out.old; puts_later = K.puts out.new }) result }
 {
-    let files = match read_files(alloc, names.world, names.script, shelf) {
+    let files = match read_files(alloc, names, shelf) {
         Ok(files) => files,
         Err(ending) => return ending,
     };

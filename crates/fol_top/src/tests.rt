@@ -57,8 +57,19 @@ fn run_words<R: Threads + Wait + Sync>(
     failing: (&[u64], &[u64]),
 ) -> Result<Came, AllocError> {
     let (world, script) = texts;
-    let (reads, puts) = failing;
     let files = vec![in alloc; named(alloc, "w", world)?, named(alloc, "s", script)?]?;
+    run_on(rt, alloc, words, files, failing)
+}
+
+/// Runs words on these files, where these reads and these puts of the output fail.
+fn run_on<R: Threads + Wait + Sync>(
+    rt: &R,
+    alloc: Global,
+    words: &[&str],
+    files: Vec<NamedBytes>,
+    failing: (&[u64], &[u64]),
+) -> Result<Came, AllocError> {
+    let (reads, puts) = failing;
     let mut shelf = MemShelf::of(files, Vec::from_slice(alloc, reads)?);
     let mut out = sink_of(alloc, puts)?;
     let mut err = sink_of(alloc, &[])?;
@@ -81,6 +92,21 @@ fn run_texts<R: Threads + Wait + Sync>(
     )
 }
 
+/// Checks a report against the world and the script of one region, where this read fails.
+fn check_report<R: Threads + Wait + Sync>(
+    rt: &R,
+    alloc: Global,
+    report: &str,
+    failing: &[u64],
+) -> Result<Came, AllocError> {
+    let files = vec![in alloc;
+        named(alloc, "w", WORLD.as_bytes())?,
+        named(alloc, "s", ONE_REGION.as_bytes())?,
+        named(alloc, "r", report.as_bytes())?,
+    ]?;
+    run_on(rt, alloc, &["check", "w", "s", "r"], files, (failing, &[]))
+}
+
 fn is_plain(came: &Came, code: u8, text: &[u8]) -> bool {
     let status = came.status;
     status.code == code
@@ -96,6 +122,17 @@ fn is_line(came: &Came, code: u8, line: u64, cause: Cause, text: &[u8]) -> bool 
             code,
             line,
             cause: Some(cause),
+        }
+        && came.err.bytes() == text
+        && came.out.bytes().is_empty()
+}
+
+fn is_numbered(came: &Came, code: u8, line: u64, text: &[u8]) -> bool {
+    came.status
+        == Status {
+            code,
+            line,
+            cause: None,
         }
         && came.err.bytes() == text
         && came.out.bytes().is_empty()
@@ -124,6 +161,33 @@ fn a_report_is_written_as_json(rt: HostRuntime) -> Result<(), Fail> {
     let came = run_words(&rt, rt.alloc(), &words, texts, (&[], &[]))?;
     assert!(rt; is_plain(&came, 0, b""));
     assert_eq!(rt; came.out.bytes(), EMPTY_JSON.as_bytes());
+    Ok(())
+}
+
+#[test]
+fn a_report_of_a_legal_history_is_legal(rt: HostRuntime) -> Result<(), Fail> {
+    let came = check_report(&rt, rt.alloc(), ONE_REGION_REPORT, &[])?;
+    assert!(rt; is_plain(&came, 0, b""));
+    assert_eq!(rt; came.out.bytes(), b"legal\n".as_slice());
+    let unread = check_report(&rt, rt.alloc(), ONE_REGION_REPORT, &[3])?;
+    assert!(rt; is_plain(&unread, 5, b"fol: read fault\n"));
+    Ok(())
+}
+
+#[test]
+fn a_report_of_no_legal_history_is_told(rt: HostRuntime) -> Result<(), Fail> {
+    let alloc = rt.alloc();
+    let tick = ONE_REGION_REPORT.replace(alloc, "tick 2 ran", "tick 3 ran")?;
+    let late = check_report(&rt, alloc, tick.as_str(), &[])?;
+    assert!(rt; is_numbered(&late, 11, 6, b"fol: event 6\n"));
+    let chunks = ONE_REGION_REPORT.replace(alloc, "chunks 1", "chunks 2")?;
+    let large = check_report(&rt, alloc, chunks.as_str(), &[])?;
+    assert!(rt; is_numbered(&large, 12, 12, b"fol: state line 12\n"));
+    let version = ONE_REGION_REPORT.replace(alloc, "report 1", "report 2")?;
+    let second = check_report(&rt, alloc, version.as_str(), &[])?;
+    assert!(rt; is_numbered(&second, 10, 1, b"fol: text line 1\n"));
+    let empty = check_report(&rt, alloc, "", &[])?;
+    assert!(rt; is_numbered(&empty, 10, 1, b"fol: text line 1\n"));
     Ok(())
 }
 
@@ -184,7 +248,7 @@ fn a_fault_in_telling_changes_no_status(rt: HostRuntime) -> Result<(), Fail> {
 #[test]
 fn words_that_are_no_command_read_nothing(rt: HostRuntime) -> Result<(), Fail> {
     let texts = (WORLD.as_bytes(), ONE_REGION.as_bytes());
-    let rows: [&[&str]; 17] = [
+    let rows: [&[&str]; 21] = [
         &[],
         &["run", "w", "s", "0"],
         &["run", "w", "s", "65"],
@@ -196,6 +260,10 @@ fn words_that_are_no_command_read_nothing(rt: HostRuntime) -> Result<(), Fail> {
         &["walk", "w", "s", "1"],
         &["run", "w", "s", "1", "xml"],
         &["run", "w", "s", "1", "json", "x"],
+        &["check", "w", "s"],
+        &["check", "w", "", "r"],
+        &["check", "w", "s", "-r"],
+        &["check", "w", "s", "r", "1"],
         &["make"],
         &["make", "0"],
         &["make", "01"],

@@ -1,4 +1,5 @@
-use Rattle.std.proofs.Common.{refl}
+use Rattle.std.proofs.Common.{refl, [], ◌∷◌}
+use Rattle.fol_top.specs.Command.{run}
 use Rattle.fol_top.specs.Inputs.{Inputs}
 use Rattle.fol_top.specs.Outcome.{Course}
 use Rattle.fol_top.specs.Report.{Spelled}
@@ -23,17 +24,13 @@ returns-in-Err-read_texts g c words command =
       puts = g.K.Sink.puts c.args.out.now;
       puts_later = g.K.Sink.puts c.args.out.now;
     } in
-    let inputs : Inputs v.words v.held c.in-Ok.files.world c.in-Ok.files.script = record {
-      names = record { world = c.args.names.world.now; script = c.args.names.script.now };
-      workers = c.args.workers;
-      form = c.args.form;
+    let e = c.in-Ok.ensures in
+    let inputs : Inputs v.words v.held (c.in-Ok.files.world ∷ (c.in-Ok.files.script ∷ [])) = record {
+      request = run (record { world = c.args.names.world.now; script = c.args.names.script.now }) c.args.workers c.args.form;
       command = command;
-      world_held = c.in-Ok.ensures.world_held;
-      world_within = c.in-Ok.ensures.world_within;
-      script_held = c.in-Ok.ensures.script_held;
-      script_within = c.in-Ok.ensures.script_within;
+      are_held = ((e.world_held, e.world_within), ((e.script_held, e.script_within), tt));
     } in
-    texts_came v c.in-Ok.files.world c.in-Ok.files.script inputs c.in-Err-read_texts.ending refl c.in-Err-read_texts.ensures.ends
+    texts_came v c.in-Ok.files.world c.in-Ok.files.script [] inputs c.in-Err-read_texts.ending refl c.in-Err-read_texts.ensures.ends
 
 pub returns : goal.returns
 returns g c words command =
@@ -53,21 +50,18 @@ returns g c words command =
       puts = g.K.Sink.puts c.args.out.now;
       puts_later = g.K.Sink.puts c.run_texts.new.out;
     } in
+    let e = c.in-Ok.ensures in
+    let inputs : Inputs v.words v.held (c.in-Ok.files.world ∷ (c.in-Ok.files.script ∷ [])) = record {
+      request = run (record { world = c.args.names.world.now; script = c.args.names.script.now }) c.args.workers c.args.form;
+      command = command;
+      are_held = ((e.world_held, e.world_within), ((e.script_held, e.script_within), tt));
+    } in
     let texts = c.in-Ok-read_texts.texts in
-    let spelled : Spelled v.words v.held texts.opening texts.script = record {
+    let spelled : Spelled v.words v.held [] texts.opening texts.script = record {
       world_bytes = c.in-Ok.files.world;
       script_bytes = c.in-Ok.files.script;
-      inputs = record {
-        names = record { world = c.args.names.world.now; script = c.args.names.script.now };
-        workers = c.args.workers;
-        form = c.args.form;
-        command = command;
-        world_held = c.in-Ok.ensures.world_held;
-        world_within = c.in-Ok.ensures.world_within;
-        script_held = c.in-Ok.ensures.script_held;
-        script_within = c.in-Ok.ensures.script_within;
-      };
+      inputs = inputs;
       world_text = c.in-Ok-read_texts.ensures.world;
       script_text = c.in-Ok-read_texts.ensures.script;
     } in
-    run_came v texts.opening texts.script spelled c.run_texts.result c.run_texts.ensures
+    run_came v (record { world = c.args.names.world.now; script = c.args.names.script.now }) c.args.workers c.args.form command texts.opening texts.script spelled c.run_texts.result c.run_texts.ensures
