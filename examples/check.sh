@@ -3,10 +3,11 @@
 #   report.txt, report.json   the whole output, as text and as JSON
 #   lines.txt                 lines of a report that is too long to store
 #   error.txt                 what is told of a bad line, with nothing written
-# A folder without its two texts, or with none of these stored, fails. made/N.txt is the summary of `make N`.
+# A folder without its two texts, or with none of these stored, fails. made/N.txt is the summary of `make N`. A folder of `checks` has a report of
+# the texts of `first` with one thing wrong, and in error.txt what a check tells of it.
 #
 # Each example is run with 1, 4 and 8 workers. With one worker the whole report is compared, with several the parts behind its events, where
-# these do not depend on the order in which regions tick.
+# these do not depend on the order in which regions tick. Each report, the stored ones too, is checked: it has to be legal.
 set -euo pipefail
 cd "$(dirname "$(readlink -f "${BASH_SOURCE[0]}")")/.."
 
@@ -47,6 +48,19 @@ bad_line_told() {
     [ "$code" = "$expected" ] && [ ! -s "$work/out" ] && cmp "$work/err" "$1/error.txt"
 }
 
+legal() {
+    [ "$code" = 0 ] && [ ! -s "$work/err" ] && [ "$(cat "$work/said")" = legal ]
+}
+
+bad_report_told() {
+    local expected=12
+    case "$(cat "$1/error.txt")" in
+    "fol: text "*) expected=10 ;;
+    "fol: event "*) expected=11 ;;
+    esac
+    [ "$code" = "$expected" ] && [ ! -s "$work/said" ] && cmp "$work/err" "$1/error.txt"
+}
+
 no_command() {
     [ "$code" = 2 ] && [ ! -s "$work/out" ] && [ "$(cat "$work/err")" = "fol: words" ]
 }
@@ -84,12 +98,20 @@ has_one() {
     return 1
 }
 
+# judge NAME FOLDER REPORT: a report of the two texts of a folder has to be legal
+judge() {
+    run "$work/said" check "$2/world.txt" "$2/script.txt" "$3"
+    is "$1, its report checked" legal
+}
+
 # compare FOLDER: runs the two texts of an example, and compares with all that is stored there
 compare() {
     run "$work/out" run "$1/world.txt" "$1/script.txt" 1
     [ ! -f "$1/error.txt" ] || is "$1" bad_line_told "$1"
     [ ! -f "$1/report.txt" ] || is "$1" same "$work/out" "$1/report.txt"
     [ ! -f "$1/lines.txt" ] || is "$1" has_lines "$work/out" "$1/lines.txt"
+    [ ! -f "$1/report.txt" ] || judge "$1 as stored" "$1" "$1/report.txt"
+    [ -f "$1/error.txt" ] || judge "$1" "$1" "$work/out"
     if [ -f "$1/report.json" ]; then
         run "$work/out" run "$1/world.txt" "$1/script.txt" 1 json
         is "$1 as JSON" same "$work/out" "$1/report.json"
@@ -103,6 +125,7 @@ compare_workers() {
     [ ! -f "$1/error.txt" ] || is "$name" bad_line_told "$1"
     [ ! -f "$1/report.txt" ] || order_decides "$1" || is "$name" same_state "$work/out" "$1/report.txt"
     [ ! -f "$1/lines.txt" ] || is "$name" has_lines "$work/out" "$1/lines.txt"
+    [ -f "$1/error.txt" ] || judge "$name" "$1" "$work/out"
 }
 
 # The program is built here, where it has to be. With no words it only says that they are no command, and ends with 2.
@@ -116,8 +139,8 @@ fi
 run "$work/out" run $'\xff' b 1
 is "a word that is not UTF-8" no_command
 
-# `bad` and `rules` hold folders, and `made` holds summaries
-for example in $(find examples -mindepth 1 -type d ! -path examples/bad ! -path examples/rules ! -path examples/made | sort); do
+# `bad` and `rules` hold folders, `checks` holds reports, and `made` summaries
+for example in $(find examples -mindepth 1 -type d ! -path examples/bad ! -path examples/rules ! -path 'examples/checks*' ! -path examples/made | sort); do
     if ! [ -f "$example/world.txt" ] || ! [ -f "$example/script.txt" ]; then
         fails "$example" "world.txt or script.txt is missing"
     elif ! has_one "$example" report.txt report.json lines.txt error.txt; then
@@ -127,6 +150,11 @@ for example in $(find examples -mindepth 1 -type d ! -path examples/bad ! -path 
         compare_workers "$example" 4
         compare_workers "$example" 8
     fi
+done
+
+for bad in examples/checks/*; do
+    run "$work/said" check examples/first/world.txt examples/first/script.txt "$bad/report.txt"
+    is "$bad" bad_report_told "$bad"
 done
 
 for summary in examples/made/*.txt; do
