@@ -1,12 +1,13 @@
 #!/usr/bin/env python3
 """Runs a program on made-up scripts with several numbers of workers, and judges each report. bench/soak.sh builds the program first.
 
-    bench/soak.py PROGRAM [--workers 1,2,4] [--rounds N] [--seed N] [--limit SECONDS] [--only KIND,..] [--keep FOLDER]
+    bench/soak.py PROGRAM [--workers 1,2,4] [--rounds N] [--seed N] [--limit SECONDS] [--only KIND,..] [--keep FOLDER] [--replay]
 
 A round makes one world and script of each kind from the seed, which is one more in each round. A run fails where it does not end within
-the limit, ends with another status than 0, writes a complaint, or writes a report that no replay of its events by the rules comes to. Of
-the kinds whose last state does not depend on the order, that state has to be the same for all numbers of workers. What fails is kept in
-the folder, with its texts, and the status is 1.
+the limit, ends with another status than 0, writes a complaint, or writes a report that the program's own `check` does not find legal. With
+--replay each report is judged a second time, by the replay of its events in replay.py, which shares nothing with the program. Of the kinds
+whose last state does not depend on the order, that state has to be the same for all numbers of workers. What fails is kept in the folder,
+with its texts, and the status is 1.
 """
 
 import argparse
@@ -21,22 +22,36 @@ import replay
 import soak_scripts
 
 
-def run(program, folder, workers, limit):
-    """The report of a run; raises Wrong where there is none."""
-    words = [program, "run", folder / "world.txt", folder / "script.txt", str(workers)]
+def output(words, limit):
+    """What a command prints; raises Wrong where it fails or does not end."""
     try:
         ran = subprocess.run(words, capture_output=True, timeout=limit)
     except subprocess.TimeoutExpired:
-        raise replay.Wrong(f"does not end within {limit:g} seconds") from None
-    replay.need(ran.returncode == 0, "status", ran.returncode, ran.stderr[:200])
-    replay.need(not ran.stderr, "complains", ran.stderr[:200])
+        raise replay.Wrong(f"{words[1]} does not end within {limit:g} seconds") from None
+    replay.need(ran.returncode == 0, words[1], "has status", ran.returncode, ran.stderr[:200])
+    replay.need(not ran.stderr, words[1], "complains", ran.stderr[:200])
     return ran.stdout.decode("ascii")
+
+
+def run(program, folder, workers, limit):
+    """The report of a run."""
+    return output([program, "run", folder / "world.txt", folder / "script.txt", str(workers)], limit)
+
+
+def check(program, folder, report, limit):
+    """Judges a report by the program's own `check`. Gives the number of its events."""
+    path = folder / "report.txt"
+    path.write_text(report)
+    verdict = output([program, "check", folder / "world.txt", folder / "script.txt", path], limit)
+    replay.need(verdict == "legal\n", "check says", verdict)
+    return int(report.split("\n", 2)[1].split()[1])
 
 
 class Soak:
     def __init__(self, words):
         self.program, self.limit, self.keep = words.program, words.limit, Path(words.keep)
         self.workers = [int(count) for count in words.workers.split(",")]
+        self.replay = words.replay
         self.runs = self.events = self.failed = 0
 
     def fails(self, folder, name, report, wrong):
@@ -59,7 +74,9 @@ class Soak:
             self.runs += 1
             try:
                 report = run(self.program, folder, workers, self.limit)
-                self.events += replay.check(world, script, report, workers)
+                self.events += check(self.program, folder, report, self.limit)
+                if self.replay:
+                    replay.check(world, script, report, workers)
                 states.add(replay.last_state(report))
                 replay.need(kind in soak_scripts.FREE or len(states) == 1, "another last state than with fewer workers")
             except replay.Wrong as wrong:
@@ -75,6 +92,7 @@ def read_words():
     parser.add_argument("--limit", type=float, default=60)
     parser.add_argument("--only", default=",".join((*soak_scripts.FIXED, *soak_scripts.FREE)))
     parser.add_argument("--keep", default="soak-failures")
+    parser.add_argument("--replay", action="store_true")
     return parser.parse_args()
 
 
