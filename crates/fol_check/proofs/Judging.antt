@@ -1,5 +1,5 @@
 -- One verdict at most fits a report.
-use Rattle.std.proofs.Common.{◌≡◌, ℕ, ◌+◌, ◌<◌, ◌≤◌, refl, sym, ◌∙◌, ap, arith, inl, inr, List, [], ◌∷◌, ◌++◌, length, append_assoc}
+use Rattle.std.proofs.Common.{◌≡◌, ℕ, ◌+◌, ◌<◌, ◌≤◌, refl, sym, ◌∙◌, ap, arith, inl, inr, List, [], ◌∷◌, ◌++◌, length}
 use Rattle.std.specs.Prelude.{codes}
 use Rattle.std.proofs.lemmas.Bool.{cases_lt}
 use Rattle.std.proofs.lemmas.List.{append_cancel_left}
@@ -15,7 +15,7 @@ use Rattle.fol_model.specs.Report.{report_text}
 use Rattle.fol_report_laws.specs.Laws.{events}
 use Rattle.fol_events.specs.InRange.{AllInRange}
 use Rattle.fol_events.specs.Told.{FaultInCount, FaultInEvents, IsFault, IsTold, NoEvent, count_line, events_text}
-use Rattle.fol_events.proofs.OneReading.{no_fault, one_history, same_count}
+use Rattle.fol_events.proofs.OneReading.{no_fault, one_history, same_count, text_falls}
 use Rattle.fol_check.specs.Replays.{Ends, entries}
 use Rattle.fol_check.specs.Verdicts.{IsLegal, IsUnlawful, IsUntrue, Judges, differing_line}
 use Rattle.fol_check.specs.declared.verdicts.Verdict.{Verdict}
@@ -23,9 +23,6 @@ use Rattle.fol_check.specs.declared.verdicts.Verdict.TheVariants.{Event as AtEve
 use Rattle.fol_check.proofs.Prefixes.{stops_once, stops_or_ends}
 
 -- ---- bytes have one first fault
-
-text_falls : (h : List Entry) (rest : List ℕ) → events_text h ++ rest ≡ codes "report 1\n" ++ (count_line (length h) ++ (lines_of entry_words h ++ rest))
-text_falls h rest = ap (λ (xs : List ℕ). codes "report 1\n" ++ xs) (append_assoc (count_line (length h)) (lines_of entry_words h) rest)
 
 -- the event lines of a history do not end where a longer one has events
 not_longer : (g h : List Entry) (r s : List ℕ) → lines_of entry_words h ++ r ≡ lines_of entry_words g ++ s → AllInRange g → AllInRange h → length h ≤ 16777216 → length g < length h → NoEvent s → ⊥

@@ -3,6 +3,7 @@ pub mod Determined
 pub mod Answering
 pub mod Answered
 pub mod Growing
+pub mod Starting
 pub mod Carried
 pub mod Calling
 pub mod Ticking

@@ -38,11 +38,13 @@ impl Replay {
     {
         // A proof learns where a field is read that the numbers of the grid are within their limits.
         let _grid = opening.grid;
+        let core = Core::start(alloc, opening)?;
+        let workers = idle_workers(alloc)?;
         Ok(Replay {
-            core: Core::start(alloc, opening)?,
+            core,
             script,
             next: 0,
-            workers: idle_workers(alloc)?,
+            workers,
         })
     }
 
