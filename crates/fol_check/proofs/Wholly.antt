@@ -1,8 +1,8 @@
 -- The replay of a whole list of events.
-use Rattle.std.proofs.Common.{◌≡◌, ℕ, ◌+◌, refl, sym, ◌∙◌, ap, arith, true, false, inl, inr, List, [], ◌∷◌, ◌++◌, length, take, append_assoc, append-nil, length-append}
+use Rattle.std.proofs.Common.{subst, ◌≡◌, ℕ, ◌+◌, ◌<◌, ◌≤◌, refl, sym, ◌∙◌, ap, arith, true, false, inl, inr, List, [], ◌∷◌, ◌++◌, length, take, append_assoc, append-nil, length-append}
 use Rattle.std.specs.Prelude.{◌⊎◌, Bool}
 use Rattle.std.proofs.Math.Seq.{take-append_seam}
-use Rattle.std.proofs.lemmas.List.{map-append}
+use Rattle.std.proofs.lemmas.List.{length-map, map-append}
 use Rattle.fol_model.specs.SoFar.{SoFar}
 use Rattle.fol_model.specs.declared.openings.Opening.{Opening}
 use Rattle.fol_model.specs.declared.scripts.Command.{Command}
@@ -10,10 +10,11 @@ use Rattle.fol_model.specs.declared.closings.Closing.{Closing}
 use Rattle.fol_model.specs.declared.events.Entry.{Entry}
 use Rattle.fol_model.specs.declared.events.Event.{Event}
 use Rattle.fol_model.specs.declared.events.Event.TheVariants as events
+use Rattle.fol_report_laws.specs.Laws.{events as events_of}
 use Rattle.fol_events.specs.InRange.{InRange}
 use Rattle.fol_check.specs.Next.{MayRecord, entry_of}
 use Rattle.fol_check.specs.Replays.{Closes, Ends, LastFinishes, Played, SoFarAt, StopsAt, entries, is_last}
-use Rattle.fol_check.specs.Standing.{Records, Starts}
+use Rattle.fol_check.specs.Standing.{Records, Starts, Went}
 use Rattle.fol_check.specs.declared.replay.Replay.{Replay}
 use Rattle.fol_check.proofs.Growing.{so_far}
 
@@ -142,3 +143,40 @@ may_record (events.End k r t xs ks) range = tt
 may_record events.PhaseClose range = tt
 may_record events.Finish range = tt
 may_record (events.Stop k) range = tt
+
+-- ---- the steps of a replay
+
+module _ (s u : Replay) (o : Opening) (cs : List Command) (h left rest : List Entry) (e : Entry) (n place : ℕ) (b : Bool)
+    (p : Played s o cs (events_of h) (events_of left) n) (at : place ≡ n + 1) (first : left ≡ e ∷ rest) (went : Went s u e.event b) where
+  pub stops_here : b ≡ false → StopsAt o cs (events_of h) place
+  stops_here not =
+      let refused : SoFar s.core.opening s.script 64 (s.core.history ++ entry_of e.event ∷ []) → ⊥ = let told = went in rw not at told in
+      rw at (played_stops s o cs (events_of h) (events_of left) n p e.event (events_of rest) (ap events_of first) refused)
+
+  pub goes_here : b ≡ true → Played u o cs (events_of h) (events_of rest) (n + 1)
+  goes_here went_on =
+      let records : Records s u e.event = let told = went in rw went_on at told in
+      played_more s o cs (events_of h) (events_of left) n p e.event (events_of rest) (ap events_of first) u records
+
+module _ (s : Replay) (o : Opening) (cs : List Command) (h left : List Entry) (n place : ℕ) (p : Played s o cs (events_of h) (events_of left) n) where
+  pub played_few : n ≤ length h
+  played_few =
+      let count = p.place in
+      let all = ap length p.split in
+      let both = length-append p.played (events_of left) in
+      let many = length-map h (λ (x : Entry). x.event) in
+      omega arith
+
+  none_left : left ≡ [] → Played s o cs (events_of h) [] n
+  none_left none = let Q : List Event → Type 0 = λ xs. Played s o cs (events_of h) xs n in subst Q (ap events_of none) p
+
+  pub short_here : place ≡ n + 1 → left ≡ [] → (LastFinishes s.core.history → ⊥) → StopsAt o cs (events_of h) place
+  short_here at none refused = rw at (played_short s o cs (events_of h) n (none_left none) refused)
+
+  pub whole_here : (c : Closing) → left ≡ [] → Closes s c → Ends o cs (events_of h) c
+  whole_here c none closes = played_whole s o cs (events_of h) n (none_left none) c closes
+
+-- a queue in which nothing is left
+pub none_behind : {X : Type 0} (xs : List X) (n : ℕ) → length xs ≡ n → (0 < n → false ≡ true) → xs ≡ []
+none_behind [] n count none = refl
+none_behind (x ∷ xs) n count none = absurd (let never : false ≡ true = none (omega arith) in cc)

@@ -1,6 +1,6 @@
 //! The replay of a whole list of events.
 
-ghost use Rattle.std.specs.Prelude.{◌≡◌, ◌++◌, ◌∷◌, [], false, List, IfOk};
+ghost use Rattle.std.specs.Prelude.{◌≡◌, ◌≤◌, ◌++◌, ◌∷◌, [], false, List, IfOk, length};
 ghost use Rattle.fol_model.specs.declared.events.Entry.{Entry as EntryOf};
 ghost use Rattle.fol_events.specs.InRange.{AllInRange};
 ghost use Rattle.fol_report_laws.specs.Laws.{events};
@@ -30,6 +30,7 @@ pub(crate) fn replay_events(
     script: Script,
     history: Sequence<Entry>,
 ) -> Result<Replayed, AllocError>
+    requires few { length history ≤ 16777216 }
     requires in_range { AllInRange history }
     ensures { IfOk result (λ r. Replays opening script (events history) r) }
 {
