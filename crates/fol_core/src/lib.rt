@@ -1,7 +1,15 @@
-//! The machine of one thread: a core stands for an opening and a history that is a run of it.
+//! The machine of one thread: a core stands for an opening and a history that is a run of it. It is for who keeps a world alone, and `fol_live`
+//! makes a shared world of it. Nothing here waits or starts a thread.
 //!
 //! Each call returns what the world after the history says, and adds the entry that it says. The tables inside are the world after
-//! the history, so no call replays it. Nothing here waits or starts a thread: a lock round a core makes a shared world of it.
+//! the history, so no call replays it.
+//!
+//! The calls that a user makes first, in this order:
+//! 1. `Core::start` makes a core of an opening.
+//! 2. `Core::load` and `Core::post` ask for a loaded chunk and for a task.
+//! 3. `Core::open_phase` lets each region owe so many ticks; `Core::reserve` and then `Core::begin` give the tick of one.
+//! 4. `Core::release` takes a tick back that `fol_tick::run_tick` has run.
+//! 5. `Core::close_phase` and `Core::finish` end a phase and the history, and `Core::closing` gives all that stands at the end.
 #![tactic(auto)]
 
 mod agenda;

@@ -1,12 +1,17 @@
-//! A world that several threads share: a core behind a lock.
+//! A world that several threads share: a core behind a lock. It is for programs whose threads change one world at once.
 //!
-//! `Live::start` deals numbered seats. Each call with a seat is one turn of the lock, in which the core does what its own call says
-//! and the seat's number stands as the caller or the worker. Contracts see of a seat its number, the opening of the world, how much of
-//! the one history it has seen, and the entries that are its own; so each call tells what was recorded, after what, and by whom.
-//! `Live::close` takes all seats back and gives the closing of a history in which each seat has just its own entries.
+//! A thread calls with a seat, and each call is one turn of the lock, in which the core does what its own call says under the seat's number. A
+//! worker runs a tick without the lock; by the laws of open ticks nothing that others do meanwhile touches what it has in its hands.
 //!
-//! A worker begins a tick with its seat, runs it without the lock (`LiveHost` records what the tick loads and unloads), and gives it
-//! back. Other seats go on meanwhile: by the laws of open ticks nothing that they do touches what the worker has in its hands.
+//! The calls that a user makes first, in this order:
+//! 1. `Live::start` makes a world of an opening, and deals numbered seats.
+//! 2. `Live::load` and `Live::post` ask for a loaded chunk and for a task.
+//! 3. `Live::open_phase` lets each region owe so many ticks, and `Live::begin` gives a worker one of them.
+//! 4. `LiveHost::of` makes the seat the host of its tick, for `fol_tick::run_tick`, and `Live::release` gives the tick back.
+//! 5. `Live::close_phase` and `Live::finish` end a phase and the history, and `Live::close` takes all seats back for the closing.
+//!
+//! Contracts see of a seat its number, the opening of the world, how much of the one history it has seen, and the entries that are its own;
+//! so each call tells what was recorded, after what, and by whom, and the closing's history has of each seat just its own entries.
 #![tactic(auto)]
 
 mod answers;

@@ -8,8 +8,12 @@
 //! A reader may be behind the writer, but never goes back: its list of publications only grows, and a look-up is of the last of it. What the
 //! writer tells of its list, a reader may learn; its later look-ups are of that publication or of a later one.
 //!
-//! A user calls `View::start` with a seat; `OwnerReader::owner` to look a section up; `OwnerWriter::refresh` to publish anew;
-//! `OwnerWriter::tell` and `OwnerReader::learn` to see that publication from now on; and at the end `close`, which gives the seat back.
+//! The calls that a user makes first, in this order:
+//! 1. `View::start` takes a seat, and gives the view, its writer and its readers.
+//! 2. `OwnerReader::owner`, with a reader on any thread, looks a section up.
+//! 3. `OwnerWriter::refresh` publishes the owners as they are now.
+//! 4. `OwnerWriter::tell` and `OwnerReader::learn` let a reader see that publication from now on.
+//! 5. `close` takes the writer and all readers back, and gives the seat.
 #![tactic(auto)]
 
 mod board;
