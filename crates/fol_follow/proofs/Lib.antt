@@ -10,3 +10,4 @@ pub mod Turning
 pub mod Heres
 pub mod Follows
 pub mod NewSeats
+pub mod Crossing
