@@ -1,6 +1,6 @@
 -- A replay before any event.
-use Rattle.std.proofs.Common.{◌≡◌, ℕ, ◌+◌, ◌<◌, ◌≤◌, refl, sym, ◌∙◌, ap, arith, true, false, None, List, [], length, map, take, get_or}
-use Rattle.std.specs.Prelude.{suc, vec_len}
+use Rattle.std.proofs.Common.{◌≡◌, ℕ, refl, arith, true, false, None, List, [], get_or}
+use Rattle.std.specs.Prelude.{vec_len}
 use Rattle.fol_model.specs.declared.openings.Opening.{Opening}
 use Rattle.fol_model.specs.declared.scripts.Command.{Command}
 use Rattle.fol_model.specs.GridNumbers.{IsGrid}

@@ -1,4 +1,4 @@
-use Rattle.std.proofs.Common.{◌≡◌, ◌+◌, [], ◌∙◌, refl, sym, arith}
+use Rattle.std.proofs.Common.{◌≡◌, ◌+◌, ◌∙◌, refl, sym, arith}
 use Rattle.fol_report_laws.specs.Laws.{events}
 use Rattle.fol_check.proofs.Wholly.{finishes, goes_here, goes_on, none_behind, played_few, played_start, short_here, stops_here, whole_here}
 use Rattle.fol_check.proofs.whole.replay_events.Goals as goal
