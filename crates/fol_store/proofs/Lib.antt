@@ -25,3 +25,7 @@ pub mod Listing
 pub mod RowLists
 pub mod Returning
 pub mod Crossing
+pub mod OneMore
+pub mod Coming
+pub mod Outward
+pub mod Leaving

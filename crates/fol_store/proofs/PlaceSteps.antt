@@ -38,7 +38,7 @@ pub set_unknown : (old : List ((ℤ × ℤ) × Place)) (c : ChunkPos) → known_
 unfolding place_at
 set_unknown old c h = rw h refl
 
-same_chunk-swap : (a b : ChunkPos) → same_chunk a b ≡ same_chunk b a
+pub same_chunk-swap : (a b : ChunkPos) → same_chunk a b ≡ same_chunk b a
 same_chunk-swap a b =
     elim (cases_Bool (same_chunk a b)) [
       | inl e ↦ let s : a ≡ b = same_chunk-true a b e in e ∙ sym (ap (λ z. same_chunk b z) s ∙ same_chunk-self b)

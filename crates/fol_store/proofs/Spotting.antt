@@ -21,8 +21,8 @@ use Rattle.fol_store.specs.Steps.{SameMeaning, IsGathered}
 use Rattle.fol_store.proofs.Columns.{Moves, moves_back}
 use Rattle.fol_store.proofs.Totals.{where_cases}
 use Rattle.fol_store.proofs.Resound.{Kept, kept_self, moved_found, moved_sound, MovesSoundly}
-use Rattle.fol_store.proofs.Homes.{single-is, single-self}
 use Rattle.fol_store.proofs.Drawing.{with_parts}
+use Rattle.fol_store.proofs.Outward.{Outward, apart_out, moves_out, home_spot, home_bag, home_before, comes_out, stays_out}
 
 -- the store means the same, and so does each bag
 pub record Spotted (s t : Stock) : Type 0 where
@@ -190,57 +190,33 @@ module _ (s : Stock) (spots : List RegionData) (bags : List Slot) (places : Plac
     -- into the spot
     module _ (homes : (q : ChunkPos) → place t q ≡ (if same_chunk c q then (record (place s c) { bag = None }) else place s q)) (not_listed : (slot s id).listed ≡ false)
         (loses : Loses (c ∷ []) (slot s id).body in_it) (gains : Gains (c ∷ []) (slot s id).body (spot s i) out_of_it) where
-      apart_too : in_bag id ≢ in_spot i
-      apart_too e = cc
-
-      moves_out : (k : Key) → Moves where_cases (column s k) (column t k) (in_bag id) (in_spot i) (λ x. is_recorded (c ∷ []) (chunk_at k x))
-      moves_out k = record {
-        left = ap (λ (b : Slot). things b.body k) bag_here ∙ loses.things k;
-        come = ap (λ (r : RegionData). things r k) spot_here ∙ gains.things k;
-        rest = λ w a b. rest k w b a;
+      outward : Outward s t i id c in_it out_of_it
+      outward = record {
+        homes = homes;
+        at_spot = d.at_spot;
+        at_bag = d.at_bag;
+        left = λ k. ap (λ (b : Slot). things b.body k) bag_here;
+        came = λ k. ap (λ (r : RegionData). things r k) spot_here;
+        rest = λ k w a b. rest k w b a;
+        loses = loses;
+        gains = gains;
       }
 
-      home_spot : (q : ChunkPos) → (place t q).spot ≡ (place s q).spot
-      home_spot q = elim (cases_Bool (same_chunk c q)) [
-        | inl e ↦ ap (λ (p : Place). p.spot) (homes q) ∙ rw e (ap (λ z. (place s z).spot) (same_chunk-true c q e))
-        | inr e ↦ ap (λ (p : Place). p.spot) (homes q) ∙ rw e refl
-      ]
+      apart_too : in_bag id ≢ in_spot i
+      apart_too = apart_out s t i id c in_it out_of_it outward h
 
-      home_bag : (q : ChunkPos) (n : ℕ) → (place s q).bag ≡ Some n → (n ≡ id → same_chunk c q ≡ false) → (place t q).bag ≡ Some n
-      home_bag q n e f = elim (cases_Bool (same_chunk c q)) [
-        | inl z ↦
-            let g : Some n ≡ Some id = sym e ∙ ap (λ y. (place s y).bag) (sym (same_chunk-true c q z)) ∙ d.at_bag in
-            let m : n ≡ id = cc in
-            let y : true ≡ false = sym z ∙ f m in cc
-        | inr z ↦ ap (λ (p : Place). p.bag) (homes q) ∙ rw z e
-      ]
+      moves_too : (k : Key) → Moves where_cases (column s k) (column t k) (in_bag id) (in_spot i) (λ x. is_recorded (c ∷ []) (chunk_at k x))
+      moves_too = moves_out s t i id c in_it out_of_it outward h
 
-      pub home_before : (q : ChunkPos) (n : ℕ) → (place t q).bag ≡ Some n → (place s q).bag ≡ Some n
-      home_before q n e = elim (cases_Bool (same_chunk c q)) [
-        | inl z ↦ let f : None ≡ Some n = sym (ap (λ (p : Place). p.bag) (homes q) ∙ rw z refl) ∙ e in cc
-        | inr z ↦ sym (ap (λ (p : Place). p.bag) (homes q) ∙ rw z refl) ∙ e
-      ]
-
-      stays_out : (k : Key) (w : Where) (x : Thing k) → column s k w ≡ Some x → (w ≡ in_bag id → is_recorded (c ∷ []) (chunk_at k x) ≡ false) → Allows (place t (chunk_at k x)) w
-      stays_out k arriving x q f = tt
-      stays_out k (in_spot n) x q f = home_spot (chunk_at k x) ∙ h.lies k (in_spot n) x q
-      stays_out k (in_bag n) x q f = home_bag (chunk_at k x) n (h.lies k (in_bag n) x q) (λ e. not_same (f (ap (λ m. in_bag m) e)))
-        where
-          not_same : is_recorded (c ∷ []) (chunk_at k x) ≡ false → same_chunk c (chunk_at k x) ≡ false
-          not_same e = elim (cases_Bool (same_chunk c (chunk_at k x))) [
-            | inl z ↦ let y : true ≡ false = sym (single-self c (chunk_at k x) (same_chunk-true c (chunk_at k x) z)) ∙ e in cc
-            | inr z ↦ z
-          ]
-
-      soundly_out : MovesSoundly s t (in_bag id) (in_spot i) (λ k x. is_recorded (c ∷ []) (chunk_at k x)) apart_too moves_out
+      soundly_out : MovesSoundly s t (in_bag id) (in_spot i) (λ k x. is_recorded (c ∷ []) (chunk_at k x)) apart_too moves_too
       soundly_out = record {
-        come = λ k x q r. home_spot (chunk_at k x) ∙ ap (λ z. (place s z).spot) (single-is c (chunk_at k x) r) ∙ d.at_spot;
-        stay = stays_out;
-        spot_range = λ q n e. let l : n < length s.spots = h.spot_range q n (sym (home_spot q) ∙ e) in let g : length spots ≡ length s.spots = d.spots_long in omega arith;
-        bag_range = λ q n e. let l : n < length s.bags = h.bag_range q n (home_before q n e) in let g : length bags ≡ length s.bags = d.bags_long in omega arith;
+        come = comes_out s t i id c in_it out_of_it outward h;
+        stay = stays_out s t i id c in_it out_of_it outward h;
+        spot_range = λ q n e. let l : n < length s.spots = h.spot_range q n (sym (home_spot s t i id c in_it out_of_it outward h q) ∙ e) in let g : length spots ≡ length s.spots = d.spots_long in omega arith;
+        bag_range = λ q n e. let l : n < length s.bags = h.bag_range q n (home_before s t i id c in_it out_of_it outward h q n e) in let g : length bags ≡ length s.bags = d.bags_long in omega arith;
         kept = kept;
-        fewer = λ n o q e. inl (home_before q n e);
-        more = λ n o q e. home_bag q n e (λ m. absurd (not_mine n m o));
+        fewer = λ n o q e. inl (home_before s t i id c in_it out_of_it outward h q n e);
+        more = λ n o q e. home_bag s t i id c in_it out_of_it outward h q n e (λ m. absurd (not_mine n m o));
         lands = λ n o k x q p r. absurd (mine_whole n ((h.bags n).near (still_listed n o) k (in_bag id) x q r) o);
         none_come = λ n o e. cc;
         spot_times = spot_times;
@@ -265,7 +241,7 @@ module _ (s : Stock) (spots : List RegionData) (bags : List Slot) (places : Plac
 
       pub into_spot : Spotted s t
       into_spot = record {
-        sound = moved_sound s t (in_bag id) (in_spot i) (λ k x. is_recorded (c ∷ []) (chunk_at k x)) apart_too moves_out soundly_out h;
-        same = same_meaning (moved_found s t (in_bag id) (in_spot i) (λ k x. is_recorded (c ∷ []) (chunk_at k x)) apart_too moves_out h.unique);
+        sound = moved_sound s t (in_bag id) (in_spot i) (λ k x. is_recorded (c ∷ []) (chunk_at k x)) apart_too moves_too soundly_out h;
+        same = same_meaning (moved_found s t (in_bag id) (in_spot i) (λ k x. is_recorded (c ∷ []) (chunk_at k x)) apart_too moves_too h.unique);
         bags = shown_same;
       }

@@ -1,6 +1,7 @@
 pub mod Bag
 pub mod Stock
 pub mod Gathered
+pub mod Relisted
 pub mod Places
 pub mod Columns
 pub mod Things

@@ -1,7 +1,17 @@
 //! The bag of a region, as the store keeps it.
 
+ghost use Rattle.std.specs.Prelude.{◌≡◌, ◌≤◌, true, not, ◌||◌, ◌&&◌, [], ◌∷◌, ◌++◌, ◌⊎◌, length, OnOk, OnErr};
+ghost use Rattle.std.specs.List.{insert};
+ghost use Rattle.std.specs.List.Sorted.{IsStrictlySortedBy};
+ghost use Rattle.fol_model.specs.declared.places.ChunkPos.{ChunkPos};
+ghost use Rattle.fol_model.specs.Geometry.{same_chunk};
+ghost use Rattle.fol_chunks.specs.Contents.{is_recorded};
+ghost use Rattle.fol_chunks.specs.Order.{chunk_cmp};
+
+use crate::members;
 use fol_data::RegionData;
 use fol_model::{ChunkPos, Sequence};
+use std::alloc::{AllocError, Global};
 
 /// A bag, or what is left of one.
 #[derive(Drop)]
@@ -20,6 +30,85 @@ pub struct Slot {
     pub chunks: Sequence<ChunkPos>,
     /// The same chunks, to be handed out with the bag.
     pub handed: Sequence<ChunkPos>,
-    /// Chunks on whose spots tasks may lie; of a listed bag, all such ones.
+    /// Chunks in whose spots something may lie; of a listed bag, all such ones.
     pub touched: Sequence<ChunkPos>,
+}
+
+impl Slot {
+    /// A chunk comes, and is noted. If memory runs out, the lists may differ, and no chunk is lost.
+    pub fn admit(&mut self, alloc: Global, c: ChunkPos) -> Result<(), AllocError>
+        requires order { IsStrictlySortedBy chunk_cmp self.old.chunks }
+        requires handed { self.old.handed ≡ self.old.chunks }
+        ensures order { OnOk result (IsStrictlySortedBy chunk_cmp self.new.chunks) }
+        ensures has { OnOk result ((q : ChunkPos) → is_recorded self.new.chunks q ≡ (is_recorded self.old.chunks q || same_chunk c q)) }
+        ensures handed { OnOk result (self.new.handed ≡ self.new.chunks) }
+        ensures noted { OnOk result (self.new.touched ≡ self.old.touched ++ c ∷ []) }
+        ensures kept { (q : ChunkPos) → is_recorded self.old.chunks q ≡ true → is_recorded self.new.chunks q ≡ true }
+        ensures rest { self.new ≡ record self.old { chunks = self.new.chunks; handed = self.new.handed; touched = self.new.touched } }
+    {
+        match self.widen(alloc, c) {
+            Ok(()) => note(&mut self.touched, c),
+            Err(_) => Err(AllocError),
+        }
+    }
+
+    /// A chunk comes into both lists. If memory runs out, the first may have it.
+    fn widen(&mut self, alloc: Global, c: ChunkPos) -> Result<(), AllocError>
+        requires order { IsStrictlySortedBy chunk_cmp self.old.chunks }
+        requires handed { self.old.handed ≡ self.old.chunks }
+        ensures order { OnOk result (IsStrictlySortedBy chunk_cmp self.new.chunks) }
+        ensures has { OnOk result ((q : ChunkPos) → is_recorded self.new.chunks q ≡ (is_recorded self.old.chunks q || same_chunk c q)) }
+        ensures handed { OnOk result (self.new.handed ≡ self.new.chunks) }
+        ensures kept { (q : ChunkPos) → is_recorded self.old.chunks q ≡ true → is_recorded self.new.chunks q ≡ true }
+        ensures rest { self.new ≡ record self.old { chunks = self.new.chunks; handed = self.new.handed } }
+    {
+        match members::place_of(self.chunks.as_slice(), c) {
+            Ok(_) => Ok(()),
+            Err(i) => self.admit_at(alloc, i, c),
+        }
+    }
+
+    /// Puts a chunk at a place of both lists. If memory runs out, the first may have it.
+    fn admit_at(&mut self, alloc: Global, i: usize, c: ChunkPos) -> Result<(), AllocError>
+        requires range { i ≤ length self.old.chunks }
+        requires handed { self.old.handed ≡ self.old.chunks }
+        ensures chunks { OnOk result (self.new.chunks ≡ insert self.old.chunks i c) }
+        ensures handed { OnOk result (self.new.handed ≡ insert self.old.chunks i c) }
+        ensures kept { (self.new.chunks ≡ self.old.chunks) ⊎ (self.new.chunks ≡ insert self.old.chunks i c) }
+        ensures rest { self.new ≡ record self.old { chunks = self.new.chunks; handed = self.new.handed } }
+    {
+        match members::insert(alloc, &mut self.chunks, i, c) {
+            Ok(()) => members::insert(alloc, &mut self.handed, i, c),
+            Err(_) => Err(AllocError),
+        }
+    }
+
+    /// A chunk leaves.
+    pub fn dismiss(&mut self, alloc: Global, c: ChunkPos)
+        requires order { IsStrictlySortedBy chunk_cmp self.old.chunks }
+        requires handed { self.old.handed ≡ self.old.chunks }
+        ensures order { IsStrictlySortedBy chunk_cmp self.new.chunks }
+        ensures has { (q : ChunkPos) → is_recorded self.new.chunks q ≡ (is_recorded self.old.chunks q && not (same_chunk c q)) }
+        ensures handed { self.new.handed ≡ self.new.chunks }
+        ensures rest { self.new ≡ record self.old { chunks = self.new.chunks; handed = self.new.handed } }
+    {
+        match members::place_of(self.chunks.as_slice(), c) {
+            Ok(i) => {
+                members::remove(alloc, &mut self.chunks, i);
+                members::remove(alloc, &mut self.handed, i);
+            }
+            Err(_) => {}
+        }
+    }
+}
+
+/// Adds a chunk to a list. If memory runs out, the list stays.
+fn note(touched: &mut Sequence<ChunkPos>, c: ChunkPos) -> Result<(), AllocError>
+    ensures ok { OnOk result (touched.new ≡ touched.old ++ c ∷ []) }
+    ensures err { OnErr result (touched.new ≡ touched.old) }
+{
+    match touched.push(c) {
+        Ok(()) => Ok(()),
+        Err(_) => Err(AllocError),
+    }
 }

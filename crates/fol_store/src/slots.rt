@@ -1,6 +1,6 @@
 //! The bags by region.
 
-ghost use Rattle.std.specs.Prelude.{◌≡◌, ◌≢◌, IfOk, OnOk, OnErr, ◌+◌, ◌<◌, ◌&&◌, not, ℕ, nat_eq, if◌then◌else◌, true, false, [], ◌∷◌, ◌++◌, length, vec_len};
+ghost use Rattle.std.specs.Prelude.{◌≡◌, ◌≢◌, IfOk, OnOk, OnErr, ◌+◌, ◌<◌, ◌&&◌, ◌||◌, not, ℕ, nat_eq, if◌then◌else◌, true, false, [], ◌∷◌, ◌++◌, length, vec_len};
 ghost use Rattle.std.specs.Vec.{vec_capacity};
 ghost use Rattle.fol_store.specs.Stock.{no_slot};
 ghost use Rattle.fol_store.specs.Slots.{slot_in, stays_calm};
@@ -9,6 +9,9 @@ ghost use Rattle.fol_store.specs.Places.{is_bag};
 ghost use Rattle.fol_store.specs.Moves.{SameThings, AreApart, Loses, Gains};
 ghost use Rattle.std.specs.List.Sorted.{IsStrictlySortedBy};
 ghost use Rattle.fol_chunks.specs.Order.{chunk_cmp};
+ghost use Rattle.fol_chunks.specs.Contents.{is_recorded};
+ghost use Rattle.fol_model.specs.declared.places.ChunkPos.{ChunkPos};
+ghost use Rattle.fol_model.specs.Geometry.{same_chunk};
 
 use crate::Taken;
 use crate::places::Place;
@@ -177,6 +180,54 @@ pub fn reopen(alloc: Global, bags: &mut Vec<Slot>, id: usize) -> Reopened
         chunks: handed.into_vec(),
         touched: touched.into_vec(),
     }
+}
+
+/// Whether the store has a bag, and its chunks are the right ones still.
+pub fn is_ready(bags: &[Slot], id: usize) -> bool
+    requires { id < length bags.now }
+    ensures { result ≡ ((slot_in bags.now id).here && (slot_in bags.now id).listed) }
+{
+    let slot = &bags[id];
+    slot.here && slot.listed
+}
+
+/// A chunk comes to a listed bag, and is noted. The bag is calm no more; if memory runs out, it has to be gathered anew.
+pub fn admit(alloc: Global, bags: &mut Vec<Slot>, id: usize, c: ChunkPos) -> Result<(), AllocError>
+    requires there { id < vec_len bags.old }
+    requires order { IsStrictlySortedBy chunk_cmp (slot_in bags.old.items id).chunks }
+    requires handed { (slot_in bags.old.items id).handed ≡ (slot_in bags.old.items id).chunks }
+    ensures order { OnOk result (IsStrictlySortedBy chunk_cmp (slot_in bags.new.items id).chunks) }
+    ensures has { OnOk result ((q : ChunkPos) → is_recorded (slot_in bags.new.items id).chunks q ≡ (is_recorded (slot_in bags.old.items id).chunks q || same_chunk c q)) }
+    ensures handed { OnOk result ((slot_in bags.new.items id).handed ≡ (slot_in bags.new.items id).chunks) }
+    ensures noted { OnOk result ((slot_in bags.new.items id).touched ≡ (slot_in bags.old.items id).touched ++ c ∷ []) }
+    ensures listed { OnOk result ((slot_in bags.new.items id).listed ≡ (slot_in bags.old.items id).listed) }
+    ensures kept { (q : ChunkPos) → is_recorded (slot_in bags.old.items id).chunks q ≡ true → is_recorded (slot_in bags.new.items id).chunks q ≡ true }
+    ensures unlisted { OnErr result ((slot_in bags.new.items id).listed ≡ false) }
+    ensures slots { (u : ℕ) → slot_in bags.new.items u ≡ (if nat_eq id u then record (slot_in bags.old.items id) { listed = (slot_in bags.new.items id).listed; calm = false; chunks = (slot_in bags.new.items id).chunks; handed = (slot_in bags.new.items id).handed; touched = (slot_in bags.new.items id).touched } else slot_in bags.old.items u) }
+    ensures len { vec_len bags.new ≡ vec_len bags.old }
+    ensures capacity { vec_capacity bags.new ≡ vec_capacity bags.old }
+{
+    let slot = &mut bags[id];
+    slot.calm = false;
+    let result = slot.admit(alloc, c);
+    slot.listed = slot.listed && result.is_ok();
+    result
+}
+
+/// A chunk leaves a bag.
+pub fn dismiss(alloc: Global, bags: &mut Vec<Slot>, id: usize, c: ChunkPos)
+    requires there { id < vec_len bags.old }
+    requires order { IsStrictlySortedBy chunk_cmp (slot_in bags.old.items id).chunks }
+    requires handed { (slot_in bags.old.items id).handed ≡ (slot_in bags.old.items id).chunks }
+    ensures order { IsStrictlySortedBy chunk_cmp (slot_in bags.new.items id).chunks }
+    ensures has { (q : ChunkPos) → is_recorded (slot_in bags.new.items id).chunks q ≡ (is_recorded (slot_in bags.old.items id).chunks q && not (same_chunk c q)) }
+    ensures handed { (slot_in bags.new.items id).handed ≡ (slot_in bags.new.items id).chunks }
+    ensures slots { (u : ℕ) → slot_in bags.new.items u ≡ (if nat_eq id u then record (slot_in bags.old.items id) { chunks = (slot_in bags.new.items id).chunks; handed = (slot_in bags.new.items id).handed } else slot_in bags.old.items u) }
+    ensures len { vec_len bags.new ≡ vec_len bags.old }
+    ensures capacity { vec_capacity bags.new ≡ vec_capacity bags.old }
+{
+    let slot = &mut bags[id];
+    slot.dismiss(alloc, c);
 }
 
 /// Adds an empty bag.

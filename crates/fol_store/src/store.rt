@@ -18,6 +18,7 @@ ghost use Rattle.fol_store.specs.Gathered.{AreFree, OthersSpared, Touched};
 ghost use Rattle.fol_store.specs.TaskRows.{by_number, rows_of};
 
 mod calm;
+mod chunks;
 mod draw;
 mod gather;
 mod lay;

@@ -123,3 +123,19 @@ fn keeps_rests_through_a_bag(rt: HostRuntime) -> Result<(), Fail> {
     assert_eq!(rt; rests(rt.alloc(), &rows)?.as_slice(), [(2, 5)].as_slice());
     Ok(())
 }
+
+/// What comes to a listed bag with a chunk, and goes with it, is all there.
+#[test]
+fn follows_the_chunks_of_a_region(rt: HostRuntime) -> Result<(), Fail> {
+    let mut store = Store::new(rt.alloc(), &opening(rt.alloc())?)?;
+    store.reserve(1, 1)?;
+    store.open(1, 40, 2);
+    store.accept(task(2, CHUNKS[0]), 5);
+    store.gather(1, &CHUNKS)?;
+    store.lose(1, CHUNKS[0]);
+    let rows = store.into_rows(rt.alloc())?;
+    assert_eq!(rt; rows.blocks.as_slice(), BLOCKS.as_slice());
+    assert_eq!(rt; rows.entities.as_slice(), ENTITIES.as_slice());
+    assert_eq!(rt; rests(rt.alloc(), &rows)?.as_slice(), [(2, 5)].as_slice());
+    Ok(())
+}

@@ -1,0 +1,30 @@
+use Rattle.std.proofs.Common.{◌≡◌, ◌<◌, ◌≤◌, ◌||◌, true, length, get_or, refl, sym, ◌∙◌, ap, inl, inr}
+use Rattle.std.specs.List.{insert}
+use Rattle.std.specs.List.Sorted.{IsStrictlySortedBy, IsPartitionPoint}
+use Rattle.std.specs.declared.cmp.Ordering.TheVariants.{Less, Greater}
+use Rattle.fol_model.specs.declared.places.ChunkPos.{ChunkPos}
+use Rattle.fol_model.specs.Geometry.{same_chunk}
+use Rattle.fol_chunks.specs.Contents.{is_recorded}
+use Rattle.fol_chunks.specs.Order.{chunk_cmp}
+use Rattle.fol_store.proofs.OneMore.{order_insert, recorded_insert, recorded_kept, recorded_there, recorded_where}
+use Rattle.fol_store.proofs.PlaceSteps.{on_ok}
+use Rattle.fol_store.proofs.slot.Slot.widen.Goals as goal
+
+pub returns-in-Ok-clause-has : goal.returns-in-Ok-clause-has
+returns-in-Ok-clause-has c = λ q.
+    let at : (c.in-Ok.field-0 < length c.args.self.now.chunks) × ((d : ChunkPos) → get_or c.args.self.now.chunks c.in-Ok.field-0 d ≡ c.args.c) = rw c.as_slice.ensures at c.in-Ok.ensures in
+    recorded_there c.args.self.now.chunks c.args.c q (recorded_where c.args.self.now.chunks c.in-Ok.field-0 c.args.c at.0 at.1)
+
+pub returns-in-Err-clause-order : goal.returns-in-Err-clause-order
+returns-in-Err-clause-order c =
+    let at : (c.in-Err.i ≤ length c.args.self.now.chunks) × IsPartitionPoint (λ q. chunk_cmp q c.args.c ≡ Less) (λ q. chunk_cmp q c.args.c ≡ Greater) c.args.self.now.chunks c.in-Err.i = rw c.as_slice.ensures at c.in-Err.ensures in
+    on_ok c.admit_at.result _ _ c.admit_at.ensures.chunks (λ e. rw e (order_insert c.args.self.now.chunks c.in-Err.i c.args.c c.requires.order at.0 at.1))
+
+pub returns-in-Err-clause-has : goal.returns-in-Err-clause-has
+returns-in-Err-clause-has c = on_ok c.admit_at.result _ _ c.admit_at.ensures.chunks (λ e q. rw e (recorded_insert c.args.self.now.chunks c.in-Err.i c.args.c q))
+
+pub returns-in-Err-clause-kept : goal.returns-in-Err-clause-kept
+returns-in-Err-clause-kept c = λ q r. elim c.admit_at.ensures.kept [
+  | inl e ↦ rw e r
+  | inr e ↦ rw e (recorded_kept c.args.self.now.chunks c.in-Err.i c.args.c q r)
+]

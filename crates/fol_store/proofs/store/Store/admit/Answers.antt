@@ -1,0 +1,95 @@
+use Rattle.std.proofs.Common.{◌≡◌, ◌<◌, ◌-◌, ℕ, true, false, length, refl, sym, ◌∙◌, ap, arith, vec_len}
+use Rattle.std.specs.Vec.{vec_capacity}
+use Rattle.fol_store.specs.contracts.store.Store.{the_view}
+use Rattle.fol_store.specs.declared.slot.Slot.{Slot}
+use Rattle.fol_store.specs.declared.places.Place.{Place}
+use Rattle.fol_store.specs.Slots.{slot_in}
+use Rattle.fol_store.specs.Stock.{Stock, slot, bag_of, place}
+use Rattle.fol_store.proofs.BagSteps.{here_range}
+use Rattle.fol_store.proofs.Coming.{Followed, came, unlisted, set_twice, wider}
+use Rattle.fol_store.proofs.Drawing.{with_parts}
+use Rattle.fol_store.proofs.store.Store.admit.Goals as goal
+
+pub admit-requires-clause-there : goal.admit-requires-clause-there
+unfolding bag_of
+admit-requires-clause-there c =
+    let here : (slot (the_view c.self.inside) c.args.id).here ≡ true = rw (← c.self.view_is) at c.requires.here in
+    let l : c.args.id < length c.self.inside.bags.items = here_range c.self.inside.bags.items c.args.id here in
+    omega arith
+
+pub admit-requires-clause-order : goal.admit-requires-clause-order
+unfolding bag_of
+admit-requires-clause-order c = rw (← c.self.view_is) at c.requires.order
+
+pub admit-requires-clause-handed : goal.admit-requires-clause-handed
+unfolding bag_of
+admit-requires-clause-handed c =
+    let here : (slot (the_view c.self.inside) c.args.id).here ≡ true = rw (← c.self.view_is) at c.requires.here in
+    let listed : (slot (the_view c.self.inside) c.args.id).listed ≡ true = rw (← c.self.view_is) at c.requires.listed in
+    (c.self.invariant.bags c.args.id).handed (rw (here, listed) refl)
+
+with_chunk : (c : goal.In-Ok-set) → Followed (the_view c.self.inside) (with_parts (the_view c.self.inside) c.self.inside.spots.items c.admit.new.bags.items c.set.new.self (vec_capacity c.self.inside.arrivals - vec_len c.self.inside.arrivals) (vec_capacity c.admit.new.bags - vec_len c.admit.new.bags)) c.args.id (wider (the_view c.self.inside) c.args.id c.args.c)
+unfolding bag_of
+with_chunk c =
+    let here : (slot (the_view c.self.inside) c.args.id).here ≡ true = rw (← c.self.view_is) at c.requires.here in
+    let listed : (slot (the_view c.self.inside) c.args.id).listed ≡ true = rw (← c.self.view_is) at c.requires.listed in
+    let there : c.args.place ≡ place (the_view c.self.inside) c.args.c = rw (← c.self.view_is) at c.requires.there in
+    let d : Slot = slot_in c.admit.new.bags.items c.args.id in
+    came (the_view c.self.inside) c.admit.new.bags.items c.set.new.self _ _ c.args.id c.args.c d.listed d.chunks d.handed d.touched
+    c.admit.ensures.slots c.self.invariant (omega arith) (here_range c.self.inside.bags.items c.args.id here) here (omega arith) (omega (arith, c.admit.ensures.len, c.admit.ensures.capacity))
+    listed c.args.place there c.requires.none c.in-Ok-set.ensures.ok c.in-Ok.ensures.order c.in-Ok.ensures.has c.in-Ok.ensures.handed c.in-Ok.ensures.noted
+
+without_place : (c : goal.After-unlist) → Followed (the_view c.self.inside) (with_parts (the_view c.self.inside) c.self.inside.spots.items c.unlist.new.bags.items c.set.new.self (vec_capacity c.self.inside.arrivals - vec_len c.self.inside.arrivals) (vec_capacity c.unlist.new.bags - vec_len c.unlist.new.bags)) c.args.id (wider (the_view c.self.inside) c.args.id c.args.c)
+unfolding bag_of
+without_place c =
+    let here : (slot (the_view c.self.inside) c.args.id).here ≡ true = rw (← c.self.view_is) at c.requires.here in
+    let d : Slot = slot_in c.admit.new.bags.items c.args.id in
+    unlisted (the_view c.self.inside) c.unlist.new.bags.items c.set.new.self _ _ c.args.id c.args.c false d.chunks d.handed d.touched
+    (set_twice c.args.id (slot (the_view c.self.inside)) (slot_in c.admit.new.bags.items) (slot_in c.unlist.new.bags.items) _ (λ (z : Slot). let y : Slot = record z { listed = false } in y) c.admit.ensures.slots c.unlist.ensures.slots)
+    c.self.invariant (omega arith) (here_range c.self.inside.bags.items c.args.id here) here (omega arith) (omega (arith, c.admit.ensures.len, c.admit.ensures.capacity, c.unlist.ensures.len, c.unlist.ensures.capacity))
+    refl c.in-Err-set.ensures.err c.admit.ensures.kept
+
+without_room : (c : goal.In-Err) → Followed (the_view c.self.inside) (with_parts (the_view c.self.inside) c.self.inside.spots.items c.admit.new.bags.items c.self.inside.places (vec_capacity c.self.inside.arrivals - vec_len c.self.inside.arrivals) (vec_capacity c.admit.new.bags - vec_len c.admit.new.bags)) c.args.id (wider (the_view c.self.inside) c.args.id c.args.c)
+unfolding bag_of
+without_room c =
+    let here : (slot (the_view c.self.inside) c.args.id).here ≡ true = rw (← c.self.view_is) at c.requires.here in
+    let d : Slot = slot_in c.admit.new.bags.items c.args.id in
+    unlisted (the_view c.self.inside) c.admit.new.bags.items c.self.inside.places _ _ c.args.id c.args.c d.listed d.chunks d.handed d.touched
+    c.admit.ensures.slots c.self.invariant (omega arith) (here_range c.self.inside.bags.items c.args.id here) here (omega arith) (omega (arith, c.admit.ensures.len, c.admit.ensures.capacity))
+    c.in-Err.ensures.unlisted (λ q. refl) c.admit.ensures.kept
+
+pub invariant_of-self : goal.invariant_of-self
+invariant_of-self c = (with_chunk c).sound
+
+pub invariant_of-self-in-Err-set : goal.invariant_of-self-in-Err-set
+invariant_of-self-in-Err-set c = (without_place c).sound
+
+pub invariant_of-self-in-Err : goal.invariant_of-self-in-Err
+invariant_of-self-in-Err c = (without_room c).sound
+
+pub returns-in-Ok-set-clause-own : goal.returns-in-Ok-set-clause-own
+returns-in-Ok-set-clause-own c = rw (← c.self.view_is) (with_chunk c).own
+
+pub returns-in-Ok-set-clause-others : goal.returns-in-Ok-set-clause-others
+returns-in-Ok-set-clause-others c = rw (← c.self.view_is) (with_chunk c).others
+
+pub returns-in-Ok-set-clause-same : goal.returns-in-Ok-set-clause-same
+returns-in-Ok-set-clause-same c = rw (← c.self.view_is) (with_chunk c).same
+
+pub returns-in-Err-set-clause-own : goal.returns-in-Err-set-clause-own
+returns-in-Err-set-clause-own c = rw (← c.self.view_is) (without_place c).own
+
+pub returns-in-Err-set-clause-others : goal.returns-in-Err-set-clause-others
+returns-in-Err-set-clause-others c = rw (← c.self.view_is) (without_place c).others
+
+pub returns-in-Err-set-clause-same : goal.returns-in-Err-set-clause-same
+returns-in-Err-set-clause-same c = rw (← c.self.view_is) (without_place c).same
+
+pub returns-in-Err-clause-own : goal.returns-in-Err-clause-own
+returns-in-Err-clause-own c = rw (← c.self.view_is) (without_room c).own
+
+pub returns-in-Err-clause-others : goal.returns-in-Err-clause-others
+returns-in-Err-clause-others c = rw (← c.self.view_is) (without_room c).others
+
+pub returns-in-Err-clause-same : goal.returns-in-Err-clause-same
+returns-in-Err-clause-same c = rw (← c.self.view_is) (without_room c).same

@@ -1,0 +1,116 @@
+use Rattle.std.proofs.Common.{◌≡◌, ◌<◌, ◌-◌, ◌&&◌, not, true, false, List, [], length, refl, sym, ◌∙◌, ap, subst, arith, vec_len}
+use Rattle.std.specs.Vec.{vec_capacity}
+use Rattle.std.specs.List.Sorted.{IsStrictlySortedBy}
+use Rattle.fol_model.specs.declared.places.ChunkPos.{ChunkPos}
+use Rattle.fol_model.specs.Geometry.{same_chunk}
+use Rattle.fol_chunks.specs.Contents.{is_recorded}
+use Rattle.fol_chunks.specs.Order.{chunk_cmp}
+use Rattle.fol_queues.proofs.Numbers.{nat_self}
+use Rattle.fol_store.specs.contracts.store.Store.{the_view}
+use Rattle.fol_store.specs.declared.slot.Slot.{Slot}
+use Rattle.fol_store.specs.Slots.{slot_in, spot_in}
+use Rattle.fol_store.specs.Stock.{Stock, slot, in_bag, in_spot, bag_of}
+use Rattle.fol_store.proofs.Coming.{Followed, set_twice}
+use Rattle.fol_store.proofs.Drawing.{with_parts, loses_none, gains_none}
+use Rattle.fol_store.proofs.Leaving.{left_one, narrower}
+use Rattle.fol_store.proofs.Spotting.{Spotted, from_spot}
+use Rattle.fol_store.proofs.Stepping.{here_not_taken}
+use Rattle.fol_store.proofs.store.Store.expel_to.Goals as goal
+
+pub shift_from_bag-requires-clause-order : goal.shift_from_bag-requires-clause-order
+unfolding IsStrictlySortedBy
+shift_from_bag-requires-clause-order c = (tt, tt)
+
+pub shift_from_bag-requires-clause-apart : goal.shift_from_bag-requires-clause-apart
+shift_from_bag-requires-clause-apart c = λ k x y p q.
+    let e : in_bag c.args.id ≡ in_spot c.args.i = c.self.invariant.unique k (in_bag c.args.id) (in_spot c.args.i) x y p q in
+    cc
+
+pub dismiss-requires-clause-order : goal.dismiss-requires-clause-order
+unfolding bag_of
+dismiss-requires-clause-order c =
+    let order : IsStrictlySortedBy chunk_cmp (slot (the_view c.self.inside) c.args.id).chunks = rw (← c.self.view_is) at c.requires.order in
+    let mine : slot_in c.shift_from_bag.new.bags.items c.args.id ≡ record (slot (the_view c.self.inside) c.args.id) { body = (slot_in c.shift_from_bag.new.bags.items c.args.id).body } = c.shift_from_bag.ensures.slots c.args.id ∙ rw (nat_self c.args.id) refl in
+    let P : List ChunkPos → Type 0 = λ xs. IsStrictlySortedBy chunk_cmp xs in
+    subst P (sym (ap (λ (z : Slot). z.chunks) mine)) order
+
+pub dismiss-requires-clause-handed : goal.dismiss-requires-clause-handed
+unfolding bag_of
+dismiss-requires-clause-handed c =
+    let here : (slot (the_view c.self.inside) c.args.id).here ≡ true = rw (← c.self.view_is) at c.requires.here in
+    let listed : (slot (the_view c.self.inside) c.args.id).listed ≡ true = rw (← c.self.view_is) at c.requires.listed in
+    let mine : slot_in c.shift_from_bag.new.bags.items c.args.id ≡ record (slot (the_view c.self.inside) c.args.id) { body = (slot_in c.shift_from_bag.new.bags.items c.args.id).body } = c.shift_from_bag.ensures.slots c.args.id ∙ rw (nat_self c.args.id) refl in
+    ap (λ (z : Slot). z.handed) mine ∙ (c.self.invariant.bags c.args.id).handed (rw (here, listed) refl) ∙ sym (ap (λ (z : Slot). z.chunks) mine)
+
+moved : (c : goal.After-dismiss) → Followed (the_view c.self.inside) (with_parts (the_view c.self.inside) c.shift_from_bag.new.spots.items c.dismiss.new.bags.items c.unname.new.self (vec_capacity c.self.inside.arrivals - vec_len c.self.inside.arrivals) (vec_capacity c.dismiss.new.bags - vec_len c.dismiss.new.bags)) c.args.id (narrower (the_view c.self.inside) c.args.id c.args.c)
+unfolding bag_of
+moved c =
+    let s : Stock = the_view c.self.inside in
+    let between : Slot = slot_in c.shift_from_bag.new.bags.items c.args.id in
+    let d : Slot = slot_in c.dismiss.new.bags.items c.args.id in
+    let mine : between ≡ record (slot s c.args.id) { body = between.body } = c.shift_from_bag.ensures.slots c.args.id ∙ rw (nat_self c.args.id) refl in
+    left_one s c.shift_from_bag.new.spots.items c.dismiss.new.bags.items c.unname.new.self _ _ c.args.i c.args.id c.args.c between.body (spot_in c.shift_from_bag.new.spots.items c.args.i) d.chunks d.handed
+    (record {
+      each_spot = c.shift_from_bag.ensures.spots;
+      each_bag = set_twice c.args.id (slot s) (slot_in c.shift_from_bag.new.bags.items) (slot_in c.dismiss.new.bags.items) _ (λ (z : Slot). let y : Slot = record z { chunks = d.chunks; handed = d.handed } in y) c.shift_from_bag.ensures.slots c.dismiss.ensures.slots;
+      spots_long = omega arith;
+      bags_long = omega arith;
+      timely = c.shift_from_bag.ensures.timely;
+      spot_timely = c.shift_from_bag.ensures.to_timely;
+      more_spare = omega arith;
+      more_slots = omega (arith, c.shift_from_bag.ensures.len, c.shift_from_bag.ensures.capacity, c.dismiss.ensures.len, c.dismiss.ensures.capacity);
+      at_spot = rw (← c.self.view_is) at c.requires.spot;
+      at_bag = rw (← c.self.view_is) at c.requires.home;
+      homes = c.unname.ensures;
+      here = rw (← c.self.view_is) at c.requires.here;
+      listed = rw (← c.self.view_is) at c.requires.listed;
+      loses = c.in-Ok.ensures.loses;
+      gains = c.in-Ok.ensures.gains;
+      order = c.dismiss.ensures.order;
+      has = λ q. c.dismiss.ensures.has q ∙ ap (λ (z : Slot). is_recorded z.chunks q && not (same_chunk c.args.c q)) mine;
+      twice = c.dismiss.ensures.handed;
+    })
+    c.self.invariant
+
+stayed : (c : goal.In-Err) → Spotted (the_view c.self.inside) (with_parts (the_view c.self.inside) c.shift_from_bag.new.spots.items c.shift_from_bag.new.bags.items c.self.inside.places (vec_capacity c.self.inside.arrivals - vec_len c.self.inside.arrivals) (vec_capacity c.shift_from_bag.new.bags - vec_len c.shift_from_bag.new.bags))
+unfolding bag_of
+stayed c =
+    let here : (slot (the_view c.self.inside) c.args.id).here ≡ true = rw (← c.self.view_is) at c.requires.here in
+    from_spot (the_view c.self.inside) c.shift_from_bag.new.spots.items c.shift_from_bag.new.bags.items c.self.inside.places _ _ c.args.i c.args.id c.args.c (slot_in c.shift_from_bag.new.bags.items c.args.id).body (spot_in c.shift_from_bag.new.spots.items c.args.i)
+    (record {
+      each_spot = c.shift_from_bag.ensures.spots;
+      each_bag = c.shift_from_bag.ensures.slots;
+      spots_long = omega arith;
+      bags_long = omega arith;
+      timely = c.shift_from_bag.ensures.timely;
+      spot_timely = c.shift_from_bag.ensures.to_timely;
+      tick = c.in-Err.ensures.err.tick;
+      owed = c.in-Err.ensures.err.owed;
+      more_spare = omega arith;
+      more_slots = omega (arith, c.shift_from_bag.ensures.len, c.shift_from_bag.ensures.capacity);
+      at_spot = rw (← c.self.view_is) at c.requires.spot;
+      at_bag = rw (← c.self.view_is) at c.requires.home;
+      not_taken = here_not_taken c.args.id (the_view c.self.inside) c.self.invariant here;
+    })
+    c.self.invariant [] (λ q z. (let f : false ≡ true = z in cc)) (λ q. refl) (loses_none _ _ c.in-Err.ensures.to_err) (gains_none _ _ _ c.in-Err.ensures.err)
+
+pub invariant_of-self : goal.invariant_of-self
+invariant_of-self c = (moved c).sound
+
+pub invariant_of-self-in-Err : goal.invariant_of-self-in-Err
+invariant_of-self-in-Err c = (stayed c).sound
+
+pub returns-in-Ok-clause-own : goal.returns-in-Ok-clause-own
+returns-in-Ok-clause-own c = rw (← c.self.view_is) (moved c).own
+
+pub returns-in-Ok-clause-others : goal.returns-in-Ok-clause-others
+returns-in-Ok-clause-others c = rw (← c.self.view_is) (moved c).others
+
+pub returns-in-Ok-clause-same : goal.returns-in-Ok-clause-same
+returns-in-Ok-clause-same c = rw (← c.self.view_is) (moved c).same
+
+pub returns-in-Err-clause-err : goal.returns-in-Err-clause-err
+returns-in-Err-clause-err c = rw (← c.self.view_is) (stayed c).bags
+
+pub returns-in-Err-clause-same : goal.returns-in-Err-clause-same
+returns-in-Err-clause-same c = rw (← c.self.view_is) (stayed c).same

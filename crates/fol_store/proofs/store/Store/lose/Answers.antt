@@ -1,0 +1,25 @@
+use Rattle.std.proofs.Common.{◌≡◌, ◌<◌, ◌&&◌, ◌||◌, true, length, sym, ◌∙◌}
+use Rattle.std.proofs.lemmas.Bool.{and_parts}
+use Rattle.fol_store.specs.contracts.store.Store.{the_view}
+use Rattle.fol_store.specs.Stock.{slot, bag_of}
+use Rattle.fol_store.proofs.BagSteps.{open_range}
+use Rattle.fol_store.proofs.store.Store.lose.Goals as goal
+
+pub is_ready-requires : goal.is_ready-requires
+unfolding bag_of
+is_ready-requires c =
+    let h : ((slot (the_view c.self.inside) c.args.id).here || (slot (the_view c.self.inside) c.args.id).taken) ≡ true = rw (← c.self.view_is) at c.requires.known in
+    let l : c.args.id < length c.self.inside.bags.items = open_range c.self.inside.bags.items c.args.id h in
+    rw c.as_slice.ensures.value l
+
+pub expel-requires-clause-here : goal.expel-requires-clause-here
+unfolding bag_of
+expel-requires-clause-here c = rw (← c.self.view_is) (and_parts (slot (the_view c.self.inside) c.args.id).here (slot (the_view c.self.inside) c.args.id).listed (rw c.as_slice.ensures.value at (sym c.is_ready.ensures ∙ c.if-is_ready.true))).0
+
+pub expel-requires-clause-listed : goal.expel-requires-clause-listed
+unfolding bag_of
+expel-requires-clause-listed c = rw (← c.self.view_is) (and_parts (slot (the_view c.self.inside) c.args.id).here (slot (the_view c.self.inside) c.args.id).listed (rw c.as_slice.ensures.value at (sym c.is_ready.ensures ∙ c.if-is_ready.true))).1
+
+pub expel-requires-clause-order : goal.expel-requires-clause-order
+unfolding bag_of
+expel-requires-clause-order c = c.requires.order (rw (← c.self.view_is) (and_parts (slot (the_view c.self.inside) c.args.id).here (slot (the_view c.self.inside) c.args.id).listed (rw c.as_slice.ensures.value at (sym c.is_ready.ensures ∙ c.if-is_ready.true))).1)

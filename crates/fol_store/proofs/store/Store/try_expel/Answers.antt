@@ -1,0 +1,34 @@
+use Rattle.std.proofs.Common.{◌≡◌, ℕ, true, sym, ◌∙◌, ap, subst}
+use Rattle.std.specs.List.Sorted.{IsStrictlySortedBy}
+use Rattle.fol_chunks.specs.Order.{chunk_cmp}
+use Rattle.fol_store.specs.Bag.{Bag}
+use Rattle.fol_store.specs.Relisted.{Narrowed}
+use Rattle.fol_store.specs.Steps.{SameMeaning}
+use Rattle.fol_store.specs.Stock.{bag_of}
+use Rattle.fol_store.proofs.Arriving.{bags_same}
+use Rattle.fol_store.proofs.PlaceSteps.{on_ok, on_err}
+use Rattle.fol_store.proofs.store.Store.try_expel.Goals as goal
+
+pub expel_to-requires-clause-here : goal.expel_to-requires-clause-here
+expel_to-requires-clause-here c = ap (λ (f : ℕ → Bag). (f c.args.id).here) (bags_same _ _ c.spot_of.ensures.bags) ∙ c.requires.here
+
+pub expel_to-requires-clause-listed : goal.expel_to-requires-clause-listed
+expel_to-requires-clause-listed c = ap (λ (f : ℕ → Bag). (f c.args.id).listed) (bags_same _ _ c.spot_of.ensures.bags) ∙ c.requires.listed
+
+pub expel_to-requires-clause-order : goal.expel_to-requires-clause-order
+expel_to-requires-clause-order c =
+    let P : (ℕ → Bag) → Type 0 = λ f. IsStrictlySortedBy chunk_cmp (f c.args.id).chunks in
+    subst P (sym (bags_same _ _ c.spot_of.ensures.bags)) c.requires.order
+
+pub returns-in-Ok-clause-own : goal.returns-in-Ok-clause-own
+returns-in-Ok-clause-own c =
+    on_ok c.expel_to.result _ _ c.expel_to.ensures.own (λ e. let P : (ℕ → Bag) → Type 0 = λ f. Narrowed c.args.c (f c.args.id) (bag_of c.expel_to.new.self c.args.id) in subst P (bags_same _ _ c.spot_of.ensures.bags) e)
+
+pub returns-in-Ok-clause-others : goal.returns-in-Ok-clause-others
+returns-in-Ok-clause-others c = on_ok c.expel_to.result _ _ c.expel_to.ensures.others (λ e u n. e u n ∙ ap (λ (f : ℕ → Bag). f u) (bags_same _ _ c.spot_of.ensures.bags))
+
+pub returns-in-Ok-clause-err : goal.returns-in-Ok-clause-err
+returns-in-Ok-clause-err c = on_err c.expel_to.result _ _ c.expel_to.ensures.err (λ e. e ∙ bags_same _ _ c.spot_of.ensures.bags)
+
+pub returns-in-Err-clause-err : goal.returns-in-Err-clause-err
+returns-in-Err-clause-err c = bags_same _ _ c.spot_of.ensures.bags

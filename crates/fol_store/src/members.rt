@@ -1,0 +1,59 @@
+//! A chunk comes to a list of chunks, which stand by z and then by x, or leaves it.
+
+ghost use Rattle.std.specs.Prelude.{◌≡◌, ◌≤◌, ◌<◌, length, slice_index_or, MatchResult, OnOk, OnErr};
+ghost use Rattle.std.specs.List.{insert, remove as without};
+ghost use Rattle.std.specs.List.Sorted.{IsStrictlySortedBy, IsPartitionPoint};
+ghost use Rattle.std.specs.declared.cmp.Ordering.TheVariants.{Less, Greater};
+ghost use Rattle.fol_chunks.specs.Order.{chunk_cmp};
+
+use fol_keyed::compare_chunks;
+use fol_model::{ChunkPos, Sequence};
+use std::alloc::{AllocError, Global};
+use std::mem;
+
+/// Where the chunk stands in the list, or where it would stand.
+pub fn place_of(chunks: &[ChunkPos], c: ChunkPos) -> Result<usize, usize>
+    requires { IsStrictlySortedBy chunk_cmp chunks.now }
+    ensures { MatchResult result (λ i. (i < length chunks.now) × ((d : ChunkPos) → slice_index_or chunks.now i d ≡ c)) (λ i. (i ≤ length chunks.now) × IsPartitionPoint (λ q. chunk_cmp q c ≡ Less) (λ q. chunk_cmp q c ≡ Greater) chunks.now i) }
+{
+    chunks.binary_search_by(|chunk| compare_chunks(*chunk, c))
+}
+
+/// Puts a chunk at a place of the list. If memory runs out, the list stays.
+pub fn insert(
+    alloc: Global,
+    chunks: &mut Sequence<ChunkPos>,
+    i: usize,
+    c: ChunkPos,
+) -> Result<(), AllocError>
+    requires { i ≤ length chunks.old }
+    ensures ok { OnOk result (chunks.new ≡ insert chunks.old i c) }
+    ensures err { OnErr result (chunks.new ≡ chunks.old) }
+{
+    let mut list = mem::replace(chunks, Sequence::new(alloc)).into_vec();
+    let result = insert_in(&mut list, i, c);
+    *chunks = Sequence::of(list);
+    result
+}
+
+/// Puts a chunk at a place of the list. If memory runs out, the list stays.
+fn insert_in(chunks: &mut Vec<ChunkPos>, i: usize, c: ChunkPos) -> Result<(), AllocError>
+    requires { i ≤ length chunks.old.items }
+    ensures ok { OnOk result (chunks.new.items ≡ insert chunks.old.items i c) }
+    ensures err { OnErr result (chunks.new.items ≡ chunks.old.items) }
+{
+    match chunks.insert(i, c) {
+        Ok(()) => Ok(()),
+        Err(_) => Err(AllocError),
+    }
+}
+
+/// Takes the chunk at a place out of the list.
+pub fn remove(alloc: Global, chunks: &mut Sequence<ChunkPos>, i: usize)
+    requires { i < length chunks.old }
+    ensures { chunks.new ≡ without chunks.old i }
+{
+    let mut list = mem::replace(chunks, Sequence::new(alloc)).into_vec();
+    list.remove(i);
+    *chunks = Sequence::of(list);
+}

@@ -1,0 +1,148 @@
+//! The region of a listed bag has a chunk more or a chunk less.
+
+ghost use Rattle.std.specs.Prelude.{◌≡◌, ◌≢◌, ◌≤◌, ◌||◌, true, ℕ, None, Some, OnOk, OnErr};
+ghost use Rattle.std.specs.List.Sorted.{IsStrictlySortedBy};
+ghost use Rattle.fol_model.specs.ActionStep.{at_id};
+ghost use Rattle.fol_chunks.specs.Order.{chunk_cmp};
+ghost use Rattle.fol_store.specs.Places.{place_at};
+ghost use Rattle.fol_store.specs.Relisted.{IsInOrder, Narrowed, Widened};
+
+use crate::places::{Place, has_bag};
+use crate::store::Store;
+use crate::{slots, spots};
+use fol_model::ChunkPos;
+use std::alloc::AllocError;
+
+impl Store {
+    ghost use Rattle.fol_store.specs.Stock.{Stock, flat_of, jobs_of, bag_of, next_of, place};
+    ghost use Rattle.fol_store.specs.Steps.{SameMeaning};
+
+    /// The region of a bag has a chunk more. A listed bag that is here gets the chunk and is calm no more, so that what lies in the
+    /// chunk's spot goes into it when it is settled. Where another bag has the chunk, or memory runs out, it has to be gathered anew,
+    /// as has a bag that is not listed or with a worker.
+    pub fn gain(&mut self, id: u64, c: ChunkPos)
+        requires known { ((bag_of self.old id).here || (bag_of self.old id).taken) ≡ true }
+        requires order { IsInOrder (bag_of self.old id) }
+        ensures own { Widened c (bag_of self.old id) (bag_of self.new id) }
+        ensures others { (u : ℕ) → u ≢ id → bag_of self.new u ≡ bag_of self.old u }
+        ensures next { next_of self.new ≡ next_of self.old }
+        ensures contents { flat_of self.new ≡ flat_of self.old }
+        ensures tasks { jobs_of self.new ≡ jobs_of self.old }
+        ensures spare { self.new.spare ≡ self.old.spare }
+        ensures slots { self.new.slots ≡ self.old.slots }
+    {
+        let place = self.places.at(c);
+        if place.bag.is_none() && slots::is_ready(self.bags.as_slice(), id as usize) {
+            self.admit(id as usize, c, place);
+        } else {
+            self.unsettle(id);
+        }
+    }
+
+    /// A listed bag gets a chunk that no bag has. If memory runs out, it has to be gathered anew.
+    fn admit(&mut self, id: usize, c: ChunkPos, place: Place)
+        requires here { (bag_of self.old id).here ≡ true }
+        requires listed { (bag_of self.old id).listed ≡ true }
+        requires order { IsStrictlySortedBy chunk_cmp (bag_of self.old id).chunks }
+        requires there { place ≡ place_at self.old.places c }
+        requires none { place.bag ≡ None }
+        ensures own { Widened c (bag_of self.old id) (bag_of self.new id) }
+        ensures others { (u : ℕ) → u ≢ id → bag_of self.new u ≡ bag_of self.old u }
+        ensures same { SameMeaning self.old self.new }
+        ensures spare { self.new.spare ≡ self.old.spare }
+        ensures slots { self.new.slots ≡ self.old.slots }
+    {
+        let claimed = Place {
+            spot: place.spot,
+            bag: Some(id),
+        };
+        match slots::admit(self.alloc, &mut self.bags, id, c) {
+            Ok(()) => match self.places.set(c, claimed) {
+                Ok(()) => {}
+                Err(_) => slots::unlist(&mut self.bags, id),
+            },
+            Err(_) => {}
+        }
+    }
+
+    /// The region of a bag has a chunk less. A listed bag that is here loses the chunk, and what lies on it goes into the chunk's
+    /// spot. Where memory runs out, it has to be gathered anew, as has a bag that is not listed or with a worker.
+    pub fn lose(&mut self, id: u64, c: ChunkPos)
+        requires known { ((bag_of self.old id).here || (bag_of self.old id).taken) ≡ true }
+        requires order { IsInOrder (bag_of self.old id) }
+        ensures own { Narrowed c (bag_of self.old id) (bag_of self.new id) }
+        ensures others { (u : ℕ) → u ≢ id → bag_of self.new u ≡ bag_of self.old u }
+        ensures next { next_of self.new ≡ next_of self.old }
+        ensures contents { flat_of self.new ≡ flat_of self.old }
+        ensures tasks { jobs_of self.new ≡ jobs_of self.old }
+        ensures spare { self.old.spare ≤ self.new.spare }
+        ensures slots { self.old.slots ≤ self.new.slots }
+    {
+        if slots::is_ready(self.bags.as_slice(), id as usize)
+            && has_bag(self.places.at(c), id as usize)
+        {
+            self.expel(id as usize, c);
+        } else {
+            self.unsettle(id);
+        }
+    }
+
+    /// A listed bag that has the chunk loses it. If memory runs out, it has to be gathered anew.
+    fn expel(&mut self, id: usize, c: ChunkPos)
+        requires here { (bag_of self.old id).here ≡ true }
+        requires listed { (bag_of self.old id).listed ≡ true }
+        requires order { IsStrictlySortedBy chunk_cmp (bag_of self.old id).chunks }
+        requires home { (place self.old c).bag ≡ Some id }
+        ensures own { Narrowed c (bag_of self.old id) (bag_of self.new id) }
+        ensures others { (u : ℕ) → u ≢ id → bag_of self.new u ≡ bag_of self.old u }
+        ensures next { next_of self.new ≡ next_of self.old }
+        ensures contents { flat_of self.new ≡ flat_of self.old }
+        ensures tasks { jobs_of self.new ≡ jobs_of self.old }
+        ensures spare { self.old.spare ≤ self.new.spare }
+        ensures slots { self.old.slots ≤ self.new.slots }
+    {
+        match self.try_expel(id, c) {
+            Ok(()) => {}
+            Err(_) => self.unsettle(id as u64),
+        }
+    }
+
+    /// A listed bag that has the chunk loses it, unless memory runs out.
+    fn try_expel(&mut self, id: usize, c: ChunkPos) -> Result<(), AllocError>
+        requires here { (bag_of self.old id).here ≡ true }
+        requires listed { (bag_of self.old id).listed ≡ true }
+        requires order { IsStrictlySortedBy chunk_cmp (bag_of self.old id).chunks }
+        requires home { (place self.old c).bag ≡ Some id }
+        ensures own { OnOk result (Narrowed c (bag_of self.old id) (bag_of self.new id)) }
+        ensures others { OnOk result ((u : ℕ) → u ≢ id → bag_of self.new u ≡ bag_of self.old u) }
+        ensures err { OnErr result (bag_of self.new ≡ bag_of self.old) }
+        ensures same { SameMeaning self.old self.new }
+    {
+        match self.spot_of(c) {
+            Ok(i) => self.expel_to(i, id, c),
+            Err(_) => Err(AllocError),
+        }
+    }
+
+    /// A listed bag that has the chunk loses it, and what lies on it goes into the chunk's spot, unless memory runs out.
+    fn expel_to(&mut self, i: usize, id: usize, c: ChunkPos) -> Result<(), AllocError>
+        requires here { (bag_of self.old id).here ≡ true }
+        requires listed { (bag_of self.old id).listed ≡ true }
+        requires order { IsStrictlySortedBy chunk_cmp (bag_of self.old id).chunks }
+        requires spot { (place self.old c).spot ≡ Some i }
+        requires home { (place self.old c).bag ≡ Some id }
+        ensures own { OnOk result (Narrowed c (bag_of self.old id) (bag_of self.new id)) }
+        ensures others { OnOk result ((u : ℕ) → u ≢ id → bag_of self.new u ≡ bag_of self.old u) }
+        ensures err { OnErr result (bag_of self.new ≡ bag_of self.old) }
+        ensures same { SameMeaning self.old self.new }
+    {
+        match spots::shift_from_bag(&mut self.bags, id, &[c], &mut self.spots, i) {
+            Ok(()) => {
+                self.places.unname(c);
+                slots::dismiss(self.alloc, &mut self.bags, id, c);
+                Ok(())
+            }
+            Err(_) => Err(AllocError),
+        }
+    }
+}
