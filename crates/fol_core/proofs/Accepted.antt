@@ -124,7 +124,7 @@ module _ (t : Tables) (v : Contents) (w : World) (since : ℕ → ℕ) (r n : �
   now = holds.regions ∙ ap (λ (g : GridState). add g x.chunk) u.midway.regions
 
   bags_now : (q : ℕ) → IsBagOf (add w.grid x.chunk) w.tick (owed_after_add w.grid x.chunk w.owed) w.recorded q (bag_of t'.store q)
-  bags_now = held_bags t v w since r n u x.chunk ok.chunk (bag_of t'.store) holds.bags
+  bags_now = held_bags t v w since r n u x.chunk ok.chunk (bag_of t'.store) (rw holds.regions at holds.bags)
 
   next_now : next_of t'.store ≡ (add w.grid x.chunk).next
   next_now = held_next t v w since r n u x.chunk ok.chunk (next_of t'.store) holds.next

@@ -28,13 +28,14 @@ use Rattle.fol_store.specs.Stock.{bag_of, jobs_of, next_of}
 use Rattle.fol_core.specs.declared.tables.Tables.{Tables}
 use Rattle.fol_core.specs.Agenda.{Covers}
 use Rattle.fol_core.specs.Bags.{IsBagOf}
-use Rattle.fol_core.specs.Follows.{CanCover, CanFollow, CanHold, changed_bags, followed, gaining}
+use Rattle.fol_core.specs.Follows.{CanCover, CanFollow, CanHold, Settle, changed_bags, followed, gaining}
 use Rattle.fol_core.specs.Hands.{at_rest, in_hands, ticker, went}
 use Rattle.fol_core.specs.Underway.{Underway}
 use Rattle.fol_core.proofs.Added.{AddedBags, added_bags, gained_bags, off_owed}
 use Rattle.fol_core.proofs.GridRuns.{grid_after}
 use Rattle.fol_core.proofs.HandSteps.{hands_same, rest_same}
 use Rattle.fol_core.proofs.Held.{count_most}
+use Rattle.fol_core.proofs.SettledBags.{can_gain, settled_bags}
 use Rattle.fol_core.proofs.UnsettledBags.{have_bags, known_bag}
 
 -- ---- a bag that may have to be gathered anew
@@ -95,15 +96,16 @@ module _ (t : Tables) (v : Contents) (w : World) (since : ℕ → ℕ) (r n : �
     few_ids = rw u.midway.regions (omega (arith, u.ends.few_ids));
     few_tickets = omega (arith, u.midway.tickets c, u.ends.few_tickets c);
     bags = rw (u.midway.regions, u.midway.grid) follows;
+    near = rw (u.midway.regions, u.midway.grid) (λ fresh. can_gain g c (bag_of t.store) limits (λ q w d. (u.midway.stored.bags q).listed d w) (u.ends.ending.sound.rules.owner_lives (section_of g.grid c)));
     covers = rw (u.midway.regions, u.midway.grid) can_cover;
     room = omega (arith, u.room.agenda);
     tickets = u.room.tickets;
   }
 
   -- ---- after it
-  pub held_bags : (f : ℕ → Bag) → f ≡ followed (gaining t.grid (grid_state t.regions) c) (add_change (grid_state t.regions) c) (bag_of t.store)
+  pub held_bags : (f : ℕ → Bag) → Settle (add (grid_state t.regions) c) (followed (gaining t.grid (grid_state t.regions) c) (add_change (grid_state t.regions) c) (bag_of t.store)) f
       → (q : ℕ) → IsBagOf (add g c) w.tick (owed_after_add g c w.owed) w.recorded q (f q)
-  held_bags f b q = let b' = rw (u.midway.regions, u.midway.grid) at b in rw b' (off_bags q)
+  held_bags f b q = let b' = rw (u.midway.regions, u.midway.grid) at b in settled_bags (add g c) w.tick (owed_after_add g c w.owed) w.recorded (followed (gaining g.grid g c) (add_change g c) (bag_of t.store)) f off_bags b' q
 
   pub held_next : (k : ℕ) → k ≡ next_of t.store + length (add_change (grid_state t.regions) c).created → k ≡ (add g c).next
   held_next k q = let q' : k ≡ next_of t.store + length (add_change g c).created = rw u.midway.regions at q in omega (arith, u.midway.stored.next, all_bags.next, q')

@@ -26,10 +26,10 @@ unfolding order.chunk_cmp
 kept_sorted p = IsStrictlySortedBy-filter chunk_cmp p all_chunks chunks_sorted
 
 -- it has just the chunks within the limits that pass
-listed : (p : ChunkPos → Bool) (xs : List ChunkPos) (c : ChunkPos) → is_recorded (filter p xs) c ≡ (p c && is_recorded xs c)
+pub listed : (p : ChunkPos → Bool) (xs : List ChunkPos) (c : ChunkPos) → is_recorded (filter p xs) c ≡ (p c && is_recorded xs c)
 listed p xs c = any-filter_same (same_chunk c) p (p c) (λ k e. ap p (sym (same_chunk-true c k e))) xs
 
-in_all : (c : ChunkPos) → is_chunk c ≡ true → is_recorded all_chunks c ≡ true
+pub in_all : (c : ChunkPos) → is_chunk c ≡ true → is_recorded all_chunks c ≡ true
 in_all c l = some_chunk-is (same_chunk c) c l (same_chunk-self c)
 
 pub kept_listed : (p : ChunkPos → Bool) → ((c : ChunkPos) → p c ≡ true → is_chunk c ≡ true) → is_recorded (filter p all_chunks) ≡ p

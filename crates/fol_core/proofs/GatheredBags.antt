@@ -35,7 +35,7 @@ is_ready-true Transient h = absurd (true≢false (sym h))
 is_ready-true Ticking h = absurd (true≢false (sym h))
 is_ready-true Dead h = absurd (true≢false (sym h))
 
-gathered_bag : (g : GridState) (tick owed : ℕ → ℕ) (recorded : ℕ → Recorded) (r : ℕ) (b c : Bag) → IsBagOf g tick owed recorded r b → Gathered g r b c → IsBagOf g tick owed recorded r c
+pub gathered_bag : (g : GridState) (tick owed : ℕ → ℕ) (recorded : ℕ → Recorded) (r : ℕ) (b c : Bag) → IsBagOf g tick owed recorded r b → Gathered g r b c → IsBagOf g tick owed recorded r c
 gathered_bag g tick owed recorded r b c is e = record {
   here = e.here ∙ is.here;
   taken = e.taken ∙ is.taken;
@@ -45,7 +45,7 @@ gathered_bag g tick owed recorded r b c is e = record {
   out = λ x. e.out (is.taken ∙ rw x refl) ∙ is.out x;
 }
 
-gathered_agenda : (xs : List ℕ) (g : GridState) (f h : ℕ → Bag) → ((r : ℕ) → (h r).owed ≡ (f r).owed) → IsAgenda xs g f → IsAgenda xs g h
+pub gathered_agenda : (xs : List ℕ) (g : GridState) (f h : ℕ → Bag) → ((r : ℕ) → (h r).owed ≡ (f r).owed) → IsAgenda xs g f → IsAgenda xs g h
 gathered_agenda xs g f h e a = record {
   covers = λ r o. let x = e r in a.covers r (rw x at o);
   top = λ ys r s. let x = e r in rw x (a.top ys r s);

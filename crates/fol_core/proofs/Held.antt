@@ -35,12 +35,13 @@ use Rattle.fol_store.specs.Stock.{Stock, bag_of, flat_of, next_of}
 use Rattle.fol_core.specs.declared.tables.Tables.{Tables}
 use Rattle.fol_core.specs.Hands.{at_rest, in_hands, since}
 use Rattle.fol_core.specs.Bags.{IsBagOf}
-use Rattle.fol_core.specs.Follows.{CanCover, CanFollow, CanHold, changed_bags, followed, gaining}
+use Rattle.fol_core.specs.Follows.{CanCover, CanFollow, CanHold, Settle, changed_bags, followed, gaining}
 use Rattle.fol_core.specs.Room.{HasGrown}
 use Rattle.fol_core.specs.Stands.{Stands}
 use Rattle.fol_core.proofs.Added.{AddedBags, added_bags, gained_bags, off_owed}
 use Rattle.fol_core.proofs.HandSteps.{hands_by, rest_by}
 use Rattle.fol_core.proofs.Longer.{good_of}
+use Rattle.fol_core.proofs.SettledBags.{can_gain, settled_bags}
 use Rattle.fol_core.proofs.TicketRuns.{tickets_most}
 use Rattle.fol_core.proofs.UnsettledBags.{have_bags, known_bag}
 
@@ -145,6 +146,7 @@ module _ (o : Opening) (h : List Entry) (t : Tables) (s : Stands o h t) where
       few_ids = rw s.fits.regions (few_next (omega (arith, room.size)));
       few_tickets = omega (arith, s.fits.tickets c, few_tickets c, room.size);
       bags = rw (s.fits.regions, s.fits.grid) (can_follow room.bags);
+      near = rw (s.fits.regions, s.fits.grid) (λ fresh. can_gain g c (bag_of t.store) limits (λ r w d. (s.fits.stored.bags r).listed d w) (good.sound.rules.owner_lives (section_of g.grid c)));
       covers = rw (s.fits.regions, s.fits.grid) can_cover;
       room = omega (arith, room.agenda);
       tickets = room.tickets;
@@ -158,8 +160,8 @@ module _ (o : Opening) (h : List Entry) (t : Tables) (s : Stands o h t) where
       pub held_rest : (n : ℕ) (x : Option Job) → at_rest (after w e).grid (since o h) n x ≡ at_rest w.grid (since o h) n x
       held_rest = rest_by w e good.sound ok no_begin no_end (since o h)
 
-      pub held_bags : (f : ℕ → Bag) → f ≡ followed (gaining t.grid (grid_state t.regions) c) (add_change (grid_state t.regions) c) (bag_of t.store) → (r : ℕ) → IsBagOf (after w e).grid (after w e).tick (after w e).owed (after w e).recorded r (f r)
-      held_bags f b r = let b' = rw (s.fits.regions, s.fits.grid) at b in rw (m.grid, m.tick, m.owed, m.recorded, b') (off_bags r)
+      pub held_bags : (f : ℕ → Bag) → Settle (add (grid_state t.regions) c) (followed (gaining t.grid (grid_state t.regions) c) (add_change (grid_state t.regions) c) (bag_of t.store)) f → (r : ℕ) → IsBagOf (after w e).grid (after w e).tick (after w e).owed (after w e).recorded r (f r)
+      held_bags f b r = let b' = rw (s.fits.regions, s.fits.grid) at b in rw (m.grid, m.tick, m.owed, m.recorded) (settled_bags (add g c) w.tick (owed_after_add g c w.owed) w.recorded (followed (gaining g.grid g c) (add_change g c) (bag_of t.store)) f off_bags b' r)
 
       pub held_next : (n : ℕ) → n ≡ next_of t.store + length (add_change (grid_state t.regions) c).created → n ≡ (after w e).grid.next
       held_next n q = let q' : n ≡ next_of t.store + length (add_change g c).created = rw s.fits.regions at q in

@@ -39,6 +39,7 @@ pub mod PostKept
 pub mod TakenJobs
 pub mod ChunkLists
 pub mod GatheredBags
+pub mod SettledBags
 pub mod FinishedRuns
 pub mod ReleaseKept
 pub mod BegunHands

@@ -101,7 +101,7 @@ module _ (o : Opening) (h : List Entry) (t : Tables) (s : Stands o h t) (c : Chu
           flat = held_flat o h t s c limits e ok (λ r. refl) (λ r. refl) m u.store held.things.flat;
           jobs = jobs_held e ok (λ r. refl) (λ r. refl) m u held ∙ fun_ext (λ n. ap (λ (js : ℕ → Option Job). at_rest (loaded w c).grid (since o h) n (js n)) (sym (loaded_jobs w c)));
           next = held_next o h t s c limits e ok (λ r. refl) (λ r. refl) m (next_of u.store) held.next;
-          bags = held_bags o h t s c limits e ok (λ r. refl) (λ r. refl) m (bag_of u.store) held.bags;
+          bags = held_bags o h t s c limits e ok (λ r. refl) (λ r. refl) m (bag_of u.store) (rw held.regions at held.bags);
         };
         tickets = λ q. tickets q ∙ same_after (is_full (grid_state t.regions) c) (count_at t.tickets.entries) w.tickets s.fits.tickets c q
             ∙ ap (λ g. tickets_after (is_full g c) w.tickets c q) s.fits.regions ∙ sym (loaded_tickets w c q);

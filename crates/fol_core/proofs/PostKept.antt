@@ -23,14 +23,13 @@ use Rattle.fol_laws.proofs.FunctionsChanged.{at_here, at_other}
 use Rattle.fol_sections.specs.Places.{count_at}
 use Rattle.fol_regions.specs.Table.{grid_state}
 use Rattle.fol_regions.specs.Changes.{add_change}
-use Rattle.fol_store.specs.Bag.{Bag, disturbed}
 use Rattle.fol_store.specs.Stock.{bag_of, jobs_of, next_of}
 use Rattle.fol_core.specs.declared.tables.Course.{Course}
 use Rattle.fol_core.specs.declared.tables.Tables.{Tables}
 use Rattle.fol_core.specs.Hands.{at_rest, since, ticker, went}
 use Rattle.fol_core.specs.Bags.{IsBagOf}
 use Rattle.fol_core.specs.Agenda.{IsAgenda}
-use Rattle.fol_core.specs.Follows.{Holds, Posts, PostsUnless, accept_in, followed, gaining}
+use Rattle.fol_core.specs.Follows.{Holds, Posts, PostsUnless, accept_in}
 use Rattle.fol_core.specs.Stands.{IsCourse, Stands}
 use Rattle.fol_core.proofs.GridRuns.{grid_after}
 use Rattle.fol_core.proofs.Held.{held_bags, held_flat, held_next, held_posted, held_rest}
@@ -68,16 +67,6 @@ unfolding went
 new_rests g f n c d a most = let late : nat_lt n (f (ticker g c)) ≡ false = le-ltb n (f (ticker g c)) (most (ticker g c)) in
     rw (late, and_right (nat_lt 0 (ticker g c)) false refl) refl
 
-disturbed_bag : (g : GridState) (tick owed : ℕ → ℕ) (recorded : ℕ → Recorded) (c : ChunkPos) (r : ℕ) (b : Bag) → IsBagOf g tick owed recorded r b → IsBagOf g tick owed recorded r (disturbed c b)
-disturbed_bag g tick owed recorded c r b is = record {
-  here = is.here;
-  taken = is.taken;
-  counter = is.counter;
-  owes = is.owes;
-  listed = λ d w. is.listed d w;
-  out = is.out;
-}
-
 module _ (o : Opening) (h : List Entry) (t : Tables) (s : Stands o h t) (c : ChunkPos) (d : ℕ) (a : Action) where
   -- the next number has no task
   pub fresh_number : IsNone (jobs_of t.store t.course.next_job)
@@ -107,7 +96,7 @@ module _ (o : Opening) (h : List Entry) (t : Tables) (s : Stands o h t) (c : Chu
             flat = held_flat o h t s c limits e allowed (λ r. refl) (λ r. refl) m u.store held.things.flat;
             jobs = jobs_held o h t s c limits e allowed (λ r. refl) (λ r. refl) m u held ∙ fun_ext (λ n. ap (λ (js : ℕ → Option Job). at_rest (posted (world o h) c d a).grid (since o h) n (js n)) (sym (full_jobs (world o h) c d a full)));
             next = held_next o h t s c limits e allowed (λ r. refl) (λ r. refl) m (next_of u.store) held.next;
-            bags = held_bags o h t s c limits e allowed (λ r. refl) (λ r. refl) m (bag_of u.store) held.bags;
+            bags = held_bags o h t s c limits e allowed (λ r. refl) (λ r. refl) m (bag_of u.store) (rw held.regions at held.bags);
           };
           tickets = λ q. ap (λ x. count_at x q) tickets ∙ s.fits.tickets q ∙ sym (ap (λ (x : ChunkPos → ℕ). x q) (tickets_posted (world o h) c d a));
           agenda = agenda_held o h t s c limits e allowed (λ r. refl) (λ r. refl) m u held;
@@ -121,10 +110,8 @@ module _ (o : Opening) (h : List Entry) (t : Tables) (s : Stands o h t) (c : Chu
         let one : k.size ≡ t.course.size + 1 = ap (λ (x : Course). x.size) grows ∙ ap (λ (x : Course). x.size + 1) posts.course in
         let v : World = posted (world o h) c d a in
         let most : (r : ℕ) → since o h r ≤ (world o h).next_job = since_most o h in
-        let bags : (r : ℕ) → IsBagOf (posted (world o h) c d a).grid (posted (world o h) c d a).tick (posted (world o h) c d a).owed (posted (world o h) c d a).recorded r (bag_of u.store r) = λ r.
-        let P : (ℕ → Bag) → Type 0 = λ b. IsBagOf (posted (world o h) c d a).grid (posted (world o h) c d a).tick (posted (world o h) c d a).owed (posted (world o h) c d a).recorded r (b r) in
-        subst P (sym posts.bags) (disturbed_bag (posted (world o h) c d a).grid (posted (world o h) c d a).tick (posted (world o h) c d a).owed (posted (world o h) c d a).recorded c r _
-        (held_bags o h t s c limits e allowed (λ r. refl) (λ r. refl) m (followed (gaining t.grid (grid_state t.regions) c) (add_change (grid_state t.regions) c) (bag_of t.store)) refl r)) in
+        let bags : (r : ℕ) → IsBagOf (posted (world o h) c d a).grid (posted (world o h) c d a).tick (posted (world o h) c d a).owed (posted (world o h) c d a).recorded r (bag_of u.store r) =
+        held_bags o h t s c limits e allowed (λ r. refl) (λ r. refl) m (bag_of u.store) (rw posts.regions at posts.bags) in
         stands_more o h (record { by = by; event = Post caller c d a answer }) t (record u { course = k }) s (sym s.fits.course.finished ∙ free) allowed
         (record {
           grid = posts.grid ∙ s.fits.grid ∙ sym (grid_after (world o h) e);

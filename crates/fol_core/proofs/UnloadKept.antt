@@ -31,7 +31,7 @@ use Rattle.fol_core.specs.declared.tables.Tables.{Tables}
 use Rattle.fol_core.specs.Hands.{at_rest, in_hands, since, ticker, went}
 use Rattle.fol_core.specs.Bags.{IsBagOf, unsettled_at}
 use Rattle.fol_core.specs.Agenda.{IsAgenda}
-use Rattle.fol_core.specs.Follows.{Drops, IsKnown, losing}
+use Rattle.fol_core.specs.Follows.{CanLose, Settle, Drops, IsKnown, losing}
 use Rattle.fol_core.specs.Answers.{unload_result}
 use Rattle.fol_core.specs.Stands.{Fits, IsCourse, Stands}
 use Rattle.fol_core.proofs.Added.{off_owed}
@@ -40,6 +40,8 @@ use Rattle.fol_core.proofs.LoadKept.{SameMarks, course_more}
 use Rattle.fol_core.proofs.Longer.{good_of, stands_more}
 use Rattle.fol_core.proofs.Loosened.{stays_loaded}
 use Rattle.fol_core.proofs.UnsettledBags.{IsBagBut, bag_but, known_bag, unsettled_bag}
+use Rattle.fol_core.proofs.GatheredBags.{gathered_agenda, gathered_bag}
+use Rattle.fol_core.proofs.SettledBags.{narrows}
 
 -- only the chunk's own region may have a chunk less
 dropped_chunks : (g : GridState) (c : ChunkPos) (r : ℕ) → g.owner (section_of g.grid c) ≢ r → (q : ChunkPos) → is_chunk_of (drop_hold g c) r q ≡ is_chunk_of g r q
@@ -114,26 +116,29 @@ unload_marks w c = elim (cases_Bool (nat_eq (w.tickets c) 0)) [
 module _ (w : World) (f : ℕ → ℕ) (t u : Tables) (c : ChunkPos) (d : Course) (fits : Fits t w f) (given : (r : ℕ) → w.grid.state r ≢ Dead → 0 < r) (more : IsCourse d (unloaded w c)) where
   none_fits : nat_eq (w.tickets c) 0 ≡ true → Drops t u c true → Fits (record u { course = d }) (unloaded w c) f
   unfolding unloaded
-  none_fits e drops = let course = more in rw e (record {
-    grid = drops.grid ∙ fits.grid;
-    regions = drops.regions ∙ fits.regions;
-    stored = record {
-      flat = drops.things.flat ∙ fits.stored.flat;
-      jobs = drops.things.jobs ∙ fits.stored.jobs;
-      next = drops.next ∙ fits.stored.next;
-      bags = λ r. let P : (ℕ → Bag) → Type 0 = λ b. IsBagOf w.grid w.tick w.owed w.recorded r (b r) in subst P (sym drops.bags) (fits.stored.bags r);
-    };
-    tickets = λ q. drops.tickets q ∙ elim (cases_Bool (same_chunk c q)) [
-      | inl s ↦ let same : c ≡ q = same_chunk-true c q s in
-          let zero : w.tickets c ≡ 0 = eqb-true (w.tickets c) 0 e in
-          let left : count_at t.tickets.entries c - 1 ≡ w.tickets c = omega (arith, fits.tickets c) in
-          rw s (left ∙ ap w.tickets same)
-      | inr s ↦ rw s (fits.tickets q)
-    ];
-    agenda = let P : (ℕ → Bag) → Type 0 = λ b. IsAgenda u.agenda.items w.grid b in subst P (sym drops.bags)
-        (let Q : List ℕ → Type 0 = λ xs. IsAgenda xs w.grid (bag_of t.store) in subst Q (sym drops.agenda) fits.agenda);
-    course = rw e at course;
-  })
+  none_fits e drops =
+      let course = more in
+      let settled : Settle w.grid (bag_of t.store) (bag_of u.store) = rw (drops.regions, fits.regions) at drops.bags in
+      rw e (record {
+        grid = drops.grid ∙ fits.grid;
+        regions = drops.regions ∙ fits.regions;
+        stored = record {
+          flat = drops.things.flat ∙ fits.stored.flat;
+          jobs = drops.things.jobs ∙ fits.stored.jobs;
+          next = drops.next ∙ fits.stored.next;
+          bags = λ r. gathered_bag w.grid w.tick w.owed w.recorded r (bag_of t.store r) (bag_of u.store r) (fits.stored.bags r) (settled r);
+        };
+        tickets = λ q. drops.tickets q ∙ elim (cases_Bool (same_chunk c q)) [
+          | inl s ↦ let same : c ≡ q = same_chunk-true c q s in
+              let zero : w.tickets c ≡ 0 = eqb-true (w.tickets c) 0 e in
+              let left : count_at t.tickets.entries c - 1 ≡ w.tickets c = omega (arith, fits.tickets c) in
+              rw s (left ∙ ap w.tickets same)
+          | inr s ↦ rw s (fits.tickets q)
+        ];
+        agenda = gathered_agenda u.agenda.items w.grid (bag_of t.store) (bag_of u.store) (λ r. (settled r).owes)
+            (let Q : List ℕ → Type 0 = λ xs. IsAgenda xs w.grid (bag_of t.store) in subst Q (sym drops.agenda) fits.agenda);
+        course = rw e at course;
+      })
 
   some_fits : nat_eq (w.tickets c) 0 ≡ false → Drops t u c false → Fits (record u { course = d }) (unloaded w c) f
   unfolding unloaded
@@ -141,7 +146,8 @@ module _ (w : World) (f : ℕ → ℕ) (t u : Tables) (c : ChunkPos) (d : Course
       let course = more in
       let hands = drop_hands w.grid c w.recorded in
       let rest = drop_rest w.grid c f in
-      let b' : bag_of u.store ≡ unsettled_at (losing (section_of w.grid.grid c) w.grid c) (bag_of t.store) = rw (fits.regions, fits.grid) at drops.bags in
+      let off : ℕ → Bag = unsettled_at (losing (section_of w.grid.grid c) w.grid c) (bag_of t.store) in
+      let settled : Settle (drop_hold w.grid c) off (bag_of u.store) = rw (drops.regions, fits.regions, fits.grid) at drops.bags in
       let all = unsettled_bag (drop_hold w.grid c) w.tick w.owed w.recorded (losing (section_of w.grid.grid c) w.grid c) (bag_of t.store) (drop_live w.grid c given)
       (λ r. drop_bag w.grid c w.tick w.owed w.recorded r (bag_of t.store r) (fits.stored.bags r)) in
       let next : w.grid.next ≡ (drop_hold w.grid c).next = drop_next w.grid c in
@@ -155,13 +161,13 @@ module _ (w : World) (f : ℕ → ℕ) (t u : Tables) (c : ChunkPos) (d : Course
           flat = drops.things.flat ∙ fits.stored.flat ∙ ap (λ (x : Recorded). outside x w.flat) (sym hands);
           jobs = drops.things.jobs ∙ fits.stored.jobs ∙ sym (fun_ext (λ n. rest n (w.jobs n)));
           next = drops.next ∙ fits.stored.next ∙ next;
-          bags = λ r. let P : (ℕ → Bag) → Type 0 = λ b. IsBagOf (drop_hold w.grid c) w.tick w.owed w.recorded r (b r) in subst P (sym b') (all r);
+          bags = λ r. gathered_bag (drop_hold w.grid c) w.tick w.owed w.recorded r (off r) (bag_of u.store r) (all r) (settled r);
         };
         tickets = λ q. drops.tickets q ∙ elim (cases_Bool (same_chunk c q)) [
           | inl s ↦ rw s (ap (λ n. n - 1) (fits.tickets c))
           | inr s ↦ rw s (fits.tickets q)
         ];
-        agenda = let P : (ℕ → Bag) → Type 0 = λ b. IsAgenda u.agenda.items (drop_hold w.grid c) b in subst P (sym b')
+        agenda = gathered_agenda u.agenda.items (drop_hold w.grid c) off (bag_of u.store) (λ r. (settled r).owes)
             (let Q : List ℕ → Type 0 = λ xs. IsAgenda xs (drop_hold w.grid c) (unsettled_at (losing (section_of w.grid.grid c) w.grid c) (bag_of t.store)) in subst Q (sym drops.agenda) stack);
         course = rw e at course;
       })
@@ -173,6 +179,12 @@ module _ (o : Opening) (h : List Entry) (t : Tables) (s : Stands o h t) (c : Chu
       known_bag (world o h).grid (world o h).tick (world o h).owed (world o h).recorded 0 ((world o h).grid.owner (section_of (world o h).grid.grid c)) (bag_of t.store)
       (bag_but (world o h).grid (world o h).tick (world o h).owed (world o h).recorded 0 ((world o h).grid.owner (section_of (world o h).grid.grid c)) _ (s.fits.stored.bags ((world o h).grid.owner (section_of (world o h).grid.grid c))))
       (rules.owner_lives (section_of (world o h).grid.grid c) p))
+
+  -- and where that bag is listed, it is for the region's chunks
+  pub owner_loses : CanLose (grid_state t.regions) c ((grid_state t.regions).owner (section_of t.grid c)) (bag_of t.store)
+  owner_loses = rw (s.fits.regions, s.fits.grid) (λ p one.
+      let r : ℕ = (world o h).grid.owner (section_of (world o h).grid.grid c) in
+      narrows (world o h).grid c r (bag_of t.store r) one ((s.fits.stored.bags r).listed ((good_of o h t s).sound.rules.owner_lives (section_of (world o h).grid.grid c) p)))
 
   pub no_ticket : nat_eq (count_at t.tickets.entries c) 0 ≡ nat_eq ((world o h).tickets c) 0
   no_ticket = ap (λ n. nat_eq n 0) (s.fits.tickets c)

@@ -1,11 +1,12 @@
 -- What follows in the store and in the stack when a hold is added.
-use Rattle.std.specs.Prelude.{ℕ, ◌≡◌, ◌+◌, ◌-◌, ◌≤◌, ◌<◌, ◌^◌, Bool, true, false, ◌||◌, Some, nat_eq, if◌then◌else◌, List, [], ◌∷◌, ◌++◌, length, vec_len, vec_capacity, IsTrue}
+use Rattle.std.specs.Prelude.{ℕ, ◌≡◌, ◌+◌, ◌-◌, ◌≤◌, ◌<◌, ◌^◌, Bool, true, false, ◌||◌, ◌&&◌, not, filter, Some, nat_eq, if◌then◌else◌, List, [], ◌∷◌, ◌++◌, length, vec_len, vec_capacity, IsTrue}
 use Rattle.std.specs.HashMap.{spare as room_in}
+use Rattle.std.specs.List.Sorted.{IsStrictlySortedBy}
 use Rattle.fol_model.specs.declared.places.ChunkPos.{ChunkPos}
 use Rattle.fol_model.specs.declared.places.SectionPos.{SectionPos}
 use Rattle.fol_model.specs.declared.grids.Grid.{Grid}
 use Rattle.fol_model.specs.declared.events.Loaded.{Loaded}
-use Rattle.fol_model.specs.declared.events.Loaded.TheVariants.{Full, Counted}
+use Rattle.fol_model.specs.declared.events.Loaded.TheVariants as loads
 use Rattle.fol_model.specs.declared.events.Accept.{Accept}
 use Rattle.fol_model.specs.declared.events.Accept.TheVariants as accept
 use Rattle.fol_model.specs.declared.actions.Action.{Action}
@@ -14,15 +15,23 @@ use Rattle.fol_model.specs.Job.{queued}
 use Rattle.fol_model.specs.Geometry.{is_chunk, same_chunk, section_of}
 use Rattle.fol_model.specs.GridState.{GridState, at_chunk, is_loaded, present_count}
 use Rattle.fol_model.specs.Add.{add, is_full, wanted}
+use Rattle.fol_model.specs.Universe.{all_chunks}
+use Rattle.fol_model.specs.Outputs.{is_chunk_of}
+use Rattle.fol_chunks.specs.Contents.{is_recorded}
+use Rattle.fol_chunks.specs.Order.{chunk_cmp}
 use Rattle.fol_model.specs.Drop.{drop_hold}
 use Rattle.fol_sections.specs.Places.{count_at}
 use Rattle.fol_regions.specs.Table.{grid_state}
 use Rattle.fol_regions.specs.Changes.{Changes, add_change}
+use Rattle.fol_regions.specs.declared.answers.AddAnswer.{AddAnswer}
+use Rattle.fol_regions.specs.declared.answers.AddAnswer.TheVariants.{Counted}
+use Rattle.fol_regions.specs.Answers.{add_answer}
 use Rattle.fol_regions.specs.declared.change.MergePair.{MergePair}
-use Rattle.fol_store.specs.Bag.{Bag, disturbed}
+use Rattle.fol_store.specs.Bag.{Bag}
 use Rattle.fol_store.specs.Stock.{Stock, bag_of, flat_of, jobs_of, next_of}
 use Rattle.fol_core.specs.declared.tables.Tables.{Tables}
 use Rattle.fol_core.specs.Bags.{CanJoin, Follow, joined_bags, opened_bags, unsettled_at}
+use Rattle.fol_core.specs.Begun.{Gathered}
 use Rattle.fol_core.specs.Agenda.{Covers, HaveBags, IsAgenda}
 use Rattle.fol_core.specs.Same.{SameThings}
 
@@ -33,6 +42,26 @@ gaining n g c = if is_loaded g c then 0 else (add g c).owner (section_of n c)
 -- the region of the section s of c, which has a chunk less after a removed hold of c, and 0 where c had another number of holds than 1
 unfoldable pub losing : SectionPos → GridState → ChunkPos → ℕ
 losing s g c = if nat_eq (g.holds c) 1 then g.owner s else 0
+
+-- the bags are these, but that each may be listed for the loaded chunks of its region
+abbrev pub Settle : GridState → (ℕ → Bag) → (ℕ → Bag) → Type 0
+Settle g f k = (r : ℕ) → Gathered g r (f r) (k r)
+
+-- where the bag is listed, its chunks but for c are those of region r
+abbrev pub Narrows : GridState → ChunkPos → ℕ → Bag → Type 0
+Narrows g c r b = b.listed ≡ true → IsStrictlySortedBy chunk_cmp b.chunks × ((q : ChunkPos) → (is_recorded b.chunks q && not (same_chunk c q)) ≡ is_recorded (filter (is_chunk_of g r) all_chunks) q)
+
+-- where the bag is listed, its chunks and c are those of region r
+abbrev pub Widens : GridState → ChunkPos → ℕ → Bag → Type 0
+Widens g c r b = b.listed ≡ true → IsStrictlySortedBy chunk_cmp b.chunks × ((q : ChunkPos) → (is_recorded b.chunks q || same_chunk c q) ≡ is_recorded (filter (is_chunk_of g r) all_chunks) q)
+
+-- where the chunk c comes alone, the region r that has it then has a bag that is listed for the others, if for any
+abbrev pub CanGain : AddAnswer → GridState → ChunkPos → ℕ → Bag → Type 0
+CanGain a g c r b = a ≡ Counted → 0 < r → Widens g c r b
+
+-- the region r of a chunk c that is held once has a bag that is listed for its chunks, if for any
+abbrev pub CanLose : GridState → ChunkPos → ℕ → (ℕ → Bag) → Type 0
+CanLose g c r f = 0 < r → nat_eq (g.holds c) 1 ≡ true → Narrows (drop_hold g c) c r (f r)
 
 -- the new regions come, and then some join
 abbrev pub changed_bags : Changes → (ℕ → Bag) → ℕ → Bag
@@ -71,6 +100,7 @@ pub record CanHold (t : Tables) (c : ChunkPos) : Type 0 where
   pub few_ids : (grid_state t.regions).next < 2 ^ 62
   pub few_tickets : count_at t.tickets.entries c < 2 ^ 62
   pub bags : CanFollow t.store (add_change (grid_state t.regions) c) ((add (grid_state t.regions) c).owner (section_of t.grid c))
+  pub near : is_loaded (grid_state t.regions) c ≡ false → CanGain (add_answer (grid_state t.regions) c) (add (grid_state t.regions) c) c ((add (grid_state t.regions) c).owner (section_of t.grid c)) (changed_bags (add_change (grid_state t.regions) c) (bag_of t.store) ((add (grid_state t.regions) c).owner (section_of t.grid c)))
   pub covers : CanCover t.agenda.items (add (grid_state t.regions) c) (add_change (grid_state t.regions) c) (followed (gaining t.grid (grid_state t.regions) c) (add_change (grid_state t.regions) c) (bag_of t.store))
   pub room : vec_len t.agenda < vec_capacity t.agenda
   pub tickets : 1 ≤ room_in t.tickets
@@ -79,7 +109,7 @@ pub record CanHold (t : Tables) (c : ChunkPos) : Type 0 where
 pub record Holds (old new : Tables) (c : ChunkPos) : Type 0 where
   pub grid : new.grid ≡ old.grid
   pub regions : grid_state new.regions ≡ add (grid_state old.regions) c
-  pub bags : bag_of new.store ≡ followed (gaining old.grid (grid_state old.regions) c) (add_change (grid_state old.regions) c) (bag_of old.store)
+  pub bags : Settle (grid_state new.regions) (followed (gaining old.grid (grid_state old.regions) c) (add_change (grid_state old.regions) c) (bag_of old.store)) (bag_of new.store)
   pub things : SameThings old.store new.store
   pub next : next_of new.store ≡ next_of old.store + length (add_change (grid_state old.regions) c).created
   pub spare : new.store.spare ≡ old.store.spare
@@ -87,7 +117,7 @@ pub record Holds (old new : Tables) (c : ChunkPos) : Type 0 where
   pub course : new.course ≡ old.course
 
 abbrev pub load_answer_in : GridState → ChunkPos → Loaded
-load_answer_in g c = if is_full g c then Full (present_count g) (wanted g c) else Counted
+load_answer_in g c = if is_full g c then loads.Full (present_count g) (wanted g c) else loads.Counted
 
 -- one ticket more, unless the chunk can't be held
 abbrev pub tickets_after : Bool → (ChunkPos → ℕ) → ChunkPos → ChunkPos → ℕ
@@ -97,7 +127,7 @@ tickets_after full tickets c q = if full then tickets q else (if same_chunk c q 
 pub record Drops (old new : Tables) (c : ChunkPos) (none : Bool) : Type 0 where
   pub grid : new.grid ≡ old.grid
   pub regions : grid_state new.regions ≡ (if none then grid_state old.regions else drop_hold (grid_state old.regions) c)
-  pub bags : bag_of new.store ≡ (if none then bag_of old.store else unsettled_at (losing (section_of old.grid c) (grid_state old.regions) c) (bag_of old.store))
+  pub bags : Settle (grid_state new.regions) (if none then bag_of old.store else unsettled_at (losing (section_of old.grid c) (grid_state old.regions) c) (bag_of old.store)) (bag_of new.store)
   pub things : SameThings old.store new.store
   pub next : next_of new.store ≡ next_of old.store
   pub tickets : (q : ChunkPos) → count_at new.tickets.entries q ≡ at_chunk (count_at old.tickets.entries) c (count_at old.tickets.entries c - 1) q
@@ -111,7 +141,7 @@ accept_in g n c = if is_full g c then accept.Full (present_count g) (wanted g c)
 pub record Posts (old new : Tables) (c : ChunkPos) (d : ℕ) (a : Action) : Type 0 where
   pub grid : new.grid ≡ old.grid
   pub regions : grid_state new.regions ≡ add (grid_state old.regions) c
-  pub bags : bag_of new.store ≡ λ r. disturbed c (followed (gaining old.grid (grid_state old.regions) c) (add_change (grid_state old.regions) c) (bag_of old.store) r)
+  pub bags : Settle (grid_state new.regions) (followed (gaining old.grid (grid_state old.regions) c) (add_change (grid_state old.regions) c) (bag_of old.store)) (bag_of new.store)
   pub flat : flat_of new.store ≡ flat_of old.store
   pub jobs : jobs_of new.store ≡ at_id (jobs_of old.store) old.course.next_job (Some (queued c d a))
   pub next : next_of new.store ≡ next_of old.store + length (add_change (grid_state old.regions) c).created

@@ -1,6 +1,6 @@
 //! Tickets of chunks.
 
-ghost use Rattle.std.specs.Prelude.{◌≡◌, ◌+◌, ◌≤◌, ◌<◌, ◌++◌, IsTrue, IfOk, OnErr, vec_len, vec_capacity, length, nat_eq, if◌then◌else◌};
+ghost use Rattle.std.specs.Prelude.{◌≡◌, false, ◌+◌, ◌≤◌, ◌<◌, ◌++◌, IsTrue, IfOk, OnErr, vec_len, vec_capacity, length, nat_eq, if◌then◌else◌};
 ghost use Rattle.fol_model.specs.declared.places.ChunkPos.{ChunkPos};
 ghost use Rattle.fol_model.specs.Geometry.{is_chunk, section_of as section_around};
 ghost use Rattle.fol_model.specs.Add.{is_full};
@@ -11,8 +11,8 @@ ghost use Rattle.fol_regions.specs.Answers.{add_answer};
 ghost use Rattle.fol_regions.specs.Changes.{add_change};
 ghost use Rattle.fol_store.specs.Stock.{bag_of, next_of};
 ghost use Rattle.fol_core.specs.Answers.{LoadRecords, UnloadRecords, load_result, unload_result};
-ghost use Rattle.fol_core.specs.Bags.{unsettled_at};
-ghost use Rattle.fol_core.specs.Follows.{CanFollow, CanHold, Drops, Holds, IsKnown, followed, load_answer_in, losing, target_in, tickets_after};
+ghost use Rattle.fol_core.specs.Bags.{CanJoin, Follow, opened_bags, unsettled_at};
+ghost use Rattle.fol_core.specs.Follows.{CanFollow, CanGain, CanHold, CanLose, Drops, Holds, IsKnown, Narrows, Settle, Widens, changed_bags, followed, load_answer_in, losing, target_in, tickets_after};
 ghost use Rattle.fol_core.specs.Meaning.{Stays, world_of};
 ghost use Rattle.fol_core.specs.Posts.{LeavesRoom};
 ghost use Rattle.fol_core.specs.Same.{SameThings};
@@ -96,6 +96,7 @@ fn loaded(tables: &mut Tables, c: ChunkPos) -> Loaded
 /// Takes a ticket, where the chunk has one. With its last hold the chunk's region loses the chunk.
 fn unloaded(tables: &mut Tables, c: ChunkPos) -> Unloaded
     requires known { IsKnown (bag_of tables.old.store) ((grid_state tables.old.regions).owner (section_around tables.old.grid c)) }
+    requires near { CanLose (grid_state tables.old.regions) c ((grid_state tables.old.regions).owner (section_around tables.old.grid c)) (bag_of tables.old.store) }
     ensures answer { result ≡ (if nat_eq (count_at tables.old.tickets.entries c) 0 then Unloaded.NoTicket else Unloaded.Lowered) }
     ensures done { Drops tables.old tables.new c (nat_eq (count_at tables.old.tickets.entries c) 0) }
 {
@@ -109,16 +110,30 @@ fn unloaded(tables: &mut Tables, c: ChunkPos) -> Unloaded
 
 /// Takes a hold from a chunk of a section. With the last hold the region of the section has a chunk less.
 fn lower(regions: &mut Regions, store: &mut Store, home: SectionPos, c: ChunkPos)
-    requires { IsKnown (bag_of store.old) ((grid_state regions.old).owner home) }
+    requires known { IsKnown (bag_of store.old) ((grid_state regions.old).owner home) }
+    requires near { CanLose (grid_state regions.old) c ((grid_state regions.old).owner home) (bag_of store.old) }
     ensures regions { grid_state regions.new ≡ drop (grid_state regions.old) c }
-    ensures bags { bag_of store.new ≡ unsettled_at (losing home (grid_state regions.old) c) (bag_of store.old) }
+    ensures bags { Settle (grid_state regions.new) (unsettled_at (losing home (grid_state regions.old) c) (bag_of store.old)) (bag_of store.new) }
     ensures things { SameThings store.old store.new }
     ensures next { next_of store.new ≡ next_of store.old }
 {
     match regions.remove(c) {
-        Removed::Gone => unsettle_owner(regions, store, home),
+        Removed::Gone => lose_chunk(regions, store, home, c),
         Removed::Lowered => {}
         Removed::NotLoaded => {}
+    }
+}
+
+/// The region of the section, if there is one, has the chunk less.
+fn lose_chunk(regions: &Regions, store: &mut Store, s: SectionPos, c: ChunkPos)
+    requires known { IsKnown (bag_of store.old) ((grid_state regions.now).owner s) }
+    requires near { 0 < (grid_state regions.now).owner s → Narrows (grid_state regions.now) c ((grid_state regions.now).owner s) (bag_of store.old ((grid_state regions.now).owner s)) }
+    ensures bags { Settle (grid_state regions.now) (unsettled_at ((grid_state regions.now).owner s) (bag_of store.old)) (bag_of store.new) }
+    ensures things { SameThings store.old store.new }
+    ensures next { next_of store.new ≡ next_of store.old }
+{
+    if let Some(id) = regions.owner(s) {
+        store.lose(id, c);
     }
 }
 
@@ -134,16 +149,42 @@ pub(crate) fn hold(tables: &mut Tables, c: ChunkPos) -> AddAnswer
     let held = tables.regions.holds(c) > 0;
     let answer = tables.regions.add(c);
     let home = section_of(&tables.grid, c);
-    follow(&tables.regions, &mut tables.store, home, held);
+    follow(&tables.regions, &mut tables.store, home, c, held, answer);
     add_target(&mut tables.agenda, tables.regions.last().merges());
     tidy(&mut tables.agenda, &tables.regions, &tables.store);
     answer
 }
 
 /// The bags follow the last change of the regions. Where its chunk was not held before, the region of the section has a chunk more.
-fn follow(regions: &Regions, store: &mut Store, s: SectionPos, held: bool)
-    requires { CanFollow store.old regions.now.last ((grid_state regions.now).owner s) }
-    ensures bags { bag_of store.new ≡ followed (if held then 0 else (grid_state regions.now).owner s) regions.now.last (bag_of store.old) }
+fn follow(
+    regions: &Regions,
+    store: &mut Store,
+    s: SectionPos,
+    c: ChunkPos,
+    held: bool,
+    answer: AddAnswer,
+)
+    requires can { CanFollow store.old regions.now.last ((grid_state regions.now).owner s) }
+    requires near { held ≡ false → CanGain answer (grid_state regions.now) c ((grid_state regions.now).owner s) (changed_bags regions.now.last (bag_of store.old) ((grid_state regions.now).owner s)) }
+    ensures bags { Settle (grid_state regions.now) (followed (if held then 0 else (grid_state regions.now).owner s) regions.now.last (bag_of store.old)) (bag_of store.new) }
+    ensures things { SameThings store.old store.new }
+    ensures next { next_of store.new ≡ next_of store.old + length regions.now.last.created }
+    ensures spare { store.new.spare ≡ store.old.spare }
+    ensures slots { store.old.slots ≤ store.new.slots + length regions.now.last.created }
+{
+    change_bags(regions, store);
+    if held {
+        return;
+    }
+    gain_chunk(regions, store, s, c, answer);
+}
+
+/// The new regions of the last change get bags, and then some join.
+fn change_bags(regions: &Regions, store: &mut Store)
+    requires follow { Follow (next_of store.old) regions.now.last.created }
+    requires slots { length regions.now.last.created ≤ store.old.slots }
+    requires joins { CanJoin regions.now.last.merges (opened_bags 0 0 regions.now.last.created (bag_of store.old)) }
+    ensures bags { bag_of store.new ≡ changed_bags regions.now.last (bag_of store.old) }
     ensures things { SameThings store.old store.new }
     ensures next { next_of store.new ≡ next_of store.old + length regions.now.last.created }
     ensures spare { store.new.spare ≡ store.old.spare }
@@ -152,8 +193,40 @@ fn follow(regions: &Regions, store: &mut Store, s: SectionPos, held: bool)
     let change = regions.last();
     open_all(store, change.created(), 0, 0);
     join(store, change.merges());
-    if !held {
-        unsettle_owner(regions, store, s);
+}
+
+/// The region of the section, if there is one, has the chunk more. Where sections came too, its bag has to be gathered anew.
+fn gain_chunk(regions: &Regions, store: &mut Store, s: SectionPos, c: ChunkPos, answer: AddAnswer)
+    requires known { IsKnown (bag_of store.old) ((grid_state regions.now).owner s) }
+    requires near { CanGain answer (grid_state regions.now) c ((grid_state regions.now).owner s) (bag_of store.old ((grid_state regions.now).owner s)) }
+    ensures bags { Settle (grid_state regions.now) (unsettled_at ((grid_state regions.now).owner s) (bag_of store.old)) (bag_of store.new) }
+    ensures things { SameThings store.old store.new }
+    ensures next { next_of store.new ≡ next_of store.old }
+    ensures spare { store.new.spare ≡ store.old.spare }
+    ensures slots { store.new.slots ≡ store.old.slots }
+{
+    match answer {
+        AddAnswer::Counted => gain_alone(regions, store, s, c),
+        AddAnswer::Changed => unsettle_owner(regions, store, s),
+        AddAnswer::Full {
+            present: _,
+            wanted: _,
+        } => unsettle_owner(regions, store, s),
+    }
+}
+
+/// The region of the section, if there is one, has the chunk more, and no section.
+fn gain_alone(regions: &Regions, store: &mut Store, s: SectionPos, c: ChunkPos)
+    requires known { IsKnown (bag_of store.old) ((grid_state regions.now).owner s) }
+    requires near { 0 < (grid_state regions.now).owner s → Widens (grid_state regions.now) c ((grid_state regions.now).owner s) (bag_of store.old ((grid_state regions.now).owner s)) }
+    ensures bags { Settle (grid_state regions.now) (unsettled_at ((grid_state regions.now).owner s) (bag_of store.old)) (bag_of store.new) }
+    ensures things { SameThings store.old store.new }
+    ensures next { next_of store.new ≡ next_of store.old }
+    ensures spare { store.new.spare ≡ store.old.spare }
+    ensures slots { store.new.slots ≡ store.old.slots }
+{
+    if let Some(id) = regions.owner(s) {
+        store.gain(id, c);
     }
 }
 

@@ -1,0 +1,225 @@
+-- Bags that may be listed for the loaded chunks of their regions.
+use Rattle.std.proofs.Common.{◌≡◌, ◌≢◌, ℕ, ◌+◌, ◌<◌, refl, sym, ◌∙◌, ap, subst, arith, Bool, true, false, not, ◌&&◌, ◌||◌, inl, inr, List, filter, Some, None}
+use Rattle.std.specs.Prelude.{nat_eq, nat_lt}
+use Rattle.std.specs.List.{list_any}
+use Rattle.std.specs.List.Sorted.{IsStrictlySortedBy}
+use Rattle.std.specs.Ordering.{eq_by_cmp}
+use Rattle.std.proofs.Math.Path.{fun_ext}
+use Rattle.std.proofs.lemmas.Bool.{cases_Bool, cases_eq, eqb-true, eq-eqb, ne_eqb, lt-ltb, ltb-true, true≢false, and_right}
+use Rattle.fol_model.specs.declared.places.ChunkPos.{ChunkPos}
+use Rattle.fol_model.specs.Geometry.{is_chunk, same_chunk, section_of}
+use Rattle.fol_model.specs.Universe.{all_chunks}
+use Rattle.fol_model.specs.declared.regions.State.TheVariants.{Dead}
+use Rattle.fol_model.specs.GridState.{GridState, present_count}
+use Rattle.fol_model.specs.Add.{add, counted, is_full, wanted}
+use Rattle.fol_model.specs.ActionStep.{Recorded}
+use Rattle.fol_model.specs.Outputs.{is_chunk_of}
+use Rattle.fol_model.specs.Drop.{drop_hold}
+use Rattle.fol_model.proofs.PlaceKeys.{chunk_cmp_total, chunk_cmp_tells}
+use Rattle.fol_laws.proofs.SamePlaces.{same_chunk-true, same_chunk-self}
+use Rattle.fol_laws.proofs.Listed.{Tells, own, same_by, sorted_same}
+use Rattle.fol_regions.specs.declared.answers.AddAnswer.TheVariants.{Counted, Changed, Full}
+use Rattle.fol_regions.specs.Answers.{add_answer, some_id}
+use Rattle.fol_regions.specs.Changes.{Changes, add_change, nothing}
+use Rattle.fol_chunks.specs.Contents.{is_recorded}
+use Rattle.fol_chunks.specs.Order.{chunk_cmp}
+use Rattle.fol_store.specs.Bag.{Bag, disturbed}
+use Rattle.fol_store.specs.Relisted.{IsInOrder, Narrowed, Relisted, Widened}
+use Rattle.fol_core.specs.Agenda.{Covers, HaveBags}
+use Rattle.fol_core.specs.Bags.{IsBagOf, unsettled_at}
+use Rattle.fol_core.specs.Begun.{Gathered}
+use Rattle.fol_core.specs.Follows.{CanGain, IsKnown, Narrows, Settle, Widens, changed_bags}
+use Rattle.fol_core.proofs.ChunkLists.{in_all, kept_sorted, listed}
+use Rattle.fol_core.proofs.GatheredBags.{gathered_bag}
+
+pub gathered_self : (g : GridState) (r : ℕ) (b : Bag) → Gathered g r b b
+gathered_self g r b = record { here = refl; taken = refl; counter = refl; owes = refl; listed = λ w. inl (w, refl); out = λ x. refl }
+
+pub settle_same : (g : GridState) (f k : ℕ → Bag) → k ≡ f → Settle g f k
+settle_same g f k e r = let P : Bag → Type 0 = λ b. Gathered g r (f r) b in subst P (ap (λ (x : ℕ → Bag). x r) (sym e)) (gathered_self g r (f r))
+
+-- chunks that tie are the same
+ties : (a b : ChunkPos) → eq_by_cmp chunk_cmp a b ≡ same_chunk a b
+ties a b = elim (cases_Bool (same_chunk a b)) [
+  | inl e ↦ ap (eq_by_cmp chunk_cmp a) (sym (same_chunk-true a b e)) ∙ own chunk_cmp tells a ∙ sym e
+  | inr e ↦ elim (cases_Bool (eq_by_cmp chunk_cmp a b)) [
+    | inl f ↦ absurd (true≢false (sym (ap (same_chunk a) (sym (same_by chunk_cmp tells a b f)) ∙ same_chunk-self a) ∙ e))
+    | inr f ↦ f ∙ sym e
+  ]
+]
+  where
+    tells : Tells chunk_cmp
+    tells = record { order = chunk_cmp_total; same = chunk_cmp_tells }
+
+-- a list in order is known by its chunks
+pub same_list : (xs ys : List ChunkPos) → IsStrictlySortedBy chunk_cmp xs → IsStrictlySortedBy chunk_cmp ys → ((q : ChunkPos) → is_recorded xs q ≡ is_recorded ys q) → xs ≡ ys
+same_list xs ys a b h = sorted_same chunk_cmp (record { order = chunk_cmp_total; same = chunk_cmp_tells }) xs ys a b (λ s.
+    let e : eq_by_cmp chunk_cmp s ≡ same_chunk s = fun_ext (ties s) in
+    ap (λ p. list_any p xs) e ∙ h s ∙ ap (λ p. list_any p ys) (sym e))
+
+-- the bag of a region gets other chunks, which are the region's
+pub relisted_all : (g : GridState) (id : ℕ) (p : ChunkPos → Bool) (f k : ℕ → Bag) → 0 < id → ((f id).listed ≡ true → (q : ChunkPos) → p q ≡ is_recorded (filter (is_chunk_of g id) all_chunks) q)
+    → Relisted p (f id) (k id) → ((u : ℕ) → u ≢ id → k u ≡ f u) → Settle g (unsettled_at id f) k
+relisted_all g id p f k l same own others r = elim (cases_eq id r) [
+  | inl e ↦ let P : ℕ → Type 0 = λ n. Gathered g n (unsettled_at id f n) (k n) in subst P e mine
+  | inr n ↦
+      let a : nat_lt 0 id ≡ true = lt-ltb 0 id l in
+      let b : nat_eq id r ≡ false = ne_eqb id r n in
+      let P : Bag → Type 0 = λ x. Gathered g r (f r) x in
+      rw (a, b) (subst P (sym (others r (λ e. n (sym e)))) (gathered_self g r (f r)))
+]
+  where
+    mine : Gathered g id (unsettled_at id f id) (k id)
+    mine =
+        let a : nat_lt 0 id ≡ true = lt-ltb 0 id l in
+        let b : nat_eq id id ≡ true = eq-eqb id id refl in
+        rw (a, b) (record {
+          here = ap (λ (z : Bag). z.here) own.same;
+          taken = ap (λ (z : Bag). z.taken) own.same;
+          counter = ap (λ (z : Bag). z.tick) own.same;
+          owes = ap (λ (z : Bag). z.owed) own.same;
+          listed = λ w. inr (same_list (k id).chunks (filter (is_chunk_of g id) all_chunks) (own.order w) (kept_sorted (is_chunk_of g id)) (λ q. own.chunks w q ∙ same (own.before w) q));
+          out = own.out;
+        })
+
+-- after the last hold of c
+pub narrows : (g : GridState) (c : ChunkPos) (r : ℕ) (b : Bag) → nat_eq (g.holds c) 1 ≡ true → (b.listed ≡ true → b.chunks ≡ filter (is_chunk_of g r) all_chunks) → Narrows (drop_hold g c) c r b
+narrows g c r b one is w =
+    let e : b.chunks ≡ filter (is_chunk_of g r) all_chunks = is w in
+    let P : List ChunkPos → Type 0 = λ xs. IsStrictlySortedBy chunk_cmp xs × ((q : ChunkPos) → (is_recorded xs q && not (same_chunk c q)) ≡ is_recorded (filter (is_chunk_of (drop_hold g c) r) all_chunks) q) in
+    subst P (sym e) (kept_sorted (is_chunk_of g r), λ q.
+      ap (λ z. z && not (same_chunk c q)) (listed (is_chunk_of g r) all_chunks q)
+      ∙ turned (is_chunk_of g r q) (is_recorded all_chunks q) (not (same_chunk c q))
+      ∙ ap (λ z. z && is_recorded all_chunks q) (sym (left q))
+      ∙ sym (listed (is_chunk_of (drop_hold g c) r) all_chunks q))
+  where
+    turned : (x y z : Bool) → ((x && y) && z) ≡ ((x && z) && y)
+    turned true true z = elim z as (λ z. z ≡ (z && true)) [ true ↦ refl | false ↦ refl ]
+    turned true false z = elim z as (λ z. false ≡ (z && false)) [ true ↦ refl | false ↦ refl ]
+    turned false y z = refl
+
+    left : (q : ChunkPos) → is_chunk_of (drop_hold g c) r q ≡ (is_chunk_of g r q && not (same_chunk c q))
+    unfolding drop_hold
+    left q = elim (cases_Bool (same_chunk c q)) [
+      | inl s ↦
+          let o : g.holds c ≡ 1 = eqb-true (g.holds c) 1 one in
+          rw (s, o) (sym (and_right (is_chunk_of g r q) false refl))
+      | inr s ↦ rw s (last (is_chunk_of g r q))
+    ]
+      where
+        last : (x : Bool) → x ≡ (x && true)
+        last true = refl
+        last false = refl
+
+counted_when : (g : GridState) (c : ChunkPos) → add_answer g c ≡ Counted → (is_full g c ≡ false) × (nat_eq (wanted g c) 0 ≡ true)
+counted_when g c e = elim (cases_Bool (is_full g c)) [
+  | inl f ↦ let x : Full (present_count g) (wanted g c) ≡ Counted = rw f at e in absurd (cc)
+  | inr f ↦ elim (cases_Bool (nat_eq (wanted g c) 0)) [
+    | inl w ↦ (f, w)
+    | inr w ↦ let x : Changed ≡ Counted = rw (f, w) at e in absurd (cc)
+  ]
+]
+
+-- the grid after a hold of a chunk that comes alone, and nothing else
+counted_grid : (g : GridState) (c : ChunkPos) → add_answer g c ≡ Counted → add g c ≡ counted g c
+unfolding add
+counted_grid g c e = let w = counted_when g c e in let a = w.0 in let b = w.1 in rw (a, b) refl
+
+counted_change : (g : GridState) (c : ChunkPos) → add_answer g c ≡ Counted → add_change g c ≡ nothing
+unfolding add_change
+counted_change g c e = let w = counted_when g c e in let a = w.0 in let b = w.1 in rw (a, b) refl
+
+-- after the first hold of c
+widens : (g : GridState) (c : ChunkPos) (r : ℕ) (b : Bag) → is_chunk c ≡ true → g.owner (section_of g.grid c) ≡ r → (b.listed ≡ true → b.chunks ≡ filter (is_chunk_of g r) all_chunks) → Widens (counted g c) c r b
+widens g c r b limits mine is w =
+    let e : b.chunks ≡ filter (is_chunk_of g r) all_chunks = is w in
+    let P : List ChunkPos → Type 0 = λ xs. IsStrictlySortedBy chunk_cmp xs × ((q : ChunkPos) → (is_recorded xs q || same_chunk c q) ≡ is_recorded (filter (is_chunk_of (counted g c) r) all_chunks) q) in
+    subst P (sym e) (kept_sorted (is_chunk_of g r), λ q.
+      ap (λ z. z || same_chunk c q) (listed (is_chunk_of g r) all_chunks q)
+      ∙ come q
+      ∙ sym (listed (is_chunk_of (counted g c) r) all_chunks q))
+  where
+    come : (q : ChunkPos) → ((is_chunk_of g r q && is_recorded all_chunks q) || same_chunk c q) ≡ (is_chunk_of (counted g c) r q && is_recorded all_chunks q)
+    come q = elim (cases_Bool (same_chunk c q)) [
+      | inl s ↦
+          let same : c ≡ q = same_chunk-true c q s in
+          let there : is_recorded all_chunks q ≡ true = ap (is_recorded all_chunks) (sym same) ∙ in_all c limits in
+          let held : nat_lt 0 (g.holds c + 1) ≡ true = lt-ltb 0 (g.holds c + 1) (omega arith) in
+          let own : nat_eq (g.owner (section_of g.grid q)) r ≡ true = eq-eqb _ r (ap (λ z. g.owner (section_of g.grid z)) (sym same) ∙ mine) in
+          rw (s, there, held, own) (last (nat_lt 0 (g.holds q) && true))
+      | inr s ↦ rw s (none (is_chunk_of g r q && is_recorded all_chunks q))
+    ]
+      where
+        last : (x : Bool) → ((x && true) || true) ≡ true
+        last true = refl
+        last false = refl
+
+        none : (x : Bool) → (x || false) ≡ x
+        none true = refl
+        none false = refl
+
+-- a chunk that comes alone
+pub can_gain : (g : GridState) (c : ChunkPos) (f : ℕ → Bag) → is_chunk c ≡ true → ((r : ℕ) → (f r).listed ≡ true → g.state r ≢ Dead → (f r).chunks ≡ filter (is_chunk_of g r) all_chunks)
+    → (0 < g.owner (section_of g.grid c) → g.state (g.owner (section_of g.grid c)) ≢ Dead)
+    → CanGain (add_answer g c) (add g c) c ((add g c).owner (section_of g.grid c)) (changed_bags (add_change g c) f ((add g c).owner (section_of g.grid c)))
+can_gain g c f limits is lives e l =
+    let a : add g c ≡ counted g c = counted_grid g c e in
+    let b : add_change g c ≡ nothing = counted_change g c e in
+    let P : GridState → Changes → Type 0 = λ h ch. Widens h c (h.owner (section_of g.grid c)) (changed_bags ch f (h.owner (section_of g.grid c))) in
+    let r : ℕ = g.owner (section_of g.grid c) in
+    let p : 0 < r = rw a at l in
+    let here : P (counted g c) nothing = widens g c r (f r) limits refl (λ w. is r w (lives p)) in
+    subst (λ h. P h (add_change g c)) (sym a) (subst (P (counted g c)) (sym b) here)
+
+pub settled_bags : (g : GridState) (tick owed : ℕ → ℕ) (recorded : ℕ → Recorded) (f k : ℕ → Bag) → ((r : ℕ) → IsBagOf g tick owed recorded r (f r)) → Settle g f k → (r : ℕ) → IsBagOf g tick owed recorded r (k r)
+settled_bags g tick owed recorded f k is s r = gathered_bag g tick owed recorded r (f r) (k r) (is r) (s r)
+
+pub settled_have : (g : GridState) (f k : ℕ → Bag) → HaveBags g f → Settle g f k → HaveBags g k
+settled_have g f k have s r h = (s r).here ∙ have r h
+
+pub settled_covers : (xs : List ℕ) (g : GridState) (f k : ℕ → Bag) → Covers xs g f → Settle g f k → Covers xs g k
+settled_covers xs g f k cov s r x = cov r (let e = (s r).owes in rw e at x)
+
+pub settled_disturbed : (g : GridState) (c : ChunkPos) (f k m : ℕ → Bag) → Settle g f k → m ≡ (λ r. disturbed c (k r)) → Settle g f m
+settled_disturbed g c f k m s e r =
+    let x = s r in
+    let P : Bag → Type 0 = λ b. Gathered g r (f r) b in
+    subst P (ap (λ (h : ℕ → Bag). h r) (sym e)) (record { here = x.here; taken = x.taken; counter = x.counter; owes = x.owes; listed = x.listed; out = x.out })
+
+-- the id of a region, if it is one
+pub id_of : (n id : ℕ) → some_id n ≡ Some id → (n ≡ id) × (0 < n)
+id_of n id e = elim (cases_Bool (nat_lt 0 n)) [
+  | inl l ↦ let x : Some n ≡ Some id = rw l at e in let y : n ≡ id = cc in (y, ltb-true 0 n l)
+  | inr l ↦ let x : None ≡ Some id = rw l at e in absurd (cc)
+]
+
+pub id_none : (n : ℕ) → some_id n ≡ None → nat_lt 0 n ≡ false
+id_none n e = elim (cases_Bool (nat_lt 0 n)) [
+  | inl l ↦ let x : Some n ≡ None = rw l at e in absurd (cc)
+  | inr l ↦ l
+]
+
+pub none_all : (g : GridState) (n : ℕ) (f : ℕ → Bag) → some_id n ≡ None → Settle g (unsettled_at n f) f
+none_all g n f e r = let l = id_none n e in rw l (gathered_self g r (f r))
+
+module _ (g : GridState) (n id : ℕ) (c : ChunkPos) (f : ℕ → Bag) (e : some_id n ≡ Some id) where
+  pub known_some : IsKnown f n → ((f id).here || (f id).taken) ≡ true
+  known_some h = let x = id_of n id e in let P : ℕ → Type 0 = λ m. ((f m).here || (f m).taken) ≡ true in subst P x.0 (h x.1)
+
+  pub order_lost : (0 < n → Narrows g c n (f n)) → IsInOrder (f id)
+  order_lost h = let x = id_of n id e in let P : ℕ → Type 0 = λ m. IsInOrder (f m) in subst P x.0 (λ w. (h x.1 w).0)
+
+  pub order_gained : (0 < n → Widens g c n (f n)) → IsInOrder (f id)
+  order_gained h = let x = id_of n id e in let P : ℕ → Type 0 = λ m. IsInOrder (f m) in subst P x.0 (λ w. (h x.1 w).0)
+
+  pub lost_all : (k : ℕ → Bag) → (0 < n → Narrows g c n (f n)) → Narrowed c (f id) (k id) → ((u : ℕ) → u ≢ id → k u ≡ f u) → Settle g (unsettled_at n f) k
+  lost_all k h own others =
+      let x = id_of n id e in
+      let P : ℕ → Type 0 = λ m. Narrowed c (f m) (k m) → ((u : ℕ) → u ≢ m → k u ≡ f u) → Settle g (unsettled_at n f) k in
+      subst P x.0 (λ o p. relisted_all g n (λ q. is_recorded (f n).chunks q && not (same_chunk c q)) f k x.1 (λ w. (h x.1 w).1) o p) own others
+
+  pub gained_all : (k : ℕ → Bag) → (0 < n → Widens g c n (f n)) → Widened c (f id) (k id) → ((u : ℕ) → u ≢ id → k u ≡ f u) → Settle g (unsettled_at n f) k
+  gained_all k h own others =
+      let x = id_of n id e in
+      let P : ℕ → Type 0 = λ m. Widened c (f m) (k m) → ((u : ℕ) → u ≢ m → k u ≡ f u) → Settle g (unsettled_at n f) k in
+      subst P x.0 (λ o p. relisted_all g n (λ q. is_recorded (f n).chunks q || same_chunk c q) f k x.1 (λ w. (h x.1 w).1) o p) own others
