@@ -7,3 +7,4 @@ pub mod Merged
 pub mod Rooms
 pub mod Behind
 pub mod Filtered
+pub mod Rectangles

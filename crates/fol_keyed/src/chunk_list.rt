@@ -16,6 +16,9 @@ use std::cmp::Ordering;
 #[derive(Clone, Copy)]
 pub struct ChunkList<'a> {
     chunks: &'a [ChunkPos],
+    /// The first chunk, and how many chunks a row has if the list is a rectangle. They serve to guess places alone.
+    corner: ChunkPos,
+    width: i32,
     ghost order: { IsStrictlySortedBy chunk_cmp chunks.now } by { Prim.hlevel props },
 }
 
@@ -25,7 +28,15 @@ impl<'a> ChunkList<'a> {
         requires { IsStrictlySortedBy chunk_cmp chunks.now }
         ensures { result.chunks.now ≡ chunks.now }
     {
-        ChunkList { chunks }
+        let (corner, width) = match (chunks.first(), chunks.last()) {
+            (Some(first), Some(last)) => (*first, last.x.wrapping_sub(first.x).wrapping_add(1)),
+            _ => (ChunkPos { x: 0, z: 0 }, 0),
+        };
+        ChunkList {
+            chunks,
+            corner,
+            width,
+        }
     }
 
     /// Whether the chunk is one of the list. Where the chunks are those of a rectangle, this looks at two of them at most.
@@ -58,12 +69,12 @@ impl<'a> ChunkList<'a> {
         requires { 0 < length self.now.chunks.now }
         ensures { result < length self.now.chunks.now }
     {
-        let last = self.chunks.len() - 1;
-        let corner = self.chunks[0];
-        let width = self.chunks[last].x.wrapping_sub(corner.x).wrapping_add(1);
-        let right = c.x.wrapping_sub(corner.x).max(-1).min(width);
-        let down = c.z.wrapping_sub(corner.z);
-        nearest(down.wrapping_mul(width).wrapping_add(right), last)
+        let right = c.x.wrapping_sub(self.corner.x).max(-1).min(self.width);
+        let down = c.z.wrapping_sub(self.corner.z);
+        nearest(
+            down.wrapping_mul(self.width).wrapping_add(right),
+            self.chunks.len() - 1,
+        )
     }
 
     /// `Some(false)` where the chunk would stand at this place, between two chunks of the list.

@@ -7,7 +7,9 @@
 
 mod area;
 mod chunk_list;
+mod chunk_set;
 mod order;
+mod rectangle;
 mod row;
 mod rows;
 mod section_list;
@@ -16,7 +18,9 @@ mod tests;
 
 pub use area::Area;
 pub use chunk_list::ChunkList;
+pub use chunk_set::ChunkSet;
 pub use order::{compare_blocks, compare_chunks, compare_sections};
+pub use rectangle::Rectangle;
 pub use row::Row;
 pub use rows::{count_covered, join, move_covered};
 pub use section_list::SectionList;

@@ -1,6 +1,6 @@
 //! What only a run can show.
 
-use crate::Area;
+use crate::{Area, ChunkSet, Rectangle};
 use fol_model::{ChunkPos, Grid, SectionPos};
 use std::test::Fail;
 
@@ -28,5 +28,28 @@ fn a_part_covers_its_sections(rt: HostRuntime) -> Result<(), Fail> {
         assert!(rt; part.covers(ChunkPos { x: 1, z: 1 }));
         assert!(rt; !part.covers(ChunkPos { x: 2, z: 0 }));
     }
+    Ok(())
+}
+
+/// Four chunks of a rectangle, and the first of them that are none.
+const SQUARE: [ChunkPos; 4] = [
+    ChunkPos { x: -1, z: 7 },
+    ChunkPos { x: 0, z: 7 },
+    ChunkPos { x: -1, z: 8 },
+    ChunkPos { x: 0, z: 8 },
+];
+
+/// A rectangle is found where there is one, and has its chunks alone.
+#[test]
+fn a_rectangle_is_found(rt: HostRuntime) -> Result<(), Fail> {
+    let square = Rectangle::of(&SQUARE).ok_or("the square is a rectangle")?;
+    assert!(rt; square.contains(ChunkPos { x: -1, z: 8 }));
+    assert!(rt; square.contains(ChunkPos { x: 0, z: 7 }));
+    assert!(rt; !square.contains(ChunkPos { x: 1, z: 7 }));
+    assert!(rt; !square.contains(ChunkPos { x: 0, z: 9 }));
+    assert!(rt; Rectangle::of(&SQUARE[..2]).is_some());
+    assert!(rt; Rectangle::of(&SQUARE[..3]).is_none());
+    assert!(rt; Rectangle::of(&CHUNKS).is_none());
+    assert!(rt; Rectangle::of(&[]).is_none());
     Ok(())
 }
