@@ -12,7 +12,7 @@ ghost use Rattle.fol_keyed.specs.Areas.{covers};
 ghost use Rattle.fol_chunks.specs.Rows.{by_place, by_id};
 
 use crate::{blocks, entities, steps};
-use fol_keyed::{Area, ChunkList, count_covered};
+use fol_keyed::{Area, count_covered};
 use fol_model::{BlockAt, BlockPos, ChunkPos, Entity, Grid, SectionPos};
 use std::alloc::{AllocError, Global};
 use std::marker::Model;
@@ -159,7 +159,7 @@ impl Chunks {
         ensures size { size_of self.new ≡ size_of self.old }
         ensures spare { self.old.spare ≤ self.new.spare }
     {
-        steps::step_all(&mut self.entities, &ChunkList::of(chunks));
+        steps::step_all(&mut self.entities, chunks);
     }
 
     /// How many blocks and entities lie in the chunk.

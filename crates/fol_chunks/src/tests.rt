@@ -47,6 +47,28 @@ fn entities_walk_within_recorded_chunks(rt: HostRuntime) -> Result<(), Fail> {
     Ok(())
 }
 
+/// Three chunks that are no rectangle.
+const CORNER: [ChunkPos; 3] = [
+    ChunkPos { x: 0, z: 0 },
+    ChunkPos { x: 1, z: 0 },
+    ChunkPos { x: 0, z: 1 },
+];
+
+fn step_in_corner(chunks: &mut Chunks) {
+    chunks.step_entities(&CORNER);
+}
+
+/// An entity walks within chunks that are no rectangle too.
+#[test]
+fn entities_walk_within_any_chunks(rt: HostRuntime) -> Result<(), Fail> {
+    let mut chunks = with_walker(rt.alloc())?;
+    step_in_corner(&mut chunks);
+    assert_eq!(rt; chunks.find(1), Some(block(31, 0)));
+    step_in_corner(&mut chunks);
+    assert_eq!(rt; chunks.find(1), Some(block(31, 0)));
+    Ok(())
+}
+
 /// A number is set, replaced and taken away, and the blocks are listed by place.
 #[test]
 fn blocks_are_set_and_listed(rt: HostRuntime) -> Result<(), Fail> {

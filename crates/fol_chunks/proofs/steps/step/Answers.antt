@@ -7,14 +7,14 @@ use Rattle.fol_chunks.proofs.Movement.{step_moves, step_stands, step_stays, misf
 use Rattle.fol_chunks.proofs.steps.step.Goals as goal
 
 pub returns-then-entity-eq0-2 : goal.returns-then-entity-eq0-2
-returns-then-entity-eq0-2 c =
+returns-then-entity-eq0-2 g c =
     let vx : FitsSigned w32 c.args.entity.vx = search rules in
     let vz : FitsSigned w32 c.args.entity.vz = search rules in
-    step_stands (is_recorded c.args.recorded.now.chunks.now) c.args.entity
+    step_stands (is_recorded (g.S.ChunkSet.listed c.args.recorded.now)) c.args.entity
     (sym (to_z-of_z w32 c.args.entity.vx vx) ∙ ap (to_z w32) c.if-entity-eq0.true) (sym (to_z-of_z w32 c.args.entity.vz vz) ∙ ap (to_z w32) c.if-entity-eq0-2.true)
 
 pub returns-in-Some-Some : goal.returns-in-Some-Some
-returns-in-Some-Some c =
+returns-in-Some-Some g c =
     let x : FitsSigned w32 c.args.entity.at.x = search rules in
     let vx : FitsSigned w32 c.args.entity.vx = search rules in
     let z : FitsSigned w32 c.args.entity.at.z = search rules in
@@ -25,18 +25,18 @@ returns-in-Some-Some c =
     let new_x : FitsSigned w32 c.in-Some-Some.x = search rules in
     let new_z : FitsSigned w32 c.in-Some-Some.z = search rules in
     let moved = rw (to_z-of_z w32 c.in-Some-Some.x new_x, to_z-of_z w32 c.args.entity.at.y y, to_z-of_z w32 c.in-Some-Some.z new_z) at c.moved_to.ensures in
-    step_moves (is_recorded c.args.recorded.now.chunks.now) c.args.entity _ c.in-Some-Some.x c.in-Some-Some.z sum_x sum_z moved
+    step_moves (is_recorded (g.S.ChunkSet.listed c.args.recorded.now)) c.args.entity _ c.in-Some-Some.x c.in-Some-Some.z sum_x sum_z moved
 
 pub returns-in_default : goal.returns-in_default
-returns-in_default c =
+returns-in_default g c =
     let z : FitsSigned w32 c.args.entity.at.z = search rules in
     let vz : FitsSigned w32 c.args.entity.vz = search rules in
     let misfit = rw (c.in_default.is-1, to_z-of_z w32 c.args.entity.at.z z, to_z-of_z w32 c.args.entity.vz vz) at c.checked_add-2.ensures in
-    step_stays (is_recorded c.args.recorded.now.chunks.now) c.args.entity (misfit_stays c.args.recorded.now.chunks.now (ahead c.args.entity.vx c.args.entity.vz c.args.entity.at) c.requires (λ f. misfit f.1))
+    step_stays (is_recorded (g.S.ChunkSet.listed c.args.recorded.now)) c.args.entity (misfit_stays (g.S.ChunkSet.listed c.args.recorded.now) (ahead c.args.entity.vx c.args.entity.vz c.args.entity.at) c.requires (λ f. misfit f.1))
 
 pub returns-in_default-2 : goal.returns-in_default-2
-returns-in_default-2 c =
+returns-in_default-2 g c =
     let x : FitsSigned w32 c.args.entity.at.x = search rules in
     let vx : FitsSigned w32 c.args.entity.vx = search rules in
     let misfit = rw (c.in_default.is-0, to_z-of_z w32 c.args.entity.at.x x, to_z-of_z w32 c.args.entity.vx vx) at c.checked_add.ensures in
-    step_stays (is_recorded c.args.recorded.now.chunks.now) c.args.entity (misfit_stays c.args.recorded.now.chunks.now (ahead c.args.entity.vx c.args.entity.vz c.args.entity.at) c.requires (λ f. misfit f.0))
+    step_stays (is_recorded (g.S.ChunkSet.listed c.args.recorded.now)) c.args.entity (misfit_stays (g.S.ChunkSet.listed c.args.recorded.now) (ahead c.args.entity.vx c.args.entity.vz c.args.entity.at) c.requires (λ f. misfit f.0))

@@ -10,7 +10,7 @@ use Rattle.fol_chunks.proofs.chunks.Chunks.step_entities.Goals as goal
 -- the entities after the movement
 moved : (c : goal.After-self-1) → take c.self.inside.entities.len (c.step_all.new.entities ++ drop (length c.step_all.new.entities) c.self.inside.entities.items) ≡ map (stepped (is_recorded c.args.chunks.now)) c.self.inside.entities.items
 moved c =
-    let all : c.step_all.new.entities ≡ map (stepped (is_recorded c.args.chunks.now)) c.self.inside.entities.items = rw (c.of.ensures, c.deref_mut.ensures.value) at c.step_all.ensures in
+    let all : c.step_all.new.entities ≡ map (stepped (is_recorded c.args.chunks.now)) c.self.inside.entities.items = rw c.deref_mut.ensures.value at c.step_all.ensures in
     let as_long : length c.step_all.new.entities ≡ length c.self.inside.entities.items = ap length all ∙ length-map c.self.inside.entities.items (stepped (is_recorded c.args.chunks.now)) in
     written c.self.inside.entities.len c.step_all.new.entities c.self.inside.entities.items as_long (omega arith) ∙ all
 
