@@ -1,12 +1,12 @@
 -- What a list of blocks in order says of each block.
-use Rattle.std.proofs.Common.{◌≡◌, ℕ, ◌<◌, ◌≤◌, ◌||◌, Bool, true, false, cond, List, [], ◌∷◌, ◌++◌, length, get_or, refl, sym, ◌∙◌, ap, ◌⊎◌, inl, inr, arith, Option, Some, None}
-use Rattle.std.specs.Prelude.{Contains, slice_set, nat_eq, if◌then◌else◌}
-use Rattle.std.specs.List.{find, filter, insert, remove}
+use Rattle.std.proofs.Common.{◌≡◌, ℕ, ◌<◌, ◌||◌, Bool, true, false, List, [], ◌∷◌, ◌++◌, length, get_or, refl, sym, ◌∙◌, ap, ◌⊎◌, inl, inr, arith, Option, Some, None}
+use Rattle.std.specs.Prelude.{Contains, nat_eq, if◌then◌else◌}
+use Rattle.std.specs.List.{find, filter}
 use Rattle.std.specs.List.Sorted.{IsStrictlySortedBy, IsPermutation, IsPartitionPoint}
-use Rattle.std.specs.Option.{option_or}
+use Rattle.std.specs.Option.{option_or, option_map}
 use Rattle.std.specs.declared.cmp.Ordering.TheVariants.{Less, Greater}
 use Rattle.std.proofs.lemmas.Bool.{cases_Bool, or_cases, eqb-true}
-use Rattle.std.proofs.lemmas.List.Elements.{All-contains, All-append, All-filter, All-set}
+use Rattle.std.proofs.lemmas.List.Elements.{All-contains, All-append, All-filter}
 use Rattle.std.proofs.lemmas.List.Sorted.{All-permutation}
 use Rattle.std.proofs.lemmas.List.Folds.{find-append}
 use Rattle.std.proofs.lemmas.List.Kept.{IsStrictlySortedBy-filter}
@@ -16,15 +16,14 @@ use Rattle.fol_model.specs.declared.places.BlockPos.{BlockPos}
 use Rattle.fol_model.specs.declared.places.ChunkPos.{ChunkPos}
 use Rattle.fol_model.specs.Geometry.{same_block, chunk_of}
 use Rattle.fol_model.specs.Universe.{block_cmp}
-use Rattle.fol_model.specs.ActionStep.{at_block}
 use Rattle.fol_model.specs.World.{block_in}
 use Rattle.fol_keyed.specs.Apart.{Untied}
 use Rattle.fol_chunks.specs.Rows.{by_place, IsBlocks}
-use Rattle.fol_keyed.proofs.Keyed.{Differ, All-removed, All-inserted, find_absent, find_at, find_removed, find_replaced, find_inserted, find_permuted, find_key, find_own, differ_append}
+use Rattle.fol_keyed.proofs.Keyed.{Differ, find_absent, find_at, find_permuted, find_key, find_own, differ_append}
 use Rattle.fol_keyed.proofs.Places.{same_block-true, same_block-self, block_cmp_total, block_cmp_tells}
-use Rattle.fol_keyed.proofs.Sorted.{differ_from_sorted, none_between, sorted_remove, sorted_set, sorted_insert}
+use Rattle.fol_keyed.proofs.Sorted.{differ_from_sorted, none_between}
 
-abbrev number_of : Option BlockAt → ℕ
+abbrev pub number_of : Option BlockAt → ℕ
 number_of None = 0
 number_of (Some x) = x.id
 
@@ -43,55 +42,11 @@ module _ (xs : List BlockAt) where
   pub differ : InOrder xs → Differ same_block same_block-true same_block-self (λ (x : BlockAt). x.at) xs
   differ s = differ_from_sorted (λ (x : BlockAt). x.at) block_cmp block_cmp_total same_block same_block-true xs s
 
-  pub block_at : (i : ℕ) (b : BlockPos) (d : BlockAt) → InOrder xs → i < length xs → ((e : BlockAt) → (get_or xs i e).at ≡ b) → (get_or xs i d).id ≡ block_in xs b
-  block_at i b d s l e = rw (block_found xs b, find_at same_block same_block-true same_block-self (λ (x : BlockAt). x.at) xs i b d (differ s) l e) refl
+  pub number_found : (i : ℕ) (b : BlockPos) (d : BlockAt) → InOrder xs → i < length xs → ((e : BlockAt) → (get_or xs i e).at ≡ b) → Some (get_or xs i d).id ≡ option_map (λ x. x.id) (find (λ x. same_block x.at b) xs)
+  number_found i b d s l e = rw (find_at same_block same_block-true same_block-self (λ (x : BlockAt). x.at) xs i b d (differ s) l e) refl
 
   pub absent : (i : ℕ) (b : BlockPos) → IsPartitionPoint (λ x. block_cmp x.at b ≡ Less) (λ x. block_cmp x.at b ≡ Greater) xs i → find (λ x. same_block x.at b) xs ≡ None
   absent i b p = find_absent same_block same_block-true same_block-self (λ (x : BlockAt). x.at) xs b (none_between (λ (x : BlockAt). x.at) block_cmp block_cmp_total xs i b p)
-
-  pub block_absent : (i : ℕ) (b : BlockPos) → IsPartitionPoint (λ x. block_cmp x.at b ≡ Less) (λ x. block_cmp x.at b ≡ Greater) xs i → 0 ≡ block_in xs b
-  block_absent i b p = rw (block_found xs b, absent i b p) refl
-
-  pub block_removed : (i : ℕ) (b : BlockPos) (n : ℕ) → InOrder xs → i < length xs → ((e : BlockAt) → (get_or xs i e).at ≡ b) → n ≡ 0 → block_in (remove xs i) ≡ at_block (block_in xs) b n
-  block_removed i b n s l e z =
-      rw z (fun_ext (λ q.
-      rw (block_found (remove xs i) q, find_removed same_block same_block-true same_block-self (λ (x : BlockAt). x.at) xs i b q (record { at = b; id = 0 }) (differ s) l e, block_found xs q) (split q)))
-    where
-      split : (q : BlockPos) → number_of (cond (same_block b q) None (find (λ x. same_block x.at q) xs)) ≡ (if same_block b q then 0 else number_of (find (λ x. same_block x.at q) xs))
-      split q = elim (cases_Bool (same_block b q)) [ inl t ↦ rw t refl | inr t ↦ rw t refl ]
-
-  pub block_replaced : (i : ℕ) (y : BlockAt) → InOrder xs → i < length xs → ((e : BlockAt) → (get_or xs i e).at ≡ y.at) → block_in (slice_set xs i y) ≡ at_block (block_in xs) y.at y.id
-  block_replaced i y s l e =
-      fun_ext (λ q.
-      rw (block_found (slice_set xs i y) q, find_replaced same_block same_block-true same_block-self (λ (x : BlockAt). x.at) xs i y q (differ s) l e, block_found xs q) (split q))
-    where
-      split : (q : BlockPos) → number_of (cond (same_block y.at q) (Some y) (find (λ x. same_block x.at q) xs)) ≡ (if same_block y.at q then y.id else number_of (find (λ x. same_block x.at q) xs))
-      split q = elim (cases_Bool (same_block y.at q)) [ inl t ↦ rw t refl | inr t ↦ rw t refl ]
-
-  pub block_inserted : (i : ℕ) (y : BlockAt) → InOrder xs → IsPartitionPoint (λ x. block_cmp x.at y.at ≡ Less) (λ x. block_cmp x.at y.at ≡ Greater) xs i → block_in (insert xs i y) ≡ at_block (block_in xs) y.at y.id
-  block_inserted i y s p =
-      fun_ext (λ q.
-      rw (block_found (insert xs i y) q, find_inserted same_block same_block-true same_block-self (λ (x : BlockAt). x.at) xs i y q (differ s) (absent i y.at p), block_found xs q) (split q))
-    where
-      split : (q : BlockPos) → number_of (cond (same_block y.at q) (Some y) (find (λ x. same_block x.at q) xs)) ≡ (if same_block y.at q then y.id else number_of (find (λ x. same_block x.at q) xs))
-      split q = elim (cases_Bool (same_block y.at q)) [ inl t ↦ rw t refl | inr t ↦ rw t refl ]
-
-  -- no number stays no number
-  pub block_stays : (b : BlockPos) (n : ℕ) → 0 ≡ block_in xs b → n ≡ 0 → block_in xs ≡ at_block (block_in xs) b n
-  block_stays b n h z = fun_ext (λ q.
-      elim (cases_Bool (same_block b q)) [
-        | inl t ↦ let e : b ≡ q = same_block-true b q t in rw t (ap (block_in xs) (sym e) ∙ sym h ∙ sym z)
-        | inr t ↦ rw t refl
-      ])
-
-  pub blocks_removed : (i : ℕ) → IsBlocks xs → IsBlocks (remove xs i)
-  blocks_removed i h = record { order = sorted_remove (λ (x : BlockAt). x.at) block_cmp block_cmp_total xs i h.order; full = All-removed (λ x. 0 < x.id) xs i h.full }
-
-  pub blocks_replaced : (i : ℕ) (y : BlockAt) → IsBlocks xs → i < length xs → ((e : BlockAt) → (get_or xs i e).at ≡ y.at) → 0 < y.id → IsBlocks (slice_set xs i y)
-  blocks_replaced i y h l e p = record { order = sorted_set (λ (x : BlockAt). x.at) block_cmp block_cmp_total xs i y h.order e l; full = All-set (λ x. 0 < x.id) xs i y p h.full }
-
-  pub blocks_inserted : (i : ℕ) (y : BlockAt) → IsBlocks xs → i ≤ length xs → IsPartitionPoint (λ x. block_cmp x.at y.at ≡ Less) (λ x. block_cmp x.at y.at ≡ Greater) xs i → 0 < y.id → IsBlocks (insert xs i y)
-  blocks_inserted i y h l p n = record { order = sorted_insert (λ (x : BlockAt). x.at) block_cmp block_cmp_total xs i y h.order l p; full = All-inserted (λ x. 0 < x.id) xs i y n h.full }
 
 -- the blocks in chunks that pass
 pub block_filtered : (p : ChunkPos → Bool) (xs : List BlockAt) → block_in (filter (λ x. p (chunk_of x.at)) xs) ≡ λ b. if p (chunk_of b) then block_in xs b else 0

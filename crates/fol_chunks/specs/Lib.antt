@@ -1,3 +1,5 @@
 pub mod Order
 pub mod Contents
 pub mod Rows
+pub mod Kept
+pub mod Held

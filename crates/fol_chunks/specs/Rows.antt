@@ -1,11 +1,12 @@
 -- The lists that hold the blocks and the entities.
-use Rattle.std.specs.Prelude.{◌<◌, List, All, if◌then◌else◌, ◌&&◌}
+use Rattle.std.specs.Prelude.{◌<◌, List, All, if◌then◌else◌, ◌&&◌, filter, nat_lt}
+use Rattle.std.specs.List.{IsDistinct}
 use Rattle.std.specs.Ordering.{nat_cmp}
 use Rattle.std.specs.List.Sorted.{IsStrictlySortedBy}
 use Rattle.std.specs.declared.cmp.Ordering.{Ordering}
 use Rattle.fol_model.specs.declared.openings.BlockAt.{BlockAt}
 use Rattle.fol_model.specs.declared.entities.Entity.{Entity}
-use Rattle.fol_model.specs.Geometry.{chunk_of}
+use Rattle.fol_model.specs.Geometry.{chunk_of, same_block}
 use Rattle.fol_model.specs.Universe.{block_cmp}
 use Rattle.fol_model.specs.ActionStep.{Recorded}
 use Rattle.fol_model.specs.FlatTick.{ahead}
@@ -21,9 +22,13 @@ pub record IsBlocks (xs : List BlockAt) : Type 0 where
   pub order : IsStrictlySortedBy by_place xs
   pub full : All (λ x. 0 < x.id) xs
 
--- blocks in order of place, none with number 0, and entities in order of id
+-- the blocks that have a number
+abbrev pub filled : List BlockAt → List BlockAt
+filled xs = filter (λ x. nat_lt 0 x.id) xs
+
+-- blocks of which no two have one place, none with number 0, and entities in order of id
 pub record IsContents (blocks : List BlockAt) (entities : List Entity) : Type 0 where
-  pub blocks_order : IsStrictlySortedBy by_place blocks
+  pub blocks_differ : IsDistinct (λ a b. same_block a.at b.at) blocks
   pub blocks_full : All (λ x. 0 < x.id) blocks
   pub entities_order : IsStrictlySortedBy by_id entities
 

@@ -1,17 +1,19 @@
 //! The blocks and entities of a region.
 
-ghost use Rattle.std.specs.Prelude.{◌≡◌, ◌+◌, ◌≤◌, ◌<◌, ℕ, IsTrue, IsNone, IfOk, OnOk, All};
+ghost use Rattle.std.specs.Prelude.{◌≡◌, ◌+◌, ◌≤◌, ◌<◌, ℕ, ◌++◌, IsTrue, IsNone, OnOk, All};
 ghost use Rattle.std.specs.Option.{option_map, option_len};
+ghost use Rattle.std.specs.List.{IsDistinct};
 ghost use Rattle.std.specs.List.Sorted.{IsStrictlySortedBy};
-ghost use Rattle.fol_model.specs.Geometry.{is_chunk, same_chunk};
+ghost use Rattle.fol_model.specs.Geometry.{is_chunk, same_block};
 ghost use Rattle.fol_model.specs.ActionStep.{Flat, at_block, at_id, standing_of};
 ghost use Rattle.fol_model.specs.FlatTick.{moved};
-ghost use Rattle.fol_model.specs.World.{block_in, standing_in};
+ghost use Rattle.fol_model.specs.World.{standing_in};
 ghost use Rattle.fol_keyed.specs.Order.{chunk_cmp};
 ghost use Rattle.fol_keyed.specs.Areas.{covers};
-ghost use Rattle.fol_chunks.specs.Rows.{by_place, by_id};
+ghost use Rattle.fol_chunks.specs.Rows.{by_id};
 
-use crate::{blocks, entities, steps};
+use crate::blocks::Blocks;
+use crate::{entities, steps};
 use fol_keyed::{Area, count_covered};
 use fol_model::{BlockAt, BlockPos, ChunkPos, Entity, Grid, SectionPos};
 use std::alloc::{AllocError, Global};
@@ -20,7 +22,7 @@ use std::marker::Model;
 /// Blocks and entities. Contracts see them as a map of blocks and the entities that stand, and how many more it can take.
 #[derive(Drop)]
 pub struct Chunks {
-    blocks: Vec<BlockAt>,
+    blocks: Blocks,
     entities: Vec<Entity>,
 }
 
@@ -28,13 +30,14 @@ impl Model for Chunks {
     ghost use Rattle.std.specs.Prelude.{◌-◌, min, vec_len};
     ghost use Rattle.std.specs.Vec.{vec_capacity};
     ghost use Rattle.fol_chunks.specs.Contents.{Contents};
-    ghost use Rattle.fol_chunks.specs.Rows.{IsContents};
+    ghost use Rattle.fol_chunks.specs.Kept.{blocks_of, room_of};
+    ghost use Rattle.fol_chunks.specs.Held.{IsHeld};
 
     ghost Value = { Contents };
 
-    ghost view = { λ c. record { blocks = c.blocks.items; entities = c.entities.items; spare = min (vec_capacity c.blocks - vec_len c.blocks) (vec_capacity c.entities - vec_len c.entities) } };
+    ghost view = { λ c. record { blocks = blocks_of c.blocks; entities = c.entities.items; spare = min (room_of c.blocks) (vec_capacity c.entities - vec_len c.entities) } };
 
-    ghost invariant = { λ c. IsContents c.blocks.items c.entities.items };
+    ghost invariant = { λ c. IsHeld c.blocks c.entities.items };
 }
 
 impl Chunks {
@@ -46,7 +49,7 @@ impl Chunks {
         ensures empty { size_of result ≡ 0 }
     {
         Chunks {
-            blocks: Vec::new(alloc),
+            blocks: Blocks::new(alloc),
             entities: Vec::new(alloc),
         }
     }
@@ -66,7 +69,7 @@ impl Chunks {
     pub fn spare(&self) -> u64
         ensures { result ≡ self.now.spare }
     {
-        let blocks = self.blocks.capacity() - self.blocks.len();
+        let blocks = self.blocks.spare();
         let entities = self.entities.capacity() - self.entities.len();
         blocks.min(entities) as u64
     }
@@ -82,26 +85,16 @@ impl Chunks {
     pub fn get(&self, at: BlockPos) -> u16
         ensures { result ≡ (flat_of self.now).blocks at }
     {
-        blocks::number_at(&self.blocks, at)
+        self.blocks.number_at(at)
     }
 
-    /// All blocks with a number above 0, by x, then y, then z. Fails only when out of memory.
-    pub fn blocks(&self, alloc: Global) -> Result<Vec<BlockAt>, AllocError>
-        ensures numbers { IfOk result (λ v. block_in v.items ≡ (flat_of self.now).blocks) }
-        ensures order { IfOk result (λ v. IsStrictlySortedBy by_place v.items) }
-        ensures none_empty { IfOk result (λ v. All (λ x. 0 < x.id) v.items) }
+    /// Adds all blocks with a number above 0 to a list, in no stated order. Fails only when out of memory.
+    pub fn add_blocks_to(&self, list: &mut Vec<BlockAt>) -> Result<(), AllocError>
+        ensures blocks { OnOk result (list.new.items ≡ list.old.items ++ self.now.blocks) }
+        ensures differ { IsDistinct (λ a b. same_block a.at b.at) self.now.blocks }
+        ensures none_empty { All (λ x. 0 < x.id) self.now.blocks }
     {
-        Vec::from_slice(alloc, &self.blocks)
-    }
-
-    /// The blocks with a number above 0, by x, then y, then z.
-    pub fn block_list(&self) -> &[BlockAt]
-        ensures items { result.now ≡ self.now.blocks }
-        ensures numbers { block_in result.now ≡ (flat_of self.now).blocks }
-        ensures order { IsStrictlySortedBy by_place result.now }
-        ensures none_empty { All (λ x. 0 < x.id) result.now }
-    {
-        &self.blocks
+        self.blocks.add_to(list)
     }
 
     /// The entities, by id.
@@ -120,7 +113,7 @@ impl Chunks {
         ensures size { size_of self.new ≤ size_of self.old + 1 }
         ensures spare { self.old.spare ≤ self.new.spare + 1 }
     {
-        blocks::put(&mut self.blocks, at, id);
+        self.blocks.set(BlockAt { at, id });
     }
 
     /// The block at which the entity stands.
@@ -162,32 +155,11 @@ impl Chunks {
         steps::step_all(&mut self.entities, chunks);
     }
 
-    /// How many blocks and entities lie in the chunk.
-    pub fn size_of_chunk(&self, c: ChunkPos) -> u64
-        ensures { result ≡ size_within (same_chunk c) self.now }
-    {
-        self.size_of_area(&Area::Chunk(c))
-    }
-
     /// How many blocks and entities lie in the part.
     pub fn size_in(&self, grid: &Grid, part: &[SectionPos]) -> u64
         ensures { result ≡ size_within (is_in grid.now part.now) self.now }
     {
         self.size_of_area(&Area::part(grid, part))
-    }
-
-    /// Moves what lies in the chunk. Takes no memory.
-    pub fn move_chunk(&mut self, c: ChunkPos, into: &mut Chunks)
-        requires apart { Apart (flat_of into.old) (within (same_chunk c) (flat_of self.old)) }
-        requires room { size_within (same_chunk c) self.old ≤ into.old.spare }
-        ensures stayed { flat_of self.new ≡ outside (same_chunk c) (flat_of self.old) }
-        ensures moved { flat_of into.new ≡ joined (flat_of into.old) (within (same_chunk c) (flat_of self.old)) }
-        ensures size { size_of self.new + size_within (same_chunk c) self.old ≡ size_of self.old }
-        ensures into_size { size_of into.new ≡ size_of into.old + size_within (same_chunk c) self.old }
-        ensures spare { self.old.spare ≤ self.new.spare }
-        ensures into_spare { into.old.spare ≤ into.new.spare + size_within (same_chunk c) self.old }
-    {
-        self.move_area(&Area::Chunk(c), into);
     }
 
     /// Takes the contents of another value in. Takes no memory.
@@ -202,7 +174,7 @@ impl Chunks {
             blocks: other_blocks,
             entities: other_entities,
         } = other;
-        blocks::merge(&mut self.blocks, other_blocks);
+        self.blocks.merge(other_blocks);
         entities::merge(&mut self.entities, other_entities);
     }
 
@@ -247,7 +219,7 @@ impl Chunks {
     fn size_of_area(&self, area: &Area) -> u64
         ensures { result ≡ size_within (covers area.now) self.now }
     {
-        (count_covered(&self.blocks, area) + count_covered(&self.entities, area)) as u64
+        (self.blocks.count(area) + count_covered(&self.entities, area)) as u64
     }
 
     /// Moves what lies in the area.
@@ -261,7 +233,7 @@ impl Chunks {
         ensures spare { self.old.spare ≤ self.new.spare }
         ensures into_spare { into.old.spare ≤ into.new.spare + size_within (covers area.now) self.old }
     {
-        blocks::move_area(&mut self.blocks, area, &mut into.blocks);
+        self.blocks.move_area(area, &mut into.blocks);
         entities::move_area(&mut self.entities, area, &mut into.entities);
     }
 }

@@ -5,9 +5,10 @@
 //!
 //! The crate promises that `get`, `set`, `find`, `take_entity` and `put_entity` read and change just what they name, that
 //! `step_entities` is the movement at the end of a tick, and that what is moved to another value or taken in from it is exactly what
-//! lies in the chunk, in the part or in the other value. Only `reserve` and `blocks` take memory. It serves the data of a region.
+//! lies in the chunks, in the part or in the other value. Only `reserve` and `add_blocks_to` take memory. It serves the data of a region.
 #![tactic(auto)]
 
+mod block_list;
 mod blocks;
 mod chunks;
 mod entities;

@@ -4,7 +4,7 @@ ghost use Rattle.std.specs.Prelude.{◌≡◌, ◌≤◌, None, IfOk};
 ghost use Rattle.fol_chunks.specs.Contents.{flat_of};
 
 use crate::Chunks;
-use fol_model::{BlockPos, ChunkPos, Entity, Grid, SectionPos, chunk_of};
+use fol_model::{BlockPos, ChunkPos, Entity, Grid, SectionPos};
 use std::alloc::{AllocError, Global};
 use std::test::Fail;
 
@@ -69,7 +69,7 @@ fn entities_walk_within_any_chunks(rt: HostRuntime) -> Result<(), Fail> {
     Ok(())
 }
 
-/// A number is set, replaced and taken away, and the blocks are listed by place.
+/// A number is set, replaced and taken away, and the blocks are listed.
 #[test]
 fn blocks_are_set_and_listed(rt: HostRuntime) -> Result<(), Fail> {
     let mut chunks = Chunks::new(rt.alloc());
@@ -82,14 +82,52 @@ fn blocks_are_set_and_listed(rt: HostRuntime) -> Result<(), Fail> {
     chunks.set(block(5, 0), 8);
     assert_eq!(rt; chunks.get(block(5, 0)), 8);
     assert_eq!(rt; chunks.get(block(5, 1)), 0);
-    let listed = chunks.blocks(rt.alloc())?;
+    let mut listed = Vec::new(rt.alloc());
+    chunks.add_blocks_to(&mut listed)?;
     assert_eq!(rt; listed.len(), 2);
-    assert_eq!(rt; listed[0].at, block(-20, 3));
-    assert_eq!(rt; listed[1].id, 8);
+    assert!(rt;
+        listed
+            .iter()
+            .any(|row| row.at == block(-20, 3) && row.id == 9)
+    );
+    assert!(rt;
+        listed
+            .iter()
+            .any(|row| row.at == block(5, 0) && row.id == 8)
+    );
     assert!(rt; chunks.spare() >= 1);
     chunks.set(block(5, 0), 0);
     assert_eq!(rt; chunks.get(block(5, 0)), 0);
     assert_eq!(rt; chunks.size(), 1);
+    Ok(())
+}
+
+/// Gives 3,000 blocks in a row the number 9, here and there, so that some stand apart, and are settled more than once on the way.
+fn set_many(chunks: &mut Chunks) -> Result<(), AllocError> {
+    for i in 0..3000 {
+        chunks.reserve(1)?;
+        chunks.set(block((i * 37) % 3001, 0), 9);
+    }
+    Ok(())
+}
+
+/// Many blocks keep their numbers, also where one loses its own and gets another.
+#[test]
+fn many_blocks_are_kept(rt: HostRuntime) -> Result<(), Fail> {
+    let mut chunks = Chunks::new(rt.alloc());
+    set_many(&mut chunks)?;
+    assert_eq!(rt; chunks.size(), 3000);
+    assert_eq!(rt; chunks.get(block(5, 0)), 9);
+    assert_eq!(rt; chunks.get(block(2964, 0)), 0);
+    chunks.reserve(2)?;
+    chunks.set(block(5, 0), 0);
+    assert_eq!(rt; chunks.get(block(5, 0)), 0);
+    assert_eq!(rt; chunks.size(), 2999);
+    let mut listed = Vec::new(rt.alloc());
+    chunks.add_blocks_to(&mut listed)?;
+    assert_eq!(rt; listed.len(), 2999);
+    set_many(&mut chunks)?;
+    assert_eq!(rt; chunks.size(), 3000);
     Ok(())
 }
 
@@ -108,7 +146,6 @@ fn a_part_moves_with_its_section(rt: HostRuntime) -> Result<(), Fail> {
     parted.reserve(8)?;
     let size = chunks.size_in(&grid, &part);
     assert_eq!(rt; size, 1);
-    assert_eq!(rt; chunks.size_of_chunk(chunk_of(block(-20, 3))), 1);
     assert!(rt; parted.size() == 0 && chunks.size_in(&grid, &part) <= parted.spare());
     chunks.move_part(&grid, &part, &mut parted);
     assert_eq!(rt; parted.get(block(-20, 3)), 9);
@@ -146,7 +183,7 @@ fn a_list_moves_with_its_chunks(rt: HostRuntime) -> Result<(), Fail> {
     assert!(rt; chunks.size_listed(&CHUNKS) <= into.spare());
     chunks.move_listed(&CHUNKS, &mut into);
     assert_eq!(rt; chunks.size(), 0);
-    assert_eq!(rt; into.block_list().len(), 1);
+    assert_eq!(rt; into.size(), 2);
     assert_eq!(rt; into.get(block(20, 0)), 9);
     assert_eq!(rt; into.entity_list().len(), 1);
     Ok(())

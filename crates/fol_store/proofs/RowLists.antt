@@ -17,7 +17,6 @@ use Rattle.fol_model.specs.World.{block_in, standing_in}
 use Rattle.fol_model.specs.ActionStep.{standing_of}
 use Rattle.fol_keyed.proofs.Keyed.{Differ}
 use Rattle.fol_keyed.proofs.Places.{same_block-true, same_block-self}
-use Rattle.fol_chunks.proofs.BlockLists.{differ as blocks_differ}
 use Rattle.fol_chunks.proofs.EntityLists.{differ as entities_differ, standing_found}
 use Rattle.fol_queues.proofs.Numbers.{nat_self}
 use Rattle.fol_queues.specs.Distinct.{Distinct}
@@ -41,7 +40,7 @@ at_any P (x ∷ xs) d p h (suc i) = at_any P xs d p (All-tail P x xs h) i
 -- nothing is listed
 nothing_listed : IsListed no_data
 unfolding IsDistinct IsStrictlySortedBy
-nothing_listed = record { contents = record { blocks_order = tt; blocks_full = All-nil (λ (x : BlockAt). 0 < x.id); entities_order = tt }; tasks = tt }
+nothing_listed = record { contents = record { blocks_differ = tt; blocks_full = All-nil (λ (x : BlockAt). 0 < x.id); entities_order = tt }; tasks = tt }
 
 abbrev pub block_key : BlockAt → BlockPos
 block_key x = x.at
@@ -104,8 +103,8 @@ module _ (s : Stock) (sound : IsSound s) (spots : All IsListed s.spots) (bags : 
   blocks_each : (w : Where) → Differ same_block same_block-true same_block-self block_key (list_at s [] blocks_of refl w)
   unfolding IsDistinct
   blocks_each arriving = tt
-  blocks_each (in_spot i) = blocks_differ (blocks_of (spot s i)) (spot_listed i).contents.blocks_order
-  blocks_each (in_bag id) = blocks_differ (blocks_of (slot s id).body) (bag_listed id).contents.blocks_order
+  blocks_each (in_spot i) = (spot_listed i).contents.blocks_differ
+  blocks_each (in_bag id) = (bag_listed id).contents.blocks_differ
 
   block_columns : (b : BlockPos) (w : Where) → column s (of_block b) w ≡ look same_block same_block-true same_block-self block_key block_value (list_at s [] blocks_of refl w) b
   block_columns b arriving = refl

@@ -115,7 +115,7 @@ fn add_body(rows: &mut Rows, body: RegionData) -> Result<(), AllocError>
         queues,
         chunks,
     } = body;
-    rows.blocks.extend_from_slice(chunks.block_list())?;
+    chunks.add_blocks_to(&mut rows.blocks)?;
     rows.entities.extend_from_slice(chunks.entity_list())?;
     add_tasks(&mut rows.tasks, tick, queues.into_tasks())
 }

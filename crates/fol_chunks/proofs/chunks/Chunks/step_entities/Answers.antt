@@ -16,8 +16,7 @@ moved c =
 
 pub invariant_of-self : goal.invariant_of-self
 invariant_of-self c = record {
-  blocks_order = c.self.invariant.blocks_order;
-  blocks_full = c.self.invariant.blocks_full;
+  blocks = c.self.invariant.blocks;
   entities_order = rw (moved c) (order_stepped (is_recorded c.args.chunks.now) _ c.self.invariant.entities_order);
 }
 

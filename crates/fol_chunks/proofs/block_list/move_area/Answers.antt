@@ -10,7 +10,7 @@ use Rattle.fol_model.specs.declared.openings.BlockAt.{BlockAt}
 use Rattle.fol_model.specs.declared.places.BlockPos.{BlockPos}
 use Rattle.fol_keyed.specs.Areas.{covers}
 use Rattle.fol_chunks.proofs.BlockLists.{block_filtered, blocks_filtered, block_joined, blocks_joined, blocks_untied, none_passes}
-use Rattle.fol_chunks.proofs.blocks.move_area.Goals as goal
+use Rattle.fol_chunks.proofs.block_list.move_area.Goals as goal
 
 pub move_covered-requires-clause-apart : goal.move_covered-requires-clause-apart
 move_covered-requires-clause-apart c =

@@ -2,7 +2,7 @@ use Rattle.std.proofs.Common.{◌++◌, arith, length-append}
 use Rattle.std.specs.List.Sorted.{IsPermutation}
 use Rattle.std.proofs.lemmas.List.Sorted.{length_permutation}
 use Rattle.fol_chunks.proofs.BlockLists.{block_joined, blocks_joined, blocks_untied}
-use Rattle.fol_chunks.proofs.blocks.merge.Goals as goal
+use Rattle.fol_chunks.proofs.block_list.merge.Goals as goal
 
 pub join-requires-clause-apart : goal.join-requires-clause-apart
 join-requires-clause-apart c = rw c.deref.ensures.value (blocks_untied c.args.blocks.now.items c.args.other.items c.args.other.items c.requires.kept c.requires.other_kept c.requires.apart)

@@ -4,7 +4,7 @@ use Rattle.fol_model.specs.Universe.{block_cmp}
 use Rattle.fol_model.specs.declared.openings.BlockAt.{BlockAt}
 use Rattle.fol_keyed.proofs.Sorted.{searched_by}
 use Rattle.fol_keyed.proofs.Places.{block_cmp_total, block_cmp_tells}
-use Rattle.fol_chunks.proofs.blocks.place_of.Goals as goal
+use Rattle.fol_chunks.proofs.block_list.place_of.Goals as goal
 
 pub returns : goal.returns
 returns c =
