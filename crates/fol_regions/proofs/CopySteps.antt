@@ -2,7 +2,6 @@
 use Rattle.std.proofs.Common.{◌≡◌, ℕ, ◌-◌, ◌*◌, ◌≤◌, ◌<◌, refl, sym, ◌∙◌, ap, arith, Bool, true, inl, inr, List, [], length, length-append}
 use Rattle.std.specs.Prelude.{◌≢◌, nat_eq, nat_lt, replicate, Option, Some, None}
 use Rattle.std.specs.List.{AllZip, list_any, slice_index_or}
-use Rattle.std.specs.Map.{lookup}
 use Rattle.std.proofs.Math.Path.{fun_ext}
 use Rattle.std.proofs.lemmas.Bool.{cases_Bool, cases_lt, le-ltb, lt-ltb, true≢false}
 use Rattle.std.proofs.lemmas.List.{get_or_past, get_or_append_left, get_or-append_right, get_or-replicate, length-replicate}
@@ -32,13 +31,12 @@ pub slots_same : (C : Region → Region → Type 0) → ((x y : Region) → C x 
 slots_same C h xs ys all = same_from_all_zip (IsSlotClone C) xs ys all (slot_same C h)
 
 -- the same regions, as many slots or more, and the same keys
-pub keys_copied : (xs ys : List (Option Region)) (room more : ℕ) (keys copied : List (ℕ × ℕ)) (fits many : ℕ) → AreKeys xs room keys fits → ys ≡ xs → room ≤ more
-    → ((id : ℕ) → lookup (nat_eq id) copied ≡ lookup (nat_eq id) keys) → 2 * more ≤ many → AreKeys ys more copied many
-keys_copied xs ys room more keys copied fits many h same l found key_room = record {
-  found = λ k r e. found r.id ∙ h.found k r (sym (ap (λ zs. slice_index_or zs k None) same) ∙ e);
+pub keys_copied : (xs ys : List (Option Region)) (room more : ℕ) (keys copied : List ℕ) → AreKeys xs room keys → ys ≡ xs → room ≤ more → copied ≡ keys → AreKeys ys more copied
+keys_copied xs ys room more keys copied h same l e = record {
+  one = λ j k q r a b. h.one j k q r (sym (ap (λ zs. slice_index_or zs j None) same) ∙ a) (sym (ap (λ zs. slice_index_or zs k None) same) ∙ b);
+  found = λ k r a. rw e (h.found k r (sym (ap (λ zs. slice_index_or zs k None) same) ∙ a));
   within = λ k m. ap (λ zs. slice_index_or zs k None) same ∙ h.within k (omega arith);
   most = omega (arith, h.most);
-  key_room = key_room;
 }
 
 -- ---- lists with more numbers

@@ -29,7 +29,7 @@ use Rattle.fol_regions.proofs.Among.{among_at}
 use Rattle.fol_regions.proofs.Chosen.{filter_like}
 use Rattle.fol_regions.proofs.JoinSteps.{same_swap}
 use Rattle.fol_regions.proofs.PartedBooks.{row_members}
-use Rattle.fol_regions.proofs.SlotSteps.{has-some, one_slot}
+use Rattle.fol_regions.proofs.SlotSteps.{has-some}
 use Rattle.fol_regions.proofs.TableSteps.{dead_if}
 
 -- each id in the first slots, once
@@ -111,14 +111,14 @@ module _ (v : SlotTable) where
         before : (k m : ℕ) → has_id id (region_at v k) ≡ true → ((j : ℕ) → m ≤ j → region_at v j ≡ None) → k < m
         before k m e none = elim (cases_lt k m) [ inl l ↦ l | inr l ↦ absurd (true≢false (sym e ∙ ap (has_id id) (none k l))) ]
 
-  module _ (keys : List (ℕ × ℕ)) (fits : ℕ) (kept : AreKeys v.regions v.room keys fits) where
+  module _ (keys : List ℕ) (kept : AreKeys v.regions v.room keys) where
     -- a slot with a region, whose id is in no slot before
     fresh_id : (n : ℕ) (r : Region) → region_at v n ≡ Some r → some_below (λ k. has_id r.id (region_at v k)) n ≡ false
     fresh_id n r here = elim (cases_Bool (some_below (λ k. has_id r.id (region_at v k)) n)) [
       | inl e ↦
           let s = some_below-gives (λ k. has_id r.id (region_at v k)) n e in
           let x = has-some r.id (region_at v s.0) s.2 in
-          let same : s.0 ≡ n = one_slot v keys fits kept s.0 n x.0 r x.1 here x.2 in
+          let same : s.0 ≡ n = kept.one s.0 n x.0 r x.1 here x.2 in
           let l = s.1 in
           absurd (omega arith)
       | inr e ↦ e

@@ -2,7 +2,6 @@
 use Rattle.std.proofs.Common.{zero, suc, ◌+◌, [], ◌∷◌, length, set, ◌≡◌, ℕ, ◌<◌, ◌≤◌, refl, sym, ◌∙◌, ap, arith, Bool, true, false, cond, inl, inr}
 use Rattle.std.specs.Prelude.{◌≢◌, nat_eq, Option, Some, None, List}
 use Rattle.std.specs.List.{slice_index_or}
-use Rattle.std.specs.Map.{lookup}
 use Rattle.std.proofs.lemmas.List.{get_or-set_same, get_or-set_other}
 use Rattle.std.proofs.Math.Path.{fun_ext}
 use Rattle.std.proofs.lemmas.Bool.{cases_Bool, cases_eq, cases_lt, true≢false, eqb-true, eq-eqb, ne_eqb}
@@ -13,7 +12,8 @@ use Rattle.fol_model.specs.GridState.{with_state}
 use Rattle.fol_laws.proofs.NumbersBelow.{least-le, least-below, least-passes}
 use Rattle.fol_regions.specs.declared.slots.Region.{Region}
 use Rattle.fol_regions.specs.Slots.{SlotTable, region_at, has_id, state_in, slot_of, slot_state}
-use Rattle.fol_regions.specs.SlotKeys.{AreKeys}
+use Rattle.fol_regions.specs.declared.slots.TheConstants.{UNKNOWN}
+use Rattle.fol_regions.specs.SlotKeys.{AreKeys, key_at}
 
 pub least-none : (p : ℕ → Bool) (n : ℕ) → ((k : ℕ) → k < n → p k ≡ false) → least p n ≡ n
 least-none p n h = elim (cases_lt (least p n) n) [
@@ -27,9 +27,6 @@ least-one p n k l h only = let b = least-below p n k l h in let m : least p n < 
 pub has-some : (id : ℕ) (o : Option Region) → has_id id o ≡ true → (r : Region) × (o ≡ Some r) × (r.id ≡ id)
 has-some id None h = absurd (true≢false (sym h))
 has-some id (Some r) h = (r, refl, eqb-true r.id id h)
-
-some_inner : (a b : ℕ) → Some a ≡ Some b → a ≡ b
-some_inner a b e = cc
 
 module _ (v : SlotTable) where
   pub slot-le : (id : ℕ) → slot_of v id ≤ v.room
@@ -49,6 +46,11 @@ module _ (v : SlotTable) where
     | inr h ↦ h
   ]
 
+  -- no slot has the region
+  pub slot_none : (id n : ℕ) → n ≡ v.room → ((k : ℕ) → k < n → has_id id (region_at v k) ≡ false) → n ≡ slot_of v id
+  unfolding slot_of
+  slot_none id n e none = e ∙ sym (least-none (λ k. has_id id (region_at v k)) v.room (λ k l. none k (omega arith)))
+
   -- a slot tells its region
   pub slot_tells : (a b : ℕ) → slot_of v a < v.room → slot_of v a ≡ slot_of v b → a ≡ b
   slot_tells a b l e =
@@ -58,35 +60,28 @@ module _ (v : SlotTable) where
       let inner : x.0 ≡ y.0 = cc in
       sym x.2 ∙ ap (λ (r : Region). r.id) inner ∙ y.2
 
-  module _ (keys : List (ℕ × ℕ)) (fits : ℕ) (kept : AreKeys v.regions v.room keys fits) where
+  module _ (keys : List ℕ) (kept : AreKeys v.regions v.room keys) where
     pub at_within : (k : ℕ) (r : Region) → region_at v k ≡ Some r → k < v.room
     at_within k r e = elim (cases_lt k v.room) [
       | inl l ↦ l
       | inr l ↦ let past : region_at v k ≡ None = kept.within k l in let x : None ≡ Some r = sym past ∙ e in absurd (cc)
     ]
 
-    -- each id stands in one slot
-    pub one_slot : (j k : ℕ) (q r : Region) → region_at v j ≡ Some q → region_at v k ≡ Some r → q.id ≡ r.id → j ≡ k
-    one_slot j k q r e f same = some_inner j k (sym (kept.found j q e) ∙ ap (λ (id : ℕ). lookup (nat_eq id) keys) same ∙ kept.found k r f)
-
     pub slot_is : (k : ℕ) (r : Region) → region_at v k ≡ Some r → slot_of v r.id ≡ k
     unfolding slot_of
     slot_is k r e = least-one (λ m. has_id r.id (region_at v m)) v.room k (at_within k r e) (ap (has_id r.id) e ∙ eq-eqb r.id r.id refl)
-        (λ m l h. let x = has-some r.id (region_at v m) h in one_slot m k x.0 r x.1 e x.2)
+        (λ m l h. let x = has-some r.id (region_at v m) h in kept.one m k x.0 r x.1 e x.2)
 
-    -- a region with no key has no slot, and neither has one whose key leads to another region
-    pub slot_missing : (id : ℕ) → lookup (nat_eq id) keys ≡ None → slot_of v id ≡ v.room
-    unfolding slot_of
-    slot_missing id e = least-none (λ m. has_id id (region_at v m)) v.room (λ m l. elim (cases_Bool (has_id id (region_at v m))) [
-      | inl h ↦ let x = has-some id (region_at v m) h in let y : None ≡ Some m = sym e ∙ ap (λ (i : ℕ). lookup (nat_eq i) keys) (sym x.2) ∙ kept.found m x.0 x.1 in absurd (cc)
-      | inr h ↦ h
-    ])
+    -- the slot that has the id
+    pub slot_at : (id k : ℕ) → has_id id (region_at v k) ≡ true → k ≡ slot_of v id
+    slot_at id k h = let x = has-some id (region_at v k) h in sym (slot_is k x.0 x.1) ∙ ap (slot_of v) x.2
 
-    pub slot_stale : (id k : ℕ) → lookup (nat_eq id) keys ≡ Some k → has_id id (region_at v k) ≡ false → slot_of v id ≡ v.room
+    -- a region whose key leads to another region, or to none, has no slot
+    pub slot_stale : (id : ℕ) → key_at keys id ≢ UNKNOWN → has_id id (region_at v (key_at keys id)) ≡ false → slot_of v id ≡ v.room
     unfolding slot_of
-    slot_stale id k e n = least-none (λ m. has_id id (region_at v m)) v.room (λ m l. elim (cases_Bool (has_id id (region_at v m))) [
+    slot_stale id known n = least-none (λ m. has_id id (region_at v m)) v.room (λ m l. elim (cases_Bool (has_id id (region_at v m))) [
       | inl h ↦ let x = has-some id (region_at v m) h in
-          let y : k ≡ m = some_inner k m (sym e ∙ ap (λ (i : ℕ). lookup (nat_eq i) keys) (sym x.2) ∙ kept.found m x.0 x.1) in
+          let y : key_at keys id ≡ m = rw x.2 at (kept.found m x.0 x.1) known in
           absurd (true≢false (sym h ∙ ap (λ (j : ℕ). has_id id (region_at v j)) (sym y) ∙ n))
       | inr h ↦ h
     ])
@@ -189,42 +184,39 @@ module _ (v w : SlotTable) (same : w.room ≡ v.room) where
       ])
 
 -- ---- the keys
-module _ (regions : List (Option Region)) (room : ℕ) (keys : List (ℕ × ℕ)) (fits : ℕ) (kept : AreKeys regions room keys fits) (f g : ℕ → Option ℕ) (i : ℕ)
-    (inv : (k : ℕ) (r : Region) → k < i → slice_index_or regions k None ≡ Some r → f r.id ≡ Some k) where
-  pub keys_skip : slice_index_or regions i None ≡ None → (k : ℕ) (r : Region) → k < i + 1 → slice_index_or regions k None ≡ Some r → f r.id ≡ Some k
-  keys_skip none k r l e = elim (cases_eq k i) [
-    | inl x ↦ let y : None ≡ Some r = sym none ∙ ap (λ (j : ℕ). slice_index_or regions j None) (sym x) ∙ e in absurd (cc)
-    | inr x ↦ inv k r (omega arith) e
-  ]
-
-  pub keys_more : (q : Region) → slice_index_or regions i None ≡ Some q → ((m : ℕ) → g m ≡ cond (nat_eq q.id m) (Some i) (f m)) → (k : ℕ) (r : Region) → k < i + 1 → slice_index_or regions k None ≡ Some r → g r.id ≡ Some k
-  keys_more q here put k r l e = elim (cases_eq k i) [
-    | inl x ↦ let y : Some q ≡ Some r = sym here ∙ ap (λ (j : ℕ). slice_index_or regions j None) (sym x) ∙ e in
-        let z : q ≡ r = cc in
-        put r.id ∙ ap (λ b. cond b (Some i) (f r.id)) (eq-eqb q.id r.id (ap (λ (s : Region). s.id) z)) ∙ ap (λ (j : ℕ). Some j) (sym x)
-    | inr x ↦ let n : nat_eq q.id r.id ≡ false = ne_eqb _ _ (λ same. x (sym (some_inner i k (sym (kept.found i q here) ∙ ap (λ (id : ℕ). lookup (nat_eq id) keys) same ∙ kept.found k r e)))) in
-        put r.id ∙ ap (λ b. cond b (Some i) (f r.id)) n ∙ inv k r (omega arith) e
-  ]
-
 -- a region comes into a free slot, and its key leads there
-pub keys_come : (v w : SlotTable) (keys keys' : List (ℕ × ℕ)) (fits fits' at : ℕ) (q : Region) → AreKeys v.regions v.room keys fits → w.room ≡ v.room → fits ≤ fits' → at < v.room → slot_of v q.id ≡ v.room
-    → region_at w at ≡ Some q → ((k : ℕ) → k ≢ at → region_at w k ≡ region_at v k) → ((m : ℕ) → lookup (nat_eq m) keys' ≡ cond (nat_eq q.id m) (Some at) (lookup (nat_eq m) keys)) → AreKeys w.regions w.room keys' fits'
-keys_come v w keys keys' fits fits' at q kept same more l absent changed others put = record {
-  found = λ k r e. elim (cases_eq k at) [
-    | inl x ↦ let y : Some q ≡ Some r = sym changed ∙ ap (region_at w) (sym x) ∙ e in
-        let z : q ≡ r = cc in
-        put r.id ∙ ap (λ b. cond b (Some at) (lookup (nat_eq r.id) keys)) (eq-eqb q.id r.id (ap (λ (s : Region). s.id) z)) ∙ ap (λ (j : ℕ). Some j) (sym x)
-    | inr x ↦ let was : region_at v k ≡ Some r = sym (others k x) ∙ e in
-        let n : nat_eq q.id r.id ≡ false = ne_eqb _ _ (λ id. true≢false (sym (ap (has_id q.id) was ∙ eq-eqb r.id q.id (sym id)) ∙ none_has v q.id k absent (at_within v keys fits kept k r was))) in
-        put r.id ∙ ap (λ b. cond b (Some at) (lookup (nat_eq r.id) keys)) n ∙ kept.found k r was
+pub keys_come : (v w : SlotTable) (keys keys' : List ℕ) (at : ℕ) (q : Region) → AreKeys v.regions v.room keys → w.room ≡ v.room → at < v.room → slot_of v q.id ≡ v.room → region_at w at ≡ Some q
+    → ((k : ℕ) → k ≢ at → region_at w k ≡ region_at v k) → (key_at keys' q.id ≢ UNKNOWN → key_at keys' q.id ≡ at) → ((m : ℕ) → m ≢ q.id → key_at keys' m ≡ key_at keys m) → AreKeys w.regions w.room keys'
+keys_come v w keys keys' at q kept same l absent changed others here put = record {
+  one = λ j k x y e f i. elim (cases_eq j at) [
+    | inl a ↦ elim (cases_eq k at) [
+      | inl b ↦ a ∙ sym b
+      | inr b ↦ absurd (differs k y (sym (others k b) ∙ f) (sym i ∙ sym (ap (λ (s : Region). s.id) (here_is j x a e))))
+    ]
+    | inr a ↦ elim (cases_eq k at) [
+      | inl b ↦ absurd (differs j x (sym (others j a) ∙ e) (i ∙ sym (ap (λ (s : Region). s.id) (here_is k y b f))))
+      | inr b ↦ kept.one j k x y (sym (others j a) ∙ e) (sym (others k b) ∙ f) i
+    ]
+  ];
+  found = λ k r e known. elim (cases_eq k at) [
+    | inl x ↦ let z : q.id ≡ r.id = ap (λ (s : Region). s.id) (here_is k r x e) in let there = rw z at here in there known ∙ sym x
+    | inr x ↦
+        let was : region_at v k ≡ Some r = sym (others k x) ∙ e in
+        let key = put r.id (differs k r was) in
+        key ∙ kept.found k r was (λ u. known (key ∙ u))
   ];
   within = λ k m. others k (λ e. absurd (omega arith)) ∙ kept.within k (omega arith);
   most = omega (arith, kept.most);
-  key_room = omega (arith, kept.key_room);
 }
+  where
+    here_is : (k : ℕ) (r : Region) → k ≡ at → region_at w k ≡ Some r → q ≡ r
+    here_is k r x e = let y : Some q ≡ Some r = sym changed ∙ ap (region_at w) (sym x) ∙ e in cc
+
+    differs : (k : ℕ) (r : Region) → region_at v k ≡ Some r → r.id ≢ q.id
+    differs k r was id = true≢false (sym (ap (has_id q.id) was ∙ eq-eqb r.id q.id id) ∙ none_has v q.id k absent (at_within v keys kept k r was))
 
 -- a slot is taken back
-module _ (v w : SlotTable) (same : w.room ≡ v.room) (keys : List (ℕ × ℕ)) (fits : ℕ) (kept : AreKeys v.regions v.room keys fits) (id at : ℕ) (is : at ≡ slot_of v id)
+module _ (v w : SlotTable) (same : w.room ≡ v.room) (keys : List ℕ) (kept : AreKeys v.regions v.room keys) (id at : ℕ) (is : at ≡ slot_of v id)
     (changed : region_at w at ≡ None) (others : (k : ℕ) → k ≢ at → region_at w k ≡ region_at v k) where
   end : (k : ℕ) → v.room ≤ k → region_at w k ≡ None
   end k l = elim (cases_eq k at) [
@@ -242,7 +234,7 @@ module _ (v w : SlotTable) (same : w.room ≡ v.room) (keys : List (ℕ × ℕ))
   removed_slots = elim (cases_lt (slot_of v id) v.room) [
     | inl l ↦ let x = slot_has v id l in
         let was : region_at v at ≡ Some x.0 = ap (region_at v) is ∙ x.1 in
-        slots-go v w same at others x.0 changed was (omega arith) end (λ k q e f. one_slot v keys fits kept k at q x.0 e was f) ∙ ap {B = ℕ → ℕ} (λ (j : ℕ). λ q. cond (nat_eq j q) v.room (slot_of v q)) x.2
+        slots-go v w same at others x.0 changed was (omega arith) end (λ k q e f. kept.one k at q x.0 e was f) ∙ ap {B = ℕ → ℕ} (λ (j : ℕ). λ q. cond (nat_eq j q) v.room (slot_of v q)) x.2
     | inr l ↦ fun_ext (λ q. slot-like v w same q (λ k. ap (has_id q) (alike (omega arith) k)) ∙ elim (cases_eq id q) [
       | inl e ↦ let t : nat_eq id q ≡ true = eq-eqb _ _ e in rw t (ap (slot_of v) (sym e) ∙ omega (arith, slot-le v id))
       | inr e ↦ let t : nat_eq id q ≡ false = ne_eqb _ _ e in rw t refl
@@ -254,7 +246,7 @@ module _ (v w : SlotTable) (same : w.room ≡ v.room) (keys : List (ℕ × ℕ))
   removed_states = elim (cases_lt (slot_of v id) v.room) [
     | inl l ↦ let x = slot_has v id l in
         let was : region_at v at ≡ Some x.0 = ap (region_at v) is ∙ x.1 in
-        states-go v w same at others x.0 changed was (omega arith) end (λ k q e f. one_slot v keys fits kept k at q x.0 e was f) ∙ ap {B = ℕ → State} (λ (j : ℕ). with_state (slot_state v) j Dead) x.2
+        states-go v w same at others x.0 changed was (omega arith) end (λ k q e f. kept.one k at q x.0 e was f) ∙ ap {B = ℕ → State} (λ (j : ℕ). with_state (slot_state v) j Dead) x.2
     | inr l ↦ fun_ext (λ q. let s = slot-like v w same q (λ k. ap (has_id q) (alike (omega arith) k)) in
         ap (λ (k : ℕ). state_in (region_at w k)) s ∙ ap state_in (alike (omega arith) (slot_of v q)) ∙ elim (cases_eq id q) [
           | inl e ↦ let t : nat_eq id q ≡ true = eq-eqb _ _ e in rw t (ap state_in (kept.within (slot_of v q) (omega (arith, ap (slot_of v) e))))
@@ -280,3 +272,23 @@ module _ (regions : List (Option Region)) (room at : ℕ) (old : Region) (state 
 
   pub set_states : at < room → slot_of v old.id ≡ at → slot_state w ≡ with_state (slot_state v) old.id state
   set_states l here = states-change v w refl at (λ k n. get_or-set_other regions at k _ None n) (record { id = old.id; state = state }) old (get_or-set_same regions at _ None (bounds regions at was)) was refl l here
+
+  before : (k : ℕ) (r : Region) → region_at w k ≡ Some r → (q : Region) × (region_at v k ≡ Some q) × (q.id ≡ r.id)
+  before k r e = elim (cases_eq k at) [
+    | inl x ↦
+        let y : Some (record { id = old.id; state = state }) ≡ Some r = sym (get_or-set_same regions at (Some (record { id = old.id; state = state })) None (bounds regions at was)) ∙ ap (region_at w) (sym x) ∙ e in
+        let z : record { id = old.id; state = state } ≡ r = cc in
+        (old, ap (region_at v) x ∙ was, ap (λ (s : Region). s.id) z)
+    | inr x ↦ (r, sym (get_or-set_other regions at k (Some (record { id = old.id; state = state })) None x) ∙ e, refl)
+  ]
+
+  pub set_keys : (keys : List ℕ) → AreKeys regions room keys → AreKeys w.regions room keys
+  set_keys keys kept = record {
+    one = λ j k q r e f i. let x = before j q e in let y = before k r f in kept.one j k x.0 y.0 x.1 y.1 (x.2 ∙ i ∙ sym y.2);
+    found = λ k r e. let x = before k r e in rw x.2 at (kept.found k x.0 x.1);
+    within = λ k m. elim (cases_eq k at) [
+      | inl x ↦ let y : None ≡ Some old = sym (kept.within at (omega arith)) ∙ was in absurd (cc)
+      | inr x ↦ get_or-set_other regions at k (Some (record { id = old.id; state = state })) None x ∙ kept.within k m
+    ];
+    most = kept.most;
+  }

@@ -38,14 +38,16 @@ impl Tables {
         self.slots.keeps_slots();
     }
 
-    /// Makes room for so many sections and so many pairs more. What the tables say stays either way.
-    pub fn reserve(&mut self, sections: usize, pairs: usize) -> Result<(), AllocError>
+    /// Makes room for so many sections, pairs and ids more. What the tables say stays either way.
+    pub fn reserve(&mut self, sections: usize, pairs: usize, ids: usize) -> Result<(), AllocError>
         ensures same { IsAlike self.old self.new }
         ensures ok { OnOk result (HasRoomFor self.new sections pairs) }
         ensures free { self.old.free ≤ self.new.free }
         ensures ahead { (total self.new.ahead ≡ total self.old.ahead) × (self.old.ahead.room ≤ self.new.ahead.room) }
         ensures behind { (total self.new.behind ≡ total self.old.behind) × (self.old.behind.room ≤ self.new.behind.room) }
     {
+        self.slots
+            .reserve_keys((self.next as usize).saturating_add(ids))?;
         self.owners.reserve(sections)?;
         self.ahead.reserve(pairs)?;
         self.behind.reserve(pairs)

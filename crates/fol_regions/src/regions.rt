@@ -30,6 +30,9 @@ use std::marker::Model;
 /// The most regions near a chunk: each has a section within the create and the merge radius of the chunk's own.
 const MOST_NEAR: usize = 625;
 
+/// The most regions that one event makes: each is a part of a split, and has the sections of a margin to itself.
+const MOST_MADE: usize = 1_820;
+
 /// The region table. Contracts see a `Table`, whose word `grid_state` is the state of the grid that it stands for.
 #[derive(Drop)]
 pub struct Regions {
@@ -114,8 +117,9 @@ impl Regions {
             return Ok(());
         }
         self.sections.reserve(n)?;
+        let events = n as usize;
         self.tables
-            .reserve(289 * n as usize, MOST_NEAR * n as usize)?;
+            .reserve(289 * events, MOST_NEAR * events, MOST_MADE * events)?;
         self.spare = n;
         Ok(())
     }

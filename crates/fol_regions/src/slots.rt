@@ -1,19 +1,21 @@
 //! The regions that are not Dead, by id.
 
-ghost use Rattle.std.specs.Prelude.{◌≡◌, ◌≢◌, ℕ, ◌+◌, ◌*◌, ◌<◌, ◌≤◌, nat_eq, nat_lt, if◌then◌else◌, Some, None, cond, IfOk, count_by, is_some};
-ghost use Rattle.std.specs.HashMap.{get as number_of, hash_map_len, spare};
+ghost use Rattle.std.specs.Prelude.{◌≡◌, ◌≢◌, ℕ, ◌<◌, ◌≤◌, nat_eq, nat_lt, if◌then◌else◌, Some, None, cond, IfOk, count_by, is_some, vec_len};
+ghost use Rattle.std.specs.Vec.{vec_capacity};
 ghost use Rattle.std.specs.List.{list_any};
 ghost use Rattle.std.specs.List.Sorted.{IsStrictlySortedBy};
 ghost use Rattle.std.specs.Ordering.{nat_cmp};
 ghost use Rattle.fol_model.specs.declared.regions.State.TheVariants.{Dead};
 ghost use Rattle.fol_model.specs.GridState.{with_state};
-ghost use Rattle.fol_regions.specs.SlotKeys.{AreKeys};
+ghost use Rattle.fol_regions.specs.SlotKeys.{key_at};
 
 use fol_model::{MOST_SECTIONS, State};
 use slab::Slab;
 use std::alloc::{AllocError, Global};
-use std::collections::HashMap;
 use std::marker::Model;
+
+/// What a key says that does not know the slot of its region: all slots are looked through then.
+const UNKNOWN: u32 = u32::MAX;
 
 /// A region that is not Dead.
 #[derive(Clone, Copy, Drop)]
@@ -24,12 +26,12 @@ pub struct Region {
     pub state: State,
 }
 
-/// A slot for each region that is not Dead. A Dead region costs nothing.
+/// A slot for each region that is not Dead. A Dead region costs its key alone.
 #[derive(Drop)]
 pub struct Slots {
     regions: Slab<Region>,
-    /// The slot of each region. Dead regions stay here until room is short: a key counts only where the slot's region has the id.
-    keys: HashMap<u64, usize>,
+    /// By id: the slot of the region. A key counts only where the slot's region has the id, so those of Dead regions stay.
+    keys: Vec<u32>,
 }
 
 impl Model for Slots {
@@ -37,29 +39,25 @@ impl Model for Slots {
 
     ghost Value = { SlotTable };
 
-    ghost use Rattle.std.specs.Prelude.{◌+◌};
-    ghost use Rattle.std.specs.HashMap.{hash_map_len, spare};
     ghost use Rattle.fol_regions.specs.SlotKeys.{AreKeys};
 
     ghost view = { λ s. record { regions = s.regions.slots; room = s.regions.capacity } };
 
-    ghost invariant = { λ s. AreKeys s.regions.slots s.regions.capacity s.keys.entries (hash_map_len s.keys + spare s.keys) };
+    ghost invariant = { λ s. AreKeys s.regions.slots s.regions.capacity s.keys.items };
 }
 
 impl Slots {
     ghost use Rattle.fol_regions.specs.declared.slots.Region.{Region};
-    ghost use Rattle.fol_regions.specs.Slots.{SlotTable, region_at, slot_of, slot_state};
+    ghost use Rattle.fol_regions.specs.Slots.{SlotTable, has_id, region_at, slot_of, slot_state};
 
     /// No region. Takes the memory for 16,384 regions.
     pub fn new(alloc: Global) -> Result<Slots, AllocError>
         ensures none { IfOk result (λ v. (id : ℕ) → slot_of v id ≡ v.room) }
         ensures room { IfOk result (λ v. MOST_SECTIONS ≤ v.room) }
     {
-        let regions = Slab::with_capacity(alloc, MOST_SECTIONS)?;
-        let most = 2 * regions.capacity();
         Ok(Slots {
-            regions,
-            keys: HashMap::with_capacity(alloc, most)?,
+            regions: Slab::with_capacity(alloc, MOST_SECTIONS)?,
+            keys: Vec::new(alloc),
         })
     }
 
@@ -70,10 +68,19 @@ impl Slots {
     {
         let mut regions = self.regions.clone()?;
         regions.reserve(self.regions.capacity() - self.regions.len())?;
-        let most = 2 * regions.capacity();
-        let mut keys = self.keys.clone()?;
-        keys.reserve(most)?;
+        let mut keys = Vec::with_capacity(alloc, self.keys.capacity())?;
+        keys.extend_from_slice(&self.keys)?;
         Ok(Slots { regions, keys })
+    }
+
+    /// Takes memory for the keys of all ids below this. Without it a region is found too, but more slowly.
+    pub fn reserve_keys(&mut self, ids: usize) -> Result<(), AllocError>
+        ensures { self.new ≡ self.old }
+    {
+        if ids > self.keys.capacity() {
+            self.keys.reserve(ids - self.keys.len())?;
+        }
+        Ok(())
     }
 
     /// How many slots there are.
@@ -96,18 +103,38 @@ impl Slots {
     pub fn find(&self, id: u64) -> usize
         ensures { result ≡ slot_of self.now id }
     {
-        match self.keys.get(&id) {
-            Some(key) => match self.regions.get(*key) {
-                Some(region) => {
-                    if region.id == id {
-                        *key
-                    } else {
-                        self.regions.capacity()
-                    }
-                }
-                None => self.regions.capacity(),
-            },
-            None => self.regions.capacity(),
+        let key = key_of(&self.keys, id);
+        if key == UNKNOWN {
+            return self.look_for(id);
+        }
+        let slot = key as usize;
+        if self.has(slot, id) {
+            slot
+        } else {
+            self.regions.capacity()
+        }
+    }
+
+    /// The slot of a region, or `room` where it has none. Goes over the slots.
+    fn look_for(&self, id: u64) -> usize
+        ensures { result ≡ slot_of self.now id }
+    {
+        let room = self.regions.capacity();
+        for slot in 0..room {
+            if self.has(slot, id) {
+                return slot;
+            }
+        }
+        room
+    }
+
+    /// Whether the region in a slot has this id.
+    fn has(&self, slot: usize, id: u64) -> bool
+        ensures { result ≡ has_id id (region_at self.now slot) }
+    {
+        match self.regions.get(slot) {
+            Some(region) => region.id == id,
+            None => false,
         }
     }
 
@@ -163,7 +190,6 @@ impl Slots {
         ensures within { result < self.old.room }
         ensures fresh { (q : ℕ) → slot_of self.old q ≢ result }
     {
-        make_key_room(&mut self.keys, &self.regions);
         let slot = self.regions.insert_reserved(Region { id, state });
         put_key(&mut self.keys, id, slot);
         slot
@@ -180,34 +206,47 @@ impl Slots {
     }
 }
 
-/// Makes room for one more key, if need be by leaving out those of Dead regions.
-fn make_key_room(keys: &mut HashMap<u64, usize>, regions: &Slab<Region>)
-    requires { AreKeys regions.now.slots regions.now.capacity keys.old.entries (hash_map_len keys.old + spare keys.old) }
-    ensures keys { AreKeys regions.now.slots regions.now.capacity keys.new.entries (hash_map_len keys.new + spare keys.new) }
-    ensures room { 0 < spare keys.new }
+/// The key of an id.
+fn key_of(keys: &[u32], id: u64) -> u32
+    ensures { result ≡ key_at keys.now id }
 {
-    if keys.len() < keys.capacity() {
-        return;
-    }
-    keys.clear();
-    for slot in 0..regions.capacity() {
-        if let Some(region) = regions.get(slot) {
-            put_key(keys, region.id, slot);
-        }
+    if id < keys.len() as u64 {
+        keys[id as usize]
+    } else {
+        UNKNOWN
     }
 }
 
-/// Puts the slot of a region.
-fn put_key(keys: &mut HashMap<u64, usize>, id: u64, slot: usize)
-    requires { 0 < spare keys.old }
-    ensures key { (q : ℕ) → number_of nat_eq keys.new q ≡ (if nat_eq id q then Some slot else number_of nat_eq keys.old q) }
-    ensures room { hash_map_len keys.old + spare keys.old ≤ hash_map_len keys.new + spare keys.new }
-    ensures spare { spare keys.old ≤ spare keys.new + 1 }
+/// The key that leads to a slot, if there is one.
+fn key_for(slot: usize) -> u32
+    ensures { result ≢ UNKNOWN → result ≡ slot }
 {
-    match keys.get_mut(&id) {
-        Some(key) => *key = slot,
-        None => {
-            let _ = keys.insert(id, slot);
-        }
+    if slot < UNKNOWN as usize {
+        slot as u32
+    } else {
+        UNKNOWN
+    }
+}
+
+/// Makes the key of an id lead to a slot, where there is memory for the key. Takes no memory.
+fn put_key(keys: &mut Vec<u32>, id: u64, slot: usize)
+    ensures here { key_at keys.new.items id ≢ UNKNOWN → key_at keys.new.items id ≡ slot }
+    ensures others { (q : ℕ) → q ≢ id → key_at keys.new.items q ≡ key_at keys.old.items q }
+{
+    if id < keys.capacity() as u64 {
+        let at = id as usize;
+        make_keys(keys, at);
+        keys[at] = key_for(slot);
+    }
+}
+
+/// Makes keys up to that of an id, for which there is memory.
+fn make_keys(keys: &mut Vec<u32>, id: usize)
+    requires { id < vec_capacity keys.old }
+    ensures there { id < vec_len keys.new }
+    ensures same { (q : ℕ) → key_at keys.new.items q ≡ key_at keys.old.items q }
+{
+    if id >= keys.len() {
+        let _ = keys.resize(id + 1, UNKNOWN);
     }
 }

@@ -1,6 +1,5 @@
 use Rattle.std.proofs.Common.{◌≡◌, ◌+◌, sym, ◌∙◌, ap, arith, inl, inr}
 use Rattle.std.specs.Prelude.{Some, None}
-use Rattle.std.specs.HashMap.{hash_map_len, spare}
 use Rattle.std.specs.List.{slice_index_or}
 use Rattle.std.specs.Option.{option_copied}
 use Rattle.fol_regions.specs.Slots.{SlotTable}
@@ -21,7 +20,7 @@ loop-slot-preserved c =
       | in-Some+in_ok-push w ↦
           let here : slice_index_or c.self.inside.regions.slots c.loop-slot.slot None ≡ Some w.in-Some.region.now = sym c.get.ensures ∙ ap option_copied w.in-Some.is in
           let items = w.in_ok-push.ensures.items in
-          rw (w.ids-is, items) (ids_more v c.self.inside.keys.entries (hash_map_len c.self.inside.keys + spare c.self.inside.keys) c.self.invariant c.loop-slot.slot c.loop-slot.ids.items w.in-Some.region.now here c.loop-slot.invariant)
+          rw (w.ids-is, items) (ids_more v c.self.inside.keys.items c.self.invariant c.loop-slot.slot c.loop-slot.ids.items w.in-Some.region.now here c.loop-slot.invariant)
       | in_default w ↦
           let none : slice_index_or c.self.inside.regions.slots c.loop-slot.slot None ≡ None = sym c.get.ensures ∙ ap option_copied w.in_default.is in
           rw w.ids-is (ids_skip v c.loop-slot.slot c.loop-slot.ids.items none c.loop-slot.invariant)

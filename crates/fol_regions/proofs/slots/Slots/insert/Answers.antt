@@ -1,5 +1,4 @@
 use Rattle.std.proofs.Common.{◌+◌, arith}
-use Rattle.std.specs.HashMap.{hash_map_len, spare}
 use Rattle.fol_regions.specs.Slots.{SlotTable}
 use Rattle.fol_regions.proofs.SlotSteps.{free_slot, keys_come, slots-come, states-come}
 use Rattle.fol_regions.proofs.slots.Slots.insert.Goals as goal
@@ -9,9 +8,8 @@ invariant_of-self c =
     let v : SlotTable = record { regions = c.self.inside.regions.slots; room = c.self.inside.regions.capacity } in
     let w : SlotTable = record { regions = c.insert_reserved-slot.new.self.slots; room = c.insert_reserved-slot.new.self.capacity } in
     let n = rw (← c.self.view_is) at c.requires.none in
-    keys_come v w c.make_key_room.new.keys.entries c.put_key.new.keys.entries (hash_map_len c.make_key_room.new.keys + spare c.make_key_room.new.keys) (hash_map_len c.put_key.new.keys + spare c.put_key.new.keys) c.insert_reserved-slot.result
-    (record { id = c.args.id; state = c.args.state }) c.make_key_room.ensures.keys c.insert_reserved-slot.ensures.capacity c.put_key.ensures.room (omega (arith, c.insert_reserved-slot.ensures.key_in_range, c.insert_reserved-slot.ensures.capacity)) n
-    c.insert_reserved-slot.ensures.updates.changed c.insert_reserved-slot.ensures.updates.others c.put_key.ensures.key
+    keys_come v w c.self.inside.keys.items c.put_key.new.keys.items c.insert_reserved-slot.result (record { id = c.args.id; state = c.args.state }) c.self.invariant c.insert_reserved-slot.ensures.capacity
+    (omega (arith, c.insert_reserved-slot.ensures.key_in_range, c.insert_reserved-slot.ensures.capacity)) n c.insert_reserved-slot.ensures.updates.changed c.insert_reserved-slot.ensures.updates.others c.put_key.ensures.here c.put_key.ensures.others
 
 pub returns-clause-slots : goal.returns-clause-slots
 returns-clause-slots c =

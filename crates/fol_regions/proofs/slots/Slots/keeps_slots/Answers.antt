@@ -1,5 +1,4 @@
 use Rattle.std.proofs.Common.{◌+◌}
-use Rattle.std.specs.HashMap.{hash_map_len, spare}
 use Rattle.fol_regions.specs.Slots.{SlotTable}
 use Rattle.fol_regions.proofs.SlotSteps.{at_within, slot_is}
 use Rattle.fol_regions.proofs.slots.Slots.keeps_slots.Goals as goal
@@ -7,9 +6,9 @@ use Rattle.fol_regions.proofs.slots.Slots.keeps_slots.Goals as goal
 pub returns-clause-own : goal.returns-clause-own
 returns-clause-own c =
     let v : SlotTable = record { regions = c.self.inside.regions.slots; room = c.self.inside.regions.capacity } in
-    rw (← c.self.view_is) (slot_is v c.self.inside.keys.entries (hash_map_len c.self.inside.keys + spare c.self.inside.keys) c.self.invariant)
+    rw (← c.self.view_is) (slot_is v c.self.inside.keys.items c.self.invariant)
 
 pub returns-clause-within : goal.returns-clause-within
 returns-clause-within c =
     let v : SlotTable = record { regions = c.self.inside.regions.slots; room = c.self.inside.regions.capacity } in
-    rw (← c.self.view_is) (at_within v c.self.inside.keys.entries (hash_map_len c.self.inside.keys + spare c.self.inside.keys) c.self.invariant)
+    rw (← c.self.view_is) (at_within v c.self.inside.keys.items c.self.invariant)

@@ -7,4 +7,4 @@ use Rattle.fol_regions.proofs.slots.Slots.new.Goals as goal
 
 pub returns-clause-none : goal.returns-clause-none
 unfolding slot_of
-returns-clause-none c = λ id. least-none _ _ (λ k l. ap (λ xs. has_id id (slice_index_or xs k None)) c.in_ok-regions.ensures.empty)
+returns-clause-none c = λ id. least-none _ _ (λ k l. ap (λ xs. has_id id (slice_index_or xs k None)) c.in_ok-with_capacity.ensures.empty)

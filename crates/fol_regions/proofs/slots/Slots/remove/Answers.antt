@@ -1,5 +1,4 @@
 use Rattle.std.proofs.Common.{◌+◌}
-use Rattle.std.specs.HashMap.{hash_map_len, spare}
 use Rattle.fol_regions.specs.Slots.{SlotTable}
 use Rattle.fol_regions.proofs.SlotSteps.{removed_slots, removed_states}
 use Rattle.fol_regions.proofs.slots.Slots.remove.Goals as goal
@@ -9,7 +8,7 @@ returns-clause-slots c =
     let v : SlotTable = record { regions = c.self.inside.regions.slots; room = c.self.inside.regions.capacity } in
     let w : SlotTable = record { regions = c.try_remove.new.self.slots; room = c.try_remove.new.self.capacity } in
     let at = rw (← c.self.view_is) at c.find-slot.ensures in
-    rw (← c.self.view_is) (removed_slots v w c.try_remove.ensures.capacity c.self.inside.keys.entries (hash_map_len c.self.inside.keys + spare c.self.inside.keys) c.self.invariant c.args.id c.find-slot.result at
+    rw (← c.self.view_is) (removed_slots v w c.try_remove.ensures.capacity c.self.inside.keys.items c.self.invariant c.args.id c.find-slot.result at
     c.try_remove.ensures.updates.changed c.try_remove.ensures.updates.others)
 
 pub returns-clause-states : goal.returns-clause-states
@@ -17,5 +16,5 @@ returns-clause-states c =
     let v : SlotTable = record { regions = c.self.inside.regions.slots; room = c.self.inside.regions.capacity } in
     let w : SlotTable = record { regions = c.try_remove.new.self.slots; room = c.try_remove.new.self.capacity } in
     let at = rw (← c.self.view_is) at c.find-slot.ensures in
-    rw (← c.self.view_is) (removed_states v w c.try_remove.ensures.capacity c.self.inside.keys.entries (hash_map_len c.self.inside.keys + spare c.self.inside.keys) c.self.invariant c.args.id c.find-slot.result at
+    rw (← c.self.view_is) (removed_states v w c.try_remove.ensures.capacity c.self.inside.keys.items c.self.invariant c.args.id c.find-slot.result at
     c.try_remove.ensures.updates.changed c.try_remove.ensures.updates.others)

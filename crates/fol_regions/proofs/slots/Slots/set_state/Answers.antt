@@ -4,9 +4,15 @@ use Rattle.std.specs.List.{slice_index_or}
 use Rattle.fol_regions.specs.declared.slots.Region.{Region}
 use Rattle.fol_model.specs.GridState.{with_state}
 use Rattle.fol_regions.specs.Slots.{SlotTable, slot_of, slot_state}
-use Rattle.fol_regions.proofs.SlotSteps.{slot_has, set_slots, set_states}
+use Rattle.fol_regions.proofs.SlotSteps.{slot_has, set_keys, set_slots, set_states}
 use Rattle.fol_regions.proofs.slots.Slots.set_state.Goals as goal
 use Rattle.fol_regions.proofs.slots.Slots.set_state.Goals.{in-Some, in_default}
+
+pub invariant_of-self : goal.invariant_of-self
+invariant_of-self c = elim c.match-get_mut.branch [
+  | in-Some w ↦ rw w.self-inside-is (set_keys c.self.inside.regions.slots c.self.inside.regions.capacity c.find-slot.result w.in-Some.region.now c.args.state (sym w.in-Some.ensures.value) c.self.inside.keys.items c.self.invariant)
+  | in_default w ↦ rw w.self-inside-is c.self.invariant
+]
 
 pub returns-clause-slots : goal.returns-clause-slots
 returns-clause-slots c =
