@@ -1,37 +1,78 @@
--- The numbers that a map by id has for the regions.
-use Rattle.std.proofs.Common.{◌≡◌, ℕ, ◌<◌, ◌∙◌, refl, sym, ap, arith, inl, inr, cond, List, [], ◌∷◌, length, get_or}
-use Rattle.std.specs.Prelude.{nat_eq, if◌then◌else◌, Option, Some}
-use Rattle.std.specs.Map.{lookup}
-use Rattle.std.specs.Option.{unwrap_or}
-use Rattle.std.proofs.lemmas.Bool.{cases_Bool, eqb-true}
+-- The numbers that are known of the regions.
+use Rattle.std.proofs.Common.{◌≡◌, ℕ, ◌<◌, ◌≤◌, ◌∙◌, refl, sym, ap, arith, inl, inr, true, false, List, [], ◌∷◌, length, get_or, set}
+use Rattle.std.specs.Prelude.{◌≢◌, nat_eq, if◌then◌else◌, min}
+use Rattle.std.proofs.lemmas.Bool.{cases_Bool, cases_eq, eq-eqb, eqb-true, ne_eqb, true≢false}
+use Rattle.std.proofs.lemmas.List.{get_or-set_same, get_or-set_other, get_or_default}
 use Rattle.fol_regions.specs.Changes.{into}
-use Rattle.fol_regions.specs.DeadBounds.{most_in, raised}
+use Rattle.fol_regions.specs.DeadBounds.{most_in, most_of, place, raised}
 use Rattle.fol_regions.specs.declared.change.MergePair.{MergePair}
-use Rattle.fol_regions.proofs.Results.{unwrap_or-cond}
+use Rattle.fol_regions.specs.declared.dead_bounds.Known.{Known}
 
-pub most_none : (entries : List (ℕ × ℕ)) → entries ≡ [] → (r : ℕ) → most_in entries r ≡ 16384
+abbrev pub nothing : Known
+nothing = record { id = 0; most = 16384 }
+
+pub most_none : (known : List Known) → ((k : ℕ) → k < 16384 → get_or known k nothing ≡ nothing) → (r : ℕ) → most_in known r ≡ 16384
 unfolding most_in
-most_none entries e r = rw e refl
+most_none known e r =
+    let here = e (place r) (omega arith) in
+    rw here (elim (cases_Bool (nat_eq 0 r)) [ inl y ↦ rw y refl | inr y ↦ rw y refl ])
 
-pub most_at : (entries : List (ℕ × ℕ)) (r : ℕ) (o : Option ℕ) → o ≡ lookup (nat_eq r) entries → unwrap_or o 16384 ≡ most_in entries r
+-- what is known in the place of a region
+most_read : (known : List Known) (r at : ℕ) (k : Known) → at ≡ place r → at < length known → k ≡ get_or known at k → most_of r k ≡ most_in known r
 unfolding most_in
-most_at entries r o e = ap (λ x. unwrap_or x 16384) e
+most_read known r at k e l here = ap (most_of r) (here ∙ get_or_default known at k nothing l ∙ ap (λ i. get_or known i nothing) e)
 
-pub most_put : (before after : List (ℕ × ℕ)) (id n : ℕ) → ((q : ℕ) → lookup (nat_eq q) after ≡ cond (nat_eq id q) (Some n) (lookup (nat_eq q) before)) → (r : ℕ) → most_in after r ≡ (if nat_eq id r then n else most_in before r)
-unfolding most_in
-most_put before after id n h r = ap (λ o. unwrap_or o 16384) (h r) ∙ unwrap_or-cond (nat_eq id r) n 16384 (lookup (nat_eq r) before)
+pub most_known : (known : List Known) (r at : ℕ) (k : Known) → at ≡ place r → at < length known → k ≡ get_or known at k → k.id ≡ r → k.most ≡ most_in known r
+most_known known r at k e l here is = let y : nat_eq k.id r ≡ true = eq-eqb _ _ is in rw y at (most_read known r at k e l here)
 
--- one more at a region that has a number
-pub most_raised : (before : List (ℕ × ℕ)) (id was n r : ℕ) → was ≡ most_in before id → n ≡ raised was → (if nat_eq id r then n else most_in before r) ≡ (if nat_eq id r then raised (most_in before r) else most_in before r)
-most_raised before id was n r e k = elim (cases_Bool (nat_eq id r)) [
-  | inl y ↦ rw y (k ∙ ap raised (e ∙ ap (most_in before) (eqb-true id r y)))
-  | inr y ↦ rw y refl
-]
+-- something is known of another region with the same place
+pub most_unknown : (known : List Known) (r at : ℕ) (k : Known) → at ≡ place r → at < length known → k ≡ get_or known at k → k.id ≢ r → 16384 ≡ most_in known r
+most_unknown known r at k e l here other = let y : nat_eq k.id r ≡ false = ne_eqb _ _ other in rw y at (most_read known r at k e l here)
 
--- a region that has no number keeps none
-pub most_kept : (before : List (ℕ × ℕ)) (id r : ℕ) → 16384 ≡ most_in before id → most_in before r ≡ (if nat_eq id r then raised (most_in before r) else most_in before r)
-most_kept before id r e = elim (cases_Bool (nat_eq id r)) [
-  | inl y ↦ let f : most_in before r ≡ 16384 = ap (most_in before) (sym (eqb-true id r y)) ∙ sym e in rw (y, f) refl
+module _ (known : List Known) (id n at : ℕ) (is : at ≡ place id) (l : at < length known) where
+  put_at : (r : ℕ) → place r ≡ at → most_in (set known at (record { id = id; most = n })) r ≡ (if nat_eq id r then n else 16384)
+  unfolding most_in
+  put_at r e = ap (λ k. most_of r (get_or (set known at (record { id = id; most = n })) k nothing)) e ∙ ap (most_of r) (get_or-set_same known at (record { id = id; most = n }) nothing l)
+
+  put_else : (r : ℕ) → place r ≢ at → most_in (set known at (record { id = id; most = n })) r ≡ most_in known r
+  unfolding most_in
+  put_else r e = ap (most_of r) (get_or-set_other known at (place r) (record { id = id; most = n }) nothing e)
+
+  other_id : (r : ℕ) → place r ≢ at → nat_eq id r ≡ false
+  other_id r e = ne_eqb id r (λ i. e (ap place (sym i) ∙ sym is))
+
+  pub most_put : (r : ℕ) → min 16384 (if nat_eq id r then n else most_in known r) ≤ most_in (set known at (record { id = id; most = n })) r
+  most_put r = elim (cases_eq (place r) at) [
+    | inl e ↦ let p = put_at r e in elim (cases_Bool (nat_eq id r)) [
+      | inl y ↦ let q = rw y at p in rw y (omega (arith, q))
+      | inr y ↦ let q = rw y at p in rw y (omega (arith, q))
+    ]
+    | inr e ↦ let y = other_id r e in rw y (omega (arith, put_else r e))
+  ]
+
+  -- one more of a region of which something is known
+  pub most_raised : (k : Known) → k ≡ get_or known at k → k.id ≡ id → n ≡ raised k.most → (r : ℕ)
+      → most_in (set known at (record { id = id; most = n })) r ≡ (if nat_eq id r then raised (most_in known r) else most_in known r)
+  most_raised k here same more r = elim (cases_eq (place r) at) [
+    | inl e ↦
+        let p = put_at r e in
+        elim (cases_Bool (nat_eq id r)) [
+          | inl y ↦
+              let q = rw y at p in
+              let old = most_known known r at k (sym e) l here (same ∙ eqb-true id r y) in
+              rw y (q ∙ more ∙ ap raised old)
+          | inr y ↦
+              let q = rw y at p in
+              let old = most_unknown known r at k (sym e) l here (λ i. true≢false (sym (eq-eqb id r (sym same ∙ i)) ∙ y)) in
+              rw y (q ∙ old)
+        ]
+    | inr e ↦ let y = other_id r e in rw y (put_else r e)
+  ]
+
+-- nothing is known of a region
+pub most_kept : (known : List Known) (id r : ℕ) → 16384 ≡ most_in known id → most_in known r ≡ (if nat_eq id r then raised (most_in known r) else most_in known r)
+most_kept known id r e = elim (cases_Bool (nat_eq id r)) [
+  | inl y ↦ let f : most_in known r ≡ 16384 = ap (most_in known) (sym (eqb-true id r y)) ∙ sym e in rw (y, f) refl
   | inr y ↦ rw y refl
 ]
 

@@ -17,6 +17,7 @@ use Rattle.fol_laws.proofs.AllSections.{some_chunk-is, some_chunk-gives}
 use Rattle.fol_laws.proofs.SamePlaces.{same_chunk-self}
 use Rattle.fol_regions.specs.Changes.{add_change, drawn_in, into}
 use Rattle.fol_regions.specs.declared.change.MergePair.{MergePair}
+use Rattle.fol_regions.specs.declared.dead_bounds.Known.{Known}
 use Rattle.fol_regions.specs.DeadBounds.{BoundsDead, dead_count, most_in}
 use Rattle.fol_regions.proofs.Chosen.{chosen_below}
 use Rattle.fol_regions.proofs.DyingSteps.{dead_few, dead_fewer}
@@ -26,11 +27,11 @@ unfolding in_margin
 same_margin g h grid holds s = rw (grid, holds) refl
 
 -- the same owners and holds
-pub bounds_same : (g h : GridState) (most : List (ℕ × ℕ)) → h.grid ≡ g.grid → h.owner ≡ g.owner → h.holds ≡ g.holds → BoundsDead g (most_in most) → BoundsDead h (most_in most)
+pub bounds_same : (g h : GridState) (most : List Known) → h.grid ≡ g.grid → h.owner ≡ g.owner → h.holds ≡ g.holds → BoundsDead g (most_in most) → BoundsDead h (most_in most)
 bounds_same g h most grid owner holds b = record { at = λ r p. omega (arith, b.at r p, dead_fewer g h r (λ s o e. (ap (λ f. f s) (sym owner) ∙ o, sym (same_margin g h grid holds s) ∙ e))) }
 
 -- nothing is known, and no region has more than 16,384
-pub bounds_none : (g : GridState) (most : List (ℕ × ℕ)) → Rules g → ((r : ℕ) → most_in most r ≡ 16384) → BoundsDead g (most_in most)
+pub bounds_none : (g : GridState) (most : List Known) → Rules g → ((r : ℕ) → most_in most r ≡ 16384) → BoundsDead g (most_in most)
 bounds_none g most rules none = record { at = λ r p. omega (arith, dead_few g r rules p, none r) }
 
 -- ---- an added hold
@@ -116,7 +117,7 @@ module _ (g : GridState) (c : ChunkPos) (rules : Rules g) (ok : IsGrid g.grid) (
   ]
 
   -- the numbers of all regions, where nothing is known any more of a region that others became part of
-  pub bounds_added : (h : GridState) → h ≡ add g c → Rules h → (old new : List (ℕ × ℕ)) → BoundsDead g (most_in old) → (merges : List MergePair) → merges ≡ (add_change g c).merges
+  pub bounds_added : (h : GridState) → h ≡ add g c → Rules h → (old new : List Known) → BoundsDead g (most_in old) → (merges : List MergePair) → merges ≡ (add_change g c).merges
       → ((t : ℕ) (us : List ℕ) → merges ≡ into t us → (r : ℕ) → min 16384 (if (nat_eq t r && nat_lt 0 (length us)) then 16384 else most_in old r) ≤ most_in new r) → BoundsDead h (most_in new)
   bounds_added h is after old new bounds merges same noted = record {
     at = λ r p.
@@ -164,7 +165,7 @@ module _ (g : GridState) (t : ℕ) (rules : Rules g) (ticks : g.state t ≡ Tick
   ]
 
   -- the numbers of all regions, where that of t is set
-  pub bounds_released : (h : GridState) → h ≡ release g t → Rules h → (old new : List (ℕ × ℕ)) (left : ℕ) → BoundsDead g (most_in old) → (left < 16384 → dead_count h t ≤ left)
+  pub bounds_released : (h : GridState) → h ≡ release g t → Rules h → (old new : List Known) (left : ℕ) → BoundsDead g (most_in old) → (left < 16384 → dead_count h t ≤ left)
       → ((r : ℕ) → min 16384 (if nat_eq t r then left else most_in old r) ≤ most_in new r) → BoundsDead h (most_in new)
   bounds_released h is after old new left bounds at_t set = record {
     at = λ r p.

@@ -22,6 +22,7 @@ use Rattle.fol_sections.specs.declared.answers.Removed.TheVariants.{Gone}
 use Rattle.fol_sections.specs.Table as sections
 use Rattle.fol_sections.proofs.Margins.{any-count}
 use Rattle.fol_regions.specs.Book.{Book}
+use Rattle.fol_regions.specs.declared.dead_bounds.Known.{Known}
 use Rattle.fol_regions.specs.DeadBounds.{BoundsDead, dead_count, is_dead_in, most_in}
 use Rattle.fol_regions.specs.Near.{row_of}
 use Rattle.fol_regions.specs.Released.{grid_of}
@@ -138,7 +139,7 @@ module _ (g h : GridState) (c : ChunkPos) (grid : h.grid ≡ g.grid) (owner : h.
       ])
 
 -- ---- the numbers that a table keeps
-module _ (s e : sections.Table) (b : Book) (c : ChunkPos) (same : e.grid ≡ s.grid) (holds : holds_of e ≡ at_chunk (holds_of s) c (holds_of s c - 1)) (old new : List (ℕ × ℕ)) (bounds : BoundsDead (grid_of s b) (most_in old)) where
+module _ (s e : sections.Table) (b : Book) (c : ChunkPos) (same : e.grid ≡ s.grid) (holds : holds_of e ≡ at_chunk (holds_of s) c (holds_of s c - 1)) (old new : List Known) (bounds : BoundsDead (grid_of s b) (most_in old)) where
   dead_is : (r : ℕ) (n : SectionPos) (k : ℕ) → count_by (λ q. nat_eq ((grid_of e b).owner q) r && not (in_margin (grid_of e b) q)) (square n k) ≡ count_by (is_dead_in e b r) (square n k)
   unfolding grid_of in_margin in_margin_of
   dead_is r n k = refl

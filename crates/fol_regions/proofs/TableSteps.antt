@@ -26,6 +26,7 @@ use Rattle.fol_regions.specs.Slots.{SlotTable, slot_of, slot_state}
 use Rattle.fol_lists.specs.Numbered.{Numbered, total}
 use Rattle.fol_regions.proofs.PartingSteps.{count_same}
 use Rattle.std.specs.List.{list_any}
+use Rattle.fol_regions.specs.declared.dead_bounds.Known.{Known}
 use Rattle.fol_regions.specs.DeadBounds.{BoundsDead, is_dead_in, most_in}
 use Rattle.fol_regions.specs.Kept.{IsKept}
 use Rattle.fol_regions.specs.Released.{IsPresence, grid_of}
@@ -94,7 +95,7 @@ module _ (grid : Grid) (s : sections.Table) (b : Book) (events near made : ℕ) 
     }
 
     -- ---- the numbers of dead sections
-    pub removed_bounds : (old new : List (ℕ × ℕ)) → BoundsDead (grid_of s b) (most_in old)
+    pub removed_bounds : (old new : List Known) → BoundsDead (grid_of s b) (most_in old)
         → (removed s c ≡ Gone → (r : ℕ) → 0 < r → min 16384 (most_in old r + (if nat_eq (loaded_count e (section_of grid c)) 0 then count_by (is_dead_in e b r) (square (section_of grid c) grid.create) else 0)) ≤ most_in new r)
         → (removed s c ≢ Gone → new ≡ old) → BoundsDead (grid_of e b) (most_in new)
     removed_bounds old new bounds gone others = elim (cases_eq (holds_of s c) 1) [
@@ -112,7 +113,7 @@ module _ (grid : Grid) (s : sections.Table) (b : Book) (events near made : ℕ) 
     unfolding grid_of
     alike_state = grid_is (grid_of e d) (grid_of s b) same.grid same.holds alike.owner alike.state alike.waits alike.next
 
-    pub alike_bounds : (most : List (ℕ × ℕ)) → BoundsDead (grid_of s b) (most_in most) → BoundsDead (grid_of e d) (most_in most)
+    pub alike_bounds : (most : List Known) → BoundsDead (grid_of s b) (most_in most) → BoundsDead (grid_of e d) (most_in most)
     unfolding grid_of
     alike_bounds most = bounds_same (grid_of s b) (grid_of e d) most same.grid alike.owner same.holds
 
@@ -150,7 +151,7 @@ module _ (grid : Grid) (s : sections.Table) (b : Book) (events near made : ℕ) 
       made = k.made;
     }
 
-    pub begun_bounds : (most : List (ℕ × ℕ)) → BoundsDead (grid_of s b) (most_in most) → BoundsDead (grid_of s d) (most_in most)
+    pub begun_bounds : (most : List Known) → BoundsDead (grid_of s b) (most_in most) → BoundsDead (grid_of s d) (most_in most)
     unfolding grid_of
     begun_bounds most = bounds_same (grid_of s b) (grid_of s d) most refl sets.owner refl
 

@@ -1,30 +1,42 @@
 //! How many dead sections each region has at most.
 
-ghost use Rattle.std.specs.Prelude.{◌≡◌, ℕ, ◌≤◌, ◌&&◌, nat_eq, nat_lt, if◌then◌else◌, min, IfOk, List, length};
+ghost use Rattle.std.specs.Prelude.{◌≡◌, ℕ, ◌<◌, ◌≤◌, ◌&&◌, nat_eq, nat_lt, if◌then◌else◌, min, IfOk, List, length};
 ghost use Rattle.fol_regions.specs.Changes.{into};
-ghost use Rattle.fol_regions.specs.DeadBounds.{most_in, raised};
+ghost use Rattle.fol_regions.specs.DeadBounds.{most_in, place, raised};
 
 use crate::MergePair;
 use fol_model::MOST_SECTIONS;
 use std::alloc::{AllocError, Global};
-use std::collections::HashMap;
 use std::marker::Model;
+
+/// A number that is known of a region.
+#[derive(Clone, Copy, Drop)]
+pub struct Known {
+    /// The region's id.
+    pub id: u64,
+    /// What its dead sections are at most.
+    pub most: u32,
+}
 
 /// A number for each region, which its dead sections are at most; 16,384 where no less is known.
 ///
-/// A release of a region with few dead sections looks at none of them. Contracts see the known numbers, of which `most_in` makes a number for each region.
+/// A release of a region with few dead sections looks at none of them. Contracts see what is known, of which `most_in` makes a number for each region.
 #[derive(Drop)]
 pub struct DeadBounds {
-    /// The regions of which less is known. One that ended stays until room is short.
-    known: HashMap<u64, u32>,
+    /// By the id modulo 16,384: what is known of the region. Of two regions with the same place only one is known.
+    known: Vec<Known>,
 }
 
 impl Model for DeadBounds {
-    ghost use Rattle.std.specs.Prelude.{ℕ, List};
+    ghost use Rattle.std.specs.Prelude.{◌≡◌, List, length};
+    ghost use Rattle.fol_model.specs.declared.places.TheConstants.{MOST_SECTIONS};
+    ghost use Rattle.fol_regions.specs.declared.dead_bounds.Known.{Known};
 
-    ghost Value = { List (ℕ × ℕ) };
+    ghost Value = { List Known };
 
-    ghost view = { λ s. s.known.entries };
+    ghost view = { λ s. s.known.items };
+
+    ghost invariant = { λ s. length s.known.items ≡ MOST_SECTIONS };
 }
 
 impl DeadBounds {
@@ -32,62 +44,55 @@ impl DeadBounds {
     pub fn new(alloc: Global) -> Result<DeadBounds, AllocError>
         ensures { IfOk result (λ most. (r : ℕ) → most_in most r ≡ MOST_SECTIONS) }
     {
-        Ok(DeadBounds {
-            known: HashMap::with_capacity(alloc, MOST_SECTIONS)?,
-        })
+        let nothing = Known {
+            id: 0,
+            most: MOST_SECTIONS as u32,
+        };
+        let mut known = Vec::with_capacity(alloc, MOST_SECTIONS)?;
+        known.resize(MOST_SECTIONS, nothing)?;
+        Ok(DeadBounds { known })
     }
 
     /// The number of a region.
     pub fn most(&self, id: u64) -> u32
         ensures { result ≡ most_in self.now id }
     {
-        most(&self.known, id)
+        let known = self.known[place(id)];
+        if known.id == id {
+            known.most
+        } else {
+            MOST_SECTIONS as u32
+        }
     }
 
-    /// Notes a number of a region. Where memory is short, less is known of others from then on, or of this one.
+    /// Notes a number of a region. Less is known of another region with the same place from then on.
     pub fn set(&mut self, id: u64, most: u32)
         ensures { (r : ℕ) → min MOST_SECTIONS (if nat_eq id r then most else most_in self.old r) ≤ most_in self.new r }
     {
-        put(&mut self.known, id, most);
+        self.known[place(id)] = Known { id, most };
     }
 
     /// A region has a dead section more.
     pub fn raise(&mut self, id: u64)
         ensures { (r : ℕ) → most_in self.new r ≡ (if nat_eq id r then raised (most_in self.old r) else most_in self.old r) }
     {
-        raise(&mut self.known, id);
+        let at = place(id);
+        let known = self.known[at];
+        if known.id == id {
+            self.known[at] = Known {
+                id,
+                most: raised(known.most),
+            };
+        }
     }
 }
 
-/// The number of a region.
-fn most(known: &HashMap<u64, u32>, id: u64) -> u32
-    ensures { result ≡ most_in known.now.entries id }
+/// Where the number of a region is.
+fn place(id: u64) -> usize
+    ensures at { result ≡ place id }
+    ensures few { result < MOST_SECTIONS }
 {
-    match known.get(&id) {
-        Some(most) => *most,
-        None => MOST_SECTIONS as u32,
-    }
-}
-
-/// Notes a number of a region, which may have one.
-fn put(known: &mut HashMap<u64, u32>, id: u64, most: u32)
-    ensures { (r : ℕ) → min MOST_SECTIONS (if nat_eq id r then most else most_in known.old.entries r) ≤ most_in known.new.entries r }
-{
-    match known.get_mut(&id) {
-        Some(entry) => *entry = most,
-        None => add(known, id, most),
-    }
-}
-
-/// Notes the first number of a region, or forgets all where there is no room for it.
-fn add(known: &mut HashMap<u64, u32>, id: u64, most: u32)
-    ensures { (r : ℕ) → min MOST_SECTIONS (if nat_eq id r then most else most_in known.old.entries r) ≤ most_in known.new.entries r }
-{
-    if known.len() < known.capacity() {
-        let _ = known.insert(id, most);
-    } else {
-        known.clear();
-    }
+    (id % MOST_SECTIONS as u64) as usize
 }
 
 /// One more, but no more than 16,384.
@@ -95,16 +100,6 @@ fn raised(n: u32) -> u32
     ensures { result ≡ raised n }
 {
     if n < MOST_SECTIONS as u32 { n + 1 } else { n }
-}
-
-/// A region has one more, where its number is known.
-fn raise(known: &mut HashMap<u64, u32>, id: u64)
-    ensures { (r : ℕ) → most_in known.new.entries r ≡ (if nat_eq id r then raised (most_in known.old.entries r) else most_in known.old.entries r) }
-{
-    match known.get_mut(&id) {
-        Some(entry) => *entry = raised(*entry),
-        None => {}
-    }
 }
 
 /// Nothing is known any more of the region that others became part of, if there is one.
