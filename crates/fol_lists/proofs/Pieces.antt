@@ -2,13 +2,13 @@
 use Rattle.std.proofs.Common.{◌≡◌, ◌≢◌, ℕ, zero, suc, ◌+◌, ◌-◌, ◌*◌, ◌≤◌, ◌<◌, refl, sym, ◌∙◌, ap, arith, inl, inr, List, [], ◌∷◌, ◌++◌, length, get_or, take, drop, length-append, length-drop}
 use Rattle.std.specs.Prelude.{slice_set, sum_by, replicate}
 use Rattle.std.specs.List.{All, slice_range}
-use Rattle.std.proofs.lemmas.List.{take-append-le, drop-append-le, take_all, drop_at, map-set, set-get_or, get_or-map, length-map, length-set, length-take-le, get_or-set_other, get_or-set_same, set-set, map-append}
+use Rattle.std.proofs.lemmas.List.{get_or_default, get_or_past, get_or_append_left, get_or-append_right, get_or-replicate, length-replicate, length-take, take-append-drop, take-append-le, drop-append-le, take_all, drop_at, map-set, set-get_or, get_or-map, length-map, length-set, length-take-le, get_or-set_other, get_or-set_same, set-set, map-append}
 use Rattle.std.proofs.lemmas.List.Elements.{All-set, All-weaker, All-append, All-replicate}
 use Rattle.std.proofs.lemmas.List.Sums.{sum_by-set, sum_by-append, get_or-le-sum_by}
 use Rattle.std.proofs.lemmas.List.Folds.{sum_by-replicate}
-use Rattle.std.proofs.lemmas.Bool.{cases_eq}
+use Rattle.std.proofs.lemmas.Bool.{cases_eq, cases_lt}
 use Rattle.fol_lists.specs.declared.spans.Span.{Span}
-use Rattle.fol_lists.specs.Spans.{IsSpan, AreSpans, piece_of, pieces_of}
+use Rattle.fol_lists.specs.Spans.{IsLast, IsSpan, AreSpans, piece_of, pieces_of}
 
 -- ---- more elements behind
 pub piece-front : {T : Type 0} (xs ys : List T) (span : Span) → IsSpan (length xs) span → piece_of (xs ++ ys) span ≡ piece_of xs span
@@ -81,61 +81,24 @@ module _ {T : Type 0} (lists : List (List T)) (n : ℕ) (l : n < length lists) w
   total-set : (xs : List T) → sum_by length (slice_set lists n xs) + length (get_or lists n []) ≡ sum_by length lists + length xs
   total-set xs = sum_by-set length lists n xs [] l
 
-  pub total_cleared : sum_by length (slice_set lists n []) + length (get_or lists n []) ≡ sum_by length lists
-  total_cleared = omega (arith, total-set [])
-
   pub total_grown : (xs : List T) → sum_by length (slice_set lists n (get_or lists n [] ++ xs)) ≡ sum_by length lists + length xs
   total_grown xs = omega (arith, total-set (get_or lists n [] ++ xs), length-append (get_or lists n []) xs)
 
-  pub total_put : (xs : List T) → sum_by length (slice_set lists n []) + length xs ≡ sum_by length (slice_set lists n xs)
-  total_put xs = omega (arith, total-set xs, total-set [])
+  -- the list is another one, and then longer
+  pub total_put : (front xs : List T) → sum_by length (slice_set lists n front) + length xs ≡ sum_by length (slice_set lists n (front ++ xs))
+  total_put front xs = omega (arith, total-set (front ++ xs), total-set front, length-append front xs)
 
-  pub put_is : (xs : List T) → slice_set (slice_set lists n []) n (get_or (slice_set lists n []) n [] ++ xs) ≡ slice_set lists n xs
-  put_is xs = set-set lists n [] (get_or (slice_set lists n []) n [] ++ xs) ∙ ap (λ ys. slice_set lists n (ys ++ xs)) (get_or-set_same lists n [] [] l)
+  pub put_is : (front xs : List T) → slice_set (slice_set lists n front) n (get_or (slice_set lists n front) n [] ++ xs) ≡ slice_set lists n (front ++ xs)
+  put_is front xs = set-set lists n front (get_or (slice_set lists n front) n [] ++ xs) ∙ ap (λ ys. slice_set lists n (ys ++ xs)) (get_or-set_same lists n front [] l)
+
+  pub total_cut : (len : ℕ) → sum_by length (slice_set lists n (take len (get_or lists n []))) ≤ sum_by length lists
+  total_cut len = omega (arith, total-set (take len (get_or lists n [])), length-take len (get_or lists n []))
 
   pub length_listed : length (get_or lists n []) ≤ sum_by length lists
   length_listed = get_or-le-sum_by length lists n [] l
 
-module _ {T : Type 0} (lists : List (List T)) (n m : ℕ) (l : n < length lists) (k : m < length lists) (apart : n ≢ m) where
-  pub total_joined : sum_by length (slice_set (slice_set lists n (get_or lists n [] ++ get_or lists m [])) m []) ≡ sum_by length lists
-  total_joined =
-      let e = get_or-set_other lists n m (get_or lists n [] ++ get_or lists m []) [] (λ h. apart (sym h)) in
-      omega (
-        arith,
-        ap length e,
-        total_grown lists n l (get_or lists m []),
-        total_cleared (slice_set lists n (get_or lists n [] ++ get_or lists m [])) m (omega (arith, length-set lists n (get_or lists n [] ++ get_or lists m []))),
-      )
-
-  pub length_both : length (get_or lists n []) + length (get_or lists m []) ≤ sum_by length lists
-  length_both =
-      let e = get_or-set_other lists n m [] [] (λ h. apart (sym h)) in
-      omega (arith, ap length e, total_cleared lists n l, length_listed (slice_set lists n []) m (omega (arith, length-set lists n [])))
-
--- the list that stands at the second number after the first one took it over
-swapped_at : {T : Type 0} (lists : List (List T)) (n m : ℕ) → n < length lists → get_or (slice_set lists n (get_or lists m [])) m [] ≡ get_or lists m []
-swapped_at lists n m l = elim (cases_eq m n) [
-  | inl e ↦ ap (λ k. get_or (slice_set lists n (get_or lists m [])) k []) e ∙ get_or-set_same lists n (get_or lists m []) [] l
-  | inr e ↦ get_or-set_other lists n m (get_or lists m []) [] e
-]
-
-pub total_swapped : {T : Type 0} (lists : List (List T)) (n m : ℕ) → n < length lists → m < length lists
-    → sum_by length (slice_set (slice_set lists n (get_or lists m [])) m (get_or lists n [])) ≡ sum_by length lists
-total_swapped lists n m l k =
-    omega (
-      arith,
-      ap length (swapped_at lists n m l),
-      total-set lists n l (get_or lists m []),
-      total-set (slice_set lists n (get_or lists m [])) m (omega (arith, length-set lists n (get_or lists m []))) (get_or lists n []),
-    )
-
 pub length_listed_at : {T : Type 0} (cells : List T) (spans : List Span) (n : ℕ) → n < length spans → length (get_or (pieces_of cells spans) n []) ≤ sum_by length (pieces_of cells spans)
 length_listed_at cells spans n l = length_listed (pieces_of cells spans) n (omega (arith, length-map spans (piece_of cells)))
-
-pub length_both_at : {T : Type 0} (cells : List T) (spans : List Span) (n m : ℕ) → n < length spans → m < length spans → n ≢ m
-    → length (get_or (pieces_of cells spans) n []) + length (get_or (pieces_of cells spans) m []) ≤ sum_by length (pieces_of cells spans)
-length_both_at cells spans n m l k apart =
-    length_both (pieces_of cells spans) n m (omega (arith, length-map spans (piece_of cells))) (omega (arith, length-map spans (piece_of cells))) apart
 
 -- ---- the lists after a step
 module _ {T : Type 0} (cells : List T) (spans : List Span) (room n : ℕ) (l : n < length spans) (d : Span) (fit : All (IsSpan (length cells)) spans)
@@ -153,59 +116,133 @@ module _ {T : Type 0} (cells : List T) (spans : List Span) (room n : ℕ) (l : n
     used = omega (arith, length-append cells xs);
   }
 
-  pub spans_cleared : length cells ≤ 2 * room → AreSpans cells (slice_set spans n (record { from = 0; to = 0 })) room
-  spans_cleared used = record {
-    fit = All-set (IsSpan (length cells)) spans n (record { from = 0; to = 0 }) (record { rising = omega arith; within = omega arith }) fit;
-    few = omega (arith, ap (sum_by length) (pieces-set cells spans n l d (record { from = 0; to = 0 })), total_cleared (pieces_of cells spans) n len);
-    used = used;
+-- ---- a list is cut
+take_front : {X : Type 0} (n m : ℕ) (xs : List X) → n ≤ m → take n (take m xs) ≡ take n xs
+take_front zero m xs l = refl
+take_front (suc n) zero xs l = absurd (omega arith)
+take_front (suc n) (suc m) [] l = refl
+take_front (suc n) (suc m) (x ∷ xs) l = ap (λ ys. x ∷ ys) (take_front n m xs (omega arith))
+
+module _ {T : Type 0} (cells : List T) (spans : List Span) (n : ℕ) (l : n < length spans) (d : Span) (fit : All (IsSpan (length cells)) spans) (len : ℕ)
+    (few : len ≤ length (get_or (pieces_of cells spans) n [])) (s : Span) (from : s.from ≡ (get_or spans n d).from) (to : s.to ≡ (get_or spans n d).from + len) where
+  few_places : s.to ≤ (get_or spans n d).to
+  few_places = omega (arith, few, length_at cells spans n d l fit, (fit n d l).rising)
+
+  front_piece : piece_of cells s ≡ take len (piece_of cells (get_or spans n d))
+  front_piece =
+      ap (λ k. take k (drop s.from cells)) (let e : s.to - s.from ≡ len = omega arith in e) ∙ ap (λ k. take len (drop k cells)) from
+      ∙ sym (take_front len ((get_or spans n d).to - (get_or spans n d).from) (drop (get_or spans n d).from cells) (omega (arith, few, length_at cells spans n d l fit)))
+
+  pub pieces_cut : pieces_of cells (slice_set spans n s) ≡ slice_set (pieces_of cells spans) n (take len (get_or (pieces_of cells spans) n []))
+  pieces_cut = pieces-set cells spans n l d s ∙ ap (λ p. slice_set (pieces_of cells spans) n p) (front_piece ∙ ap (take len) (sym (piece_at cells spans n l d)))
+
+  pub fit_cut : All (IsSpan (length cells)) (slice_set spans n s)
+  fit_cut = All-set (IsSpan (length cells)) spans n s (record { rising = omega arith; within = omega (arith, few_places, (fit n d l).within) }) fit
+
+  pub spans_cut : (room : ℕ) → AreSpans cells spans room → AreSpans cells (slice_set spans n s) room
+  spans_cut room h = record { fit = fit_cut; few = omega (arith, h.few, ap (sum_by length) pieces_cut, total_cut (pieces_of cells spans) n (omega (arith, length-map spans (piece_of cells))) len); used = h.used }
+
+  pub last_cut : (last : ℕ) → IsLast spans last → IsLast (slice_set spans n s) last
+  last_cut last h = record {
+    before = λ k e b other.
+        let in_spans : k < length spans = omega (arith, b, length-set spans n s) in
+        let same = get_or_default spans n e d l in
+        elim (cases_eq k n) [
+          | inl x ↦
+              let here = ap (λ i. get_or (slice_set spans n s) i e) x ∙ get_or-set_same spans n s e l in
+              let there = get_or-set_other spans n last s e (λ y. other (x ∙ sym y)) in
+              let low = h.before n e l (λ y. other (x ∙ y)) in
+              omega (arith, ap (λ (i : Span). i.to) here, ap (λ (i : Span). i.from) there, low, ap (λ (i : Span). i.to) same, few_places)
+          | inr x ↦
+              let here = get_or-set_other spans n k s e x in
+              let low = h.before k e in_spans other in
+              elim (cases_eq last n) [
+                | inl y ↦
+                    let there = ap (λ i. get_or (slice_set spans n s) i e) y ∙ get_or-set_same spans n s e l in
+                    let was = ap (λ i. get_or spans i e) y in
+                    omega (arith, ap (λ (i : Span). i.to) here, ap (λ (i : Span). i.from) there, low, ap (λ (i : Span). i.from) was, ap (λ (i : Span). i.from) same, from)
+                | inr y ↦
+                    let there = get_or-set_other spans n last s e y in
+                    omega (arith, ap (λ (i : Span). i.to) here, ap (λ (i : Span). i.from) there, low)
+              ]
+        ];
   }
 
-module _ {T : Type 0} (cells : List T) (spans : List Span) (room n m : ℕ) (l : n < length spans) (k : m < length spans) (apart : n ≢ m) (d : Span)
-    (fit : All (IsSpan (length cells)) spans) (few : sum_by length (pieces_of cells spans) ≤ room) where
-  len_n : n < length (pieces_of cells spans)
-  len_n = omega (arith, length-map spans (piece_of cells))
+  -- the last list, with nothing behind it
+  module _ (h : IsLast spans n) where
+    long : length (take s.to cells) ≡ s.to
+    long = length-take-le s.to cells (omega (arith, few_places, (fit n d l).within))
 
-  len_m : m < length (pieces_of cells spans)
-  len_m = omega (arith, length-map spans (piece_of cells))
+    pub fit_shorter : All (IsSpan (length (take s.to cells))) (slice_set spans n s)
+    fit_shorter = λ k e b.
+        let in_spans : k < length spans = omega (arith, b, length-set spans n s) in
+        elim (cases_eq k n) [
+          | inl x ↦
+              let here = ap (λ i. get_or (slice_set spans n s) i e) x ∙ get_or-set_same spans n s e l in
+              rw here (record { rising = omega arith; within = omega (arith, long) })
+          | inr x ↦
+              let here = get_or-set_other spans n k s e x in
+              let low = h.before k e in_spans x in
+              rw here (record { rising = (fit k e in_spans).rising; within = omega (arith, low, long, from, ap (λ (i : Span). i.from) (get_or_default spans n e d l)) })
+        ]
 
-  pub pieces_joined : (s : Span) → (get_or spans n d).to ≡ length cells → s.from ≡ (get_or spans n d).from → s.to ≡ length (cells ++ piece_of cells (get_or spans m d))
-      → pieces_of (cells ++ piece_of cells (get_or spans m d)) (slice_set (slice_set spans n s) m (record { from = 0; to = 0 }))
-      ≡ slice_set (slice_set (pieces_of cells spans) n (get_or (pieces_of cells spans) n [] ++ get_or (pieces_of cells spans) m [])) m []
-  pieces_joined s last from to =
-      map-set (piece_of (cells ++ piece_of cells (get_or spans m d))) (slice_set spans n s) m (record { from = 0; to = 0 })
-      ∙ ap (λ ps. slice_set ps m []) (pieces_grown cells spans n l d (piece_of cells (get_or spans m d)) s fit last from to)
-      ∙ ap (λ p. slice_set (slice_set (pieces_of cells spans) n (get_or (pieces_of cells spans) n [] ++ p)) m []) (sym (piece_at cells spans m k d))
+    pub pieces_shorter : pieces_of (take s.to cells) (slice_set spans n s) ≡ slice_set (pieces_of cells spans) n (take len (get_or (pieces_of cells spans) n []))
+    pieces_shorter = sym (pieces-front (take s.to cells) (drop s.to cells) (slice_set spans n s) fit_shorter) ∙ ap (λ cs. pieces_of cs (slice_set spans n s)) (take-append-drop s.to cells) ∙ pieces_cut
 
-  pub spans_joined : (s : Span) → (get_or spans n d).to ≡ length cells → s.from ≡ (get_or spans n d).from → s.to ≡ length (cells ++ piece_of cells (get_or spans m d))
-      → length (cells ++ piece_of cells (get_or spans m d)) ≤ 2 * room
-      → AreSpans (cells ++ piece_of cells (get_or spans m d)) (slice_set (slice_set spans n s) m (record { from = 0; to = 0 })) room
-  spans_joined s last from to used =
-      let longer = length-append cells (piece_of cells (get_or spans m d)) in
-      record {
-        fit = All-set (IsSpan (length (cells ++ piece_of cells (get_or spans m d)))) (slice_set spans n s) m (record { from = 0; to = 0 }) (record { rising = omega arith; within = omega arith })
-            (All-set (IsSpan (length (cells ++ piece_of cells (get_or spans m d)))) spans n s
-            (record { rising = omega (arith, (fit n d l).rising, (fit n d l).within); within = omega arith })
-            (fit_longer (length cells) (length (cells ++ piece_of cells (get_or spans m d))) spans (omega arith) fit));
-        few = omega (arith, ap (sum_by length) (pieces_joined s last from to), total_joined (pieces_of cells spans) n m len_n len_m apart);
-        used = used;
-      }
+    pub spans_shorter : (room : ℕ) → AreSpans cells spans room → AreSpans (take s.to cells) (slice_set spans n s) room
+    spans_shorter room h = record {
+      fit = fit_shorter;
+      few = omega (arith, h.few, ap (sum_by length) pieces_shorter, total_cut (pieces_of cells spans) n (omega (arith, length-map spans (piece_of cells))) len);
+      used = omega (arith, h.used, length-take s.to cells);
+    }
 
--- ---- two spans exchanged
-module _ {T : Type 0} (cells : List T) (spans : List Span) (room n m : ℕ) (l : n < length spans) (k : m < length spans) (s t : Span)
-    (one : (d : Span) → s ≡ get_or spans n d) (two : (d : Span) → t ≡ get_or spans m d) where
-  pub pieces_swapped : pieces_of cells (slice_set (slice_set spans n t) m s) ≡ slice_set (slice_set (pieces_of cells spans) n (get_or (pieces_of cells spans) m [])) m (get_or (pieces_of cells spans) n [])
-  pieces_swapped =
-      map-set (piece_of cells) (slice_set spans n t) m s
-      ∙ ap (λ ps. slice_set ps m (piece_of cells s)) (map-set (piece_of cells) spans n t)
-      ∙ ap (λ p. slice_set (slice_set (pieces_of cells spans) n p) m (piece_of cells s)) (ap (piece_of cells) (two s) ∙ sym (piece_at cells spans m k s))
-      ∙ ap (λ p. slice_set (slice_set (pieces_of cells spans) n (get_or (pieces_of cells spans) m [])) m p) (ap (piece_of cells) (one s) ∙ sym (piece_at cells spans n l s))
-
-  pub spans_swapped : AreSpans cells spans room → AreSpans cells (slice_set (slice_set spans n t) m s) room
-  spans_swapped h = record {
-    fit = All-set (IsSpan (length cells)) (slice_set spans n t) m s (let e = one s in rw e (h.fit n s l)) (All-set (IsSpan (length cells)) spans n t (let e = two s in rw e (h.fit m s k)) h.fit);
-    few = omega (arith, h.few, ap (sum_by length) pieces_swapped, total_swapped (pieces_of cells spans) n m (omega (arith, length-map spans (piece_of cells))) (omega (arith, length-map spans (piece_of cells))));
-    used = h.used;
+-- ---- the last list
+module _ (spans : List Span) (n : ℕ) (l : n < length spans) (s : Span) where
+  -- a list moved behind all others
+  pub last_moved : (m : ℕ) → All (IsSpan m) spans → s.from ≡ m → IsLast (slice_set spans n s) n
+  last_moved m fit e = record {
+    before = λ k d b other.
+        let here = get_or-set_other spans n k s d other in
+        let there = get_or-set_same spans n s d l in
+        omega (arith, ap (λ (i : Span). i.to) here, ap (λ (i : Span). i.from) there, e, (fit k d (omega (arith, b, length-set spans n s))).within);
   }
+
+  -- the last list with another end
+  pub last_grown : (e : Span) → s.from ≡ (get_or spans n e).from → IsLast spans n → IsLast (slice_set spans n s) n
+  last_grown e from h = record {
+    before = λ k d b other.
+        let here = get_or-set_other spans n k s d other in
+        let there = get_or-set_same spans n s d l in
+        omega (arith, ap (λ (i : Span). i.to) here, ap (λ (i : Span). i.from) there, from, ap (λ (i : Span). i.from) (get_or_default spans n e d l), h.before k d (omega (arith, b, length-set spans n s)) other);
+  }
+
+-- empty lists behind
+pub last_added : (spans : List Span) (m n : ℕ) → IsLast spans n → IsLast (spans ++ replicate m (record { from = 0; to = 0 })) n
+last_added spans m n h = record {
+  before = λ k d b other.
+      let all = length-append spans (replicate m empty) in
+      elim (cases_lt k (length spans)) [
+        | inr a ↦
+            let here = get_or-append_right spans (replicate m empty) (length spans) k d refl a ∙ get_or-replicate m (k - length spans) empty d (omega (arith, b, all, length-replicate {A = Span} m empty)) in
+            omega (arith, ap (λ (i : Span). i.to) here)
+        | inl a ↦
+            let here = get_or_append_left spans (replicate m empty) d k a in
+            elim (cases_lt n (length spans)) [
+              | inl c ↦
+                  let there = get_or_append_left spans (replicate m empty) d n c in
+                  omega (arith, ap (λ (i : Span). i.to) here, ap (λ (i : Span). i.from) there, h.before k d a other)
+              | inr c ↦
+                  let there = get_or_past spans n empty c in
+                  omega (arith, ap (λ (i : Span). i.to) here, ap (λ (i : Span). i.to) (get_or_default spans k d empty a), ap (λ (i : Span). i.from) there, h.before k empty a other)
+            ]
+      ];
+}
+  where
+    empty : Span
+    empty = record { from = 0; to = 0 }
+
+pub last_empty : (n : ℕ) → IsLast [] n
+last_empty n = record { before = λ k d b. absurd (omega arith) }
 
 -- ---- empty lists
 -- spans that were resized to so many more

@@ -1,11 +1,11 @@
 -- What the lists are seen as, after a step on the spans.
-use Rattle.std.proofs.Common.{◌≡◌, ℕ, ◌-◌, ◌≤◌, List, [], ◌∷◌, ◌++◌, refl, sym, ◌∙◌, ap, length, ◌<◌, arith}
+use Rattle.std.proofs.Common.{◌≡◌, ℕ, ◌-◌, ◌≤◌, List, [], ◌∷◌, ◌++◌, refl, sym, ◌∙◌, ap, length, take, drop, ◌<◌, arith}
 use Rattle.fol_lists.specs.declared.spans.Span.{Span}
 use Rattle.std.specs.Prelude.{replicate}
 use Rattle.fol_lists.specs.Numbered.{Numbered, with_numbers}
 use Rattle.fol_lists.proofs.Pieces.{pieces_added}
 use Rattle.fol_lists.specs.Spans.{piece_of, pieces_of}
-use Rattle.std.proofs.lemmas.List.{length-map}
+use Rattle.std.proofs.lemmas.List.{append-nil, drop_all, length-map, take_all}
 
 -- the lists of these spans, in so much room
 abbrev pub numbered : {T : Type 0} → List (List T) → ℕ → Numbered T
@@ -18,16 +18,16 @@ numbered_is xs ys room e = ap (λ lists. numbered lists room) e
 pub spanned : {T : Type 0} (cells : List T) (spans : List Span) (n : ℕ) → n < length (pieces_of cells spans) → n < length spans
 spanned cells spans n l = omega (arith, length-map spans (piece_of cells))
 
-append-none : {X : Type 0} (xs : List X) → xs ++ [] ≡ xs
-append-none [] = refl
-append-none (x ∷ xs) = ap (λ ys. x ∷ ys) (append-none xs)
+-- a list that was written over as a whole
+pub all_written : {X : Type 0} (new old : List X) (n : ℕ) → length new ≡ length old → n ≡ length old → take n (new ++ drop (length new) old) ≡ new
+all_written new old n e f = ap (λ ys. take n (new ++ ys)) (drop_all (length new) old (omega (arith, e))) ∙ ap (take n) (append-nil new) ∙ take_all n new (omega (arith, e, f))
 
 -- as many lists as are wanted, or more
 pub numbers_enough : {T : Type 0} (cells : List T) (spans : List Span) (room n : ℕ) → n ≤ length spans → numbered (pieces_of cells spans) room ≡ with_numbers (numbered (pieces_of cells spans) room) n
 numbers_enough {T} cells spans room n l =
     let none : n - length (pieces_of cells spans) ≡ 0 = omega (arith, length-map spans (piece_of cells)) in
     numbered_is (pieces_of cells spans) (pieces_of cells spans ++ replicate (n - length (pieces_of cells spans)) []) room
-    (sym (ap (λ k. pieces_of cells spans ++ replicate k []) none ∙ append-none (pieces_of cells spans)))
+    (sym (ap (λ k. pieces_of cells spans ++ replicate k []) none ∙ append-nil (pieces_of cells spans)))
 
 -- after the spans were resized
 pub numbers_added : {T : Type 0} (cells : List T) (spans : List Span) (room n len : ℕ) → len ≡ length spans

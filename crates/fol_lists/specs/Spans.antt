@@ -1,6 +1,6 @@
 -- Lists by where they begin and end among all elements.
-use Rattle.std.specs.Prelude.{ℕ, ◌<◌, ◌≤◌, ◌*◌, ◌^◌, List, length, map, sum_by}
-use Rattle.std.specs.List.{All, slice_range}
+use Rattle.std.specs.Prelude.{◌≢◌, ℕ, ◌<◌, ◌≤◌, ◌*◌, ◌^◌, List, length, map, sum_by}
+use Rattle.std.specs.List.{All, slice_index_or, slice_range}
 use Rattle.fol_lists.specs.declared.spans.Span.{Span}
 
 abbrev pub piece_of : {T : Type 0} → List T → Span → List T
@@ -26,3 +26,7 @@ pub record HasRoom (room capacity other : ℕ) : Type 0 where
   pub few : room < 2 ^ 62
   pub cells : 2 * room ≤ capacity
   pub spare : 2 * room ≤ other
+
+-- every other list lies before this one
+pub record IsLast (spans : List Span) (n : ℕ) : Type 0 where
+  pub before : (k : ℕ) (d : Span) → k < length spans → k ≢ n → (slice_index_or spans k d).to ≤ (slice_index_or spans n d).from

@@ -1,9 +1,9 @@
 //! Elements in one vector, and the lists as spans of it.
 
-ghost use Rattle.std.specs.Prelude.{◌≡◌, ◌≢◌, ℕ, ◌+◌, ◌-◌, ◌*◌, ◌<◌, ◌≤◌, ◌^◌, List, [], ◌++◌, length, slice_set, sum_by, vec_len};
+ghost use Rattle.std.specs.Prelude.{◌≡◌, ℕ, ◌+◌, ◌-◌, ◌*◌, ◌<◌, ◌≤◌, ◌^◌, List, [], ◌++◌, length, slice_set, sum_by, take, vec_len};
 ghost use Rattle.std.specs.List.{All, slice_range, slice_index_or};
 ghost use Rattle.std.specs.Vec.{vec_capacity};
-ghost use Rattle.fol_lists.specs.Spans.{AreSpans, HasRoom, IsSpan, piece_of, pieces_of};
+ghost use Rattle.fol_lists.specs.Spans.{AreSpans, HasRoom, IsLast, IsSpan, piece_of, pieces_of};
 
 use crate::spans::Span;
 use std::mem;
@@ -78,51 +78,55 @@ fn write_again<T: Copy>(cells: &mut Vec<T>, span: Span)
     let _ = cells.extend_from_within(span.from..span.to);
 }
 
-/// Moves a list behind all others, unless it is the last already.
+/// Moves a list behind all others.
 fn make_last<T: Copy>(cells: &mut Vec<T>, spans: &mut [Span], n: usize)
     requires fit { All (IsSpan (length cells.old.items)) spans.old }
     requires number { n < length spans.old }
     requires room { length cells.old.items + length (slice_index_or (pieces_of cells.old.items spans.old) n []) ≤ vec_capacity cells.old }
     ensures same { pieces_of cells.new.items spans.new ≡ pieces_of cells.old.items spans.old }
     ensures fit { All (IsSpan (length cells.new.items)) spans.new }
-    ensures last { (d : Span) → (slice_index_or spans.new n d).to ≡ length cells.new.items }
+    ensures end { (d : Span) → (slice_index_or spans.new n d).to ≡ length cells.new.items }
+    ensures last { IsLast spans.new n }
     ensures used { length cells.new.items ≤ length cells.old.items + length (slice_index_or (pieces_of cells.old.items spans.old) n []) }
     ensures capacity { vec_capacity cells.old ≤ vec_capacity cells.new }
 {
-    let span = spans[n];
-    if span.to != cells.len() {
-        let from = cells.len();
-        write_again(cells, span);
-        spans[n] = Span {
-            from,
-            to: cells.len(),
-        };
-    }
+    let from = cells.len();
+    write_again(cells, spans[n]);
+    spans[n] = Span {
+        from,
+        to: cells.len(),
+    };
 }
 
-/// Makes a list the last one, with room for so many more elements behind it.
+/// Makes a list the last one, with room for so many more elements behind it. It stays where it is if it is the last already.
 fn open<T: Copy>(
     cells: &mut Vec<T>,
     spare: &mut Vec<T>,
     spans: &mut [Span],
+    last: usize,
     room: usize,
     n: usize,
     more: usize,
 )
     requires lists { AreSpans cells.old.items spans.old room }
+    requires last { IsLast spans.old last }
     requires none { spare.old.items ≡ [] }
     requires memory { HasRoom room (vec_capacity cells.old) (vec_capacity spare.old) }
     requires number { n < length spans.old }
     requires more { length (slice_index_or (pieces_of cells.old.items spans.old) n []) + more ≤ room }
     ensures same { pieces_of cells.new.items spans.new ≡ pieces_of cells.old.items spans.old }
     ensures fit { All (IsSpan (length cells.new.items)) spans.new }
-    ensures last { (d : Span) → (slice_index_or spans.new n d).to ≡ length cells.new.items }
+    ensures end { (d : Span) → (slice_index_or spans.new n d).to ≡ length cells.new.items }
+    ensures last { IsLast spans.new n }
     ensures room { length cells.new.items + more ≤ 2 * room }
     ensures none { spare.new.items ≡ [] }
     ensures memory { HasRoom room (vec_capacity cells.new) (vec_capacity spare.new) }
 {
-    let len = spans[n].len();
-    make_room(cells, spare, spans, room, len + more);
+    let span = spans[n];
+    if n == last && span.to == cells.len() && cells.len() + more <= 2 * room {
+        return;
+    }
+    make_room(cells, spare, spans, room, span.len() + more);
     make_last(cells, spans, n);
 }
 
@@ -131,49 +135,43 @@ pub fn grow<T: Copy>(
     cells: &mut Vec<T>,
     spare: &mut Vec<T>,
     spans: &mut [Span],
+    last: usize,
     room: usize,
     n: usize,
     xs: &[T],
 )
     requires lists { AreSpans cells.old.items spans.old room }
+    requires last { IsLast spans.old last }
     requires none { spare.old.items ≡ [] }
     requires memory { HasRoom room (vec_capacity cells.old) (vec_capacity spare.old) }
     requires number { n < length spans.old }
     requires room { sum_by length (pieces_of cells.old.items spans.old) + length xs.now ≤ room }
     ensures grown { pieces_of cells.new.items spans.new ≡ slice_set (pieces_of cells.old.items spans.old) n (slice_index_or (pieces_of cells.old.items spans.old) n [] ++ xs.now) }
     ensures lists { AreSpans cells.new.items spans.new room }
+    ensures last { IsLast spans.new n }
     ensures none { spare.new.items ≡ [] }
     ensures memory { HasRoom room (vec_capacity cells.new) (vec_capacity spare.new) }
 {
-    open(cells, spare, spans, room, n, xs.len());
+    open(cells, spare, spans, last, room, n, xs.len());
     let _ = cells.extend_from_slice(xs);
     spans[n].to = cells.len();
 }
 
-/// Puts the elements of another list behind those of a list, and leaves the other one empty.
-pub fn join<T: Copy>(
-    cells: &mut Vec<T>,
-    spare: &mut Vec<T>,
-    spans: &mut [Span],
-    room: usize,
-    n: usize,
-    other: usize,
-)
-    requires lists { AreSpans cells.old.items spans.old room }
-    requires none { spare.old.items ≡ [] }
-    requires memory { HasRoom room (vec_capacity cells.old) (vec_capacity spare.old) }
+/// Leaves a list its first elements. What lies behind the last list is given back.
+pub fn cut<T: Copy>(cells: &mut Vec<T>, spans: &mut [Span], last: usize, n: usize, len: usize)
+    requires fit { All (IsSpan (length cells.old.items)) spans.old }
+    requires last { IsLast spans.old last }
     requires number { n < length spans.old }
-    requires other { other < length spans.old }
-    requires apart { n ≢ other }
-    ensures joined { pieces_of cells.new.items spans.new ≡ slice_set (slice_set (pieces_of cells.old.items spans.old) n (slice_index_or (pieces_of cells.old.items spans.old) n [] ++ slice_index_or (pieces_of cells.old.items spans.old) other [])) other [] }
-    ensures lists { AreSpans cells.new.items spans.new room }
-    ensures none { spare.new.items ≡ [] }
-    ensures memory { HasRoom room (vec_capacity cells.new) (vec_capacity spare.new) }
+    requires few { len ≤ length (slice_index_or (pieces_of cells.old.items spans.old) n []) }
+    ensures cut { pieces_of cells.new.items spans.new ≡ slice_set (pieces_of cells.old.items spans.old) n (take len (slice_index_or (pieces_of cells.old.items spans.old) n [])) }
+    ensures lists { (room : ℕ) → AreSpans cells.old.items spans.old room → AreSpans cells.new.items spans.new room }
+    ensures last { IsLast spans.new last }
+    ensures capacity { vec_capacity cells.new ≡ vec_capacity cells.old }
 {
-    let more = spans[other].len();
-    open(cells, spare, spans, room, n, more);
-    let moved = spans[other];
-    write_again(cells, moved);
-    spans[n].to = cells.len();
-    spans[other] = Span::EMPTY;
+    let span = spans[n].front(len);
+    spans[n] = span;
+    if n != last {
+        return;
+    }
+    cells.truncate(span.to);
 }

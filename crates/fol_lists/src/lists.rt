@@ -1,9 +1,9 @@
 //! Lists by number.
 
-ghost use Rattle.std.specs.Prelude.{◌≡◌, ◌≢◌, ◌+◌, ◌<◌, ◌≤◌, ◌^◌, IfOk, OnOk, OnErr, [], ◌++◌, length, replicate, slice_set};
+ghost use Rattle.std.specs.Prelude.{◌≡◌, ◌+◌, ◌<◌, ◌≤◌, ◌^◌, IfOk, OnOk, OnErr, [], ◌++◌, length, replicate, take};
 ghost use Rattle.fol_lists.specs.Numbered.{Numbered, list_at, total, with_list, with_numbers};
 
-use crate::cells::{grow, join};
+use crate::cells::{cut, grow};
 use crate::spans::Span;
 use std::alloc::{AllocError, Global};
 use std::marker::Model;
@@ -16,6 +16,8 @@ pub struct Lists<T: Copy> {
     /// Where the lists are written close together once `cells` is used up. Empty between calls.
     spare: Vec<T>,
     spans: Vec<Span>,
+    /// The number of the list that lies behind all others.
+    last: usize,
     /// How many elements the lists may hold together; the memory holds twice as many.
     room: usize,
 }
@@ -24,13 +26,13 @@ impl<T: Copy> Model for Lists<T> {
     ghost use Rattle.std.specs.Prelude.{◌≡◌, []};
     ghost use Rattle.std.specs.Vec.{vec_capacity};
     ghost use Rattle.fol_lists.specs.Numbered.{Numbered};
-    ghost use Rattle.fol_lists.specs.Spans.{AreSpans, HasRoom, pieces_of};
+    ghost use Rattle.fol_lists.specs.Spans.{AreSpans, HasRoom, IsLast, pieces_of};
 
     ghost Value = { Numbered T };
 
     ghost view = { λ s. record { lists = pieces_of s.cells.items s.spans.items; room = s.room } };
 
-    ghost invariant = { λ s. AreSpans s.cells.items s.spans.items s.room × (s.spare.items ≡ []) × HasRoom s.room (vec_capacity s.cells) (vec_capacity s.spare) };
+    ghost invariant = { λ s. AreSpans s.cells.items s.spans.items s.room × (s.spare.items ≡ []) × HasRoom s.room (vec_capacity s.cells) (vec_capacity s.spare) × IsLast s.spans.items s.last };
 }
 
 impl<T: Copy> Lists<T> {
@@ -47,6 +49,7 @@ impl<T: Copy> Lists<T> {
             cells: Vec::with_capacity(alloc, 2 * room)?,
             spare: Vec::with_capacity(alloc, 2 * room)?,
             spans,
+            last: 0,
             room,
         })
     }
@@ -79,7 +82,16 @@ impl<T: Copy> Lists<T> {
         requires { n < length self.old.lists }
         ensures { self.new ≡ with_list self.old n [] }
     {
-        self.spans[n] = Span::EMPTY;
+        self.truncate(n, 0);
+    }
+
+    /// Leaves a list its first elements.
+    pub fn truncate(&mut self, n: usize, len: usize)
+        requires number { n < length self.old.lists }
+        requires few { len ≤ length (list_at self.old n) }
+        ensures { self.new ≡ with_list self.old n (take len (list_at self.old n)) }
+    {
+        cut(&mut self.cells, &mut self.spans, self.last, n, len);
     }
 
     /// Puts elements behind those of a list. Takes no memory.
@@ -92,10 +104,12 @@ impl<T: Copy> Lists<T> {
             &mut self.cells,
             &mut self.spare,
             &mut self.spans,
+            self.last,
             self.room,
             n,
             xs,
         );
+        self.last = n;
     }
 
     /// Puts other elements in place of a list's own. Takes no memory.
@@ -104,36 +118,18 @@ impl<T: Copy> Lists<T> {
         requires room { total (with_list self.old n xs.now) ≤ self.old.room }
         ensures { self.new ≡ with_list self.old n xs.now }
     {
-        self.clear(n);
+        self.put_behind(n, 0, xs);
+    }
+
+    /// Keeps the first elements of a list, and puts others behind them in place of the rest. Takes no memory.
+    pub fn put_behind(&mut self, n: usize, len: usize, xs: &[T])
+        requires number { n < length self.old.lists }
+        requires few { len ≤ length (list_at self.old n) }
+        requires room { total (with_list self.old n (take len (list_at self.old n) ++ xs.now)) ≤ self.old.room }
+        ensures { self.new ≡ with_list self.old n (take len (list_at self.old n) ++ xs.now) }
+    {
+        self.truncate(n, len);
         self.extend(n, xs);
-    }
-
-    /// Puts the elements of another list behind those of a list, and leaves the other one empty. Takes no memory.
-    pub fn append(&mut self, n: usize, other: usize)
-        requires number { n < length self.old.lists }
-        requires other { other < length self.old.lists }
-        requires apart { n ≢ other }
-        ensures { self.new ≡ with_list (with_list self.old n (list_at self.old n ++ list_at self.old other)) other [] }
-    {
-        join(
-            &mut self.cells,
-            &mut self.spare,
-            &mut self.spans,
-            self.room,
-            n,
-            other,
-        );
-    }
-
-    /// Exchanges two lists.
-    pub fn swap(&mut self, n: usize, other: usize)
-        requires number { n < length self.old.lists }
-        requires other { other < length self.old.lists }
-        ensures { self.new ≡ with_list (with_list self.old n (list_at self.old other)) other (list_at self.old n) }
-    {
-        let span = self.spans[n];
-        self.spans[n] = self.spans[other];
-        self.spans[other] = span;
     }
 
     /// Makes room for so many elements together. The lists stay either way.
@@ -173,6 +169,7 @@ impl<T: Copy> Lists<T> {
             cells,
             spare: Vec::with_capacity(alloc, 2 * self.room)?,
             spans: Vec::from_slice(alloc, &self.spans)?,
+            last: self.last,
             room: self.room,
         })
     }

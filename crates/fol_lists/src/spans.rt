@@ -1,6 +1,6 @@
 //! Where a list begins and ends among all elements.
 
-ghost use Rattle.std.specs.Prelude.{◌≡◌, ◌-◌, ◌≤◌};
+ghost use Rattle.std.specs.Prelude.{◌≡◌, ◌+◌, ◌-◌, ◌≤◌, ◌<◌, ◌^◌};
 
 /// From a place on, up to but not including another.
 #[derive(Clone, Copy)]
@@ -21,5 +21,16 @@ impl Span {
         ensures { result ≡ self.to - self.from }
     {
         self.to - self.from
+    }
+
+    /// The first places, so many of them.
+    pub fn front(self, len: usize) -> Span
+        requires { len ≤ self.to - self.from }
+        ensures { result ≡ record { «from» = self.from; to = self.from + len } }
+    {
+        Span {
+            from: self.from,
+            to: self.from + len,
+        }
     }
 }

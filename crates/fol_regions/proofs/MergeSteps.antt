@@ -5,7 +5,7 @@ use Rattle.std.specs.List.Sorted.{IsStrictlySortedBy}
 use Rattle.std.specs.declared.cmp.Ordering.TheVariants.{Less, Equal, Greater}
 use Rattle.std.specs.Ordering.{ordering_reverse}
 use Rattle.std.proofs.Math.Bool.{or-false}
-use Rattle.std.proofs.lemmas.List.{get_or_default, take-append-drop, drop_more, drop_all}
+use Rattle.std.proofs.lemmas.List.{append-nil, get_or_default, take-append-drop, drop_more, drop_all}
 use Rattle.std.proofs.lemmas.List.Folds.{list_any-append}
 use Rattle.std.proofs.lemmas.Bool.{cases_lt, or_cases}
 use Rattle.std.proofs.lemmas.Map.Keys.{Less-from_sorted}
@@ -63,15 +63,18 @@ pub front_none : (xs ys : List SectionPos) → Sorted ys → Sorted (take 0 xs +
 front_none xs ys b = b
 
 -- the front of the first list is merged
-pub merged_front : (xs ys : List SectionPos) (n : ℕ) → IsRow xs → n ≤ length xs → Sorted (take n xs ++ ys) → Merged (take n xs) xs ys n 0
-merged_front xs ys n a l h = record {
+pub merged_front : (xs ys out : List SectionPos) (n : ℕ) → out ≡ [] → IsRow xs → n ≤ length xs → Sorted (take n xs ++ ys) → Merged (take n xs ++ out) xs ys n 0
+merged_front xs ys out n none a l h = subst (λ (zs : List SectionPos). Merged zs xs ys n 0) (sym (ap (λ zs. take n xs ++ zs) none ∙ append-nil (take n xs))) (record {
   first = subst Sorted (sym (take-append-drop n xs)) a.in_order;
   second = h;
   members = λ s. sym (or-false (is_among (take n xs) s));
   few = omega (arith, length-take-le n xs l);
   i_in = l;
   j_in = omega arith;
-}
+})
+
+pub regrouped : (a b c d : List SectionPos) → a ++ ((b ++ c) ++ d) ≡ ((a ++ b) ++ c) ++ d
+regrouped a b c d = simp append_assoc
 
 -- a search by halves: where the place in the middle is before a section
 pub before_more : (xs : List SectionPos) (s : SectionPos) (m k : ℕ) (e d : SectionPos) → Sorted xs → m < length xs → section_cmp (get_or xs m e) s ≡ Less → k < m + 1 → section_cmp (get_or xs k d) s ≡ Less
@@ -178,13 +181,9 @@ module _ (out xs ys : List SectionPos) (i j : ℕ) (d : SectionPos) (m : Merged 
       ∙ ap (λ b. is_among xs s || b) (sym (list_any-append (same_section s) (take j ys) (drop j ys)) ∙ ap (λ zs. is_among zs s) (take-append-drop j ys)))
       (λ s k. elim (or_cases (is_among xs s) (is_among ys s) k) [ inl e ↦ a.limits s e | inr e ↦ b.limits s e ])).0
     where
-      none : (zs : List SectionPos) → zs ++ [] ≡ zs
-      none [] = refl
-      none (z ∷ zs) = λ i. z ∷ none zs i
-
       in_order : (length xs ≤ i) ⊎ (length ys ≤ j) → Sorted ((out ++ drop i xs) ++ drop j ys)
-      in_order (inl l) = subst (λ (zs : List SectionPos). Sorted ((out ++ zs) ++ drop j ys)) (sym (drop_all i xs l)) (subst (λ (zs : List SectionPos). Sorted (zs ++ drop j ys)) (sym (none out)) m.second)
-      in_order (inr l) = subst (λ (zs : List SectionPos). Sorted ((out ++ drop i xs) ++ zs)) (sym (drop_all j ys l)) (subst Sorted (sym (none (out ++ drop i xs))) m.first)
+      in_order (inl l) = subst (λ (zs : List SectionPos). Sorted ((out ++ zs) ++ drop j ys)) (sym (drop_all i xs l)) (subst (λ (zs : List SectionPos). Sorted (zs ++ drop j ys)) (sym (append-nil out)) m.second)
+      in_order (inr l) = subst (λ (zs : List SectionPos). Sorted ((out ++ drop i xs) ++ zs)) (sym (drop_all j ys l)) (subst Sorted (sym (append-nil (out ++ drop i xs))) m.first)
 
       four : (a b e f : Bool) → (((a || b) || e) || f) ≡ ((a || e) || (b || f))
       four true b e f = refl

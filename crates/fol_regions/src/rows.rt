@@ -21,7 +21,7 @@ use std::marker::Model;
 #[derive(Drop)]
 pub struct Rows {
     lists: Lists<SectionPos>,
-    /// Where a list is made that takes another one's place.
+    /// Where the part of a list is made that takes the place of what lies behind the first sections.
     made: Vec<SectionPos>,
 }
 
@@ -95,8 +95,10 @@ impl Rows {
         ensures { self.new ≡ with_list self.old n (united (list_at self.old n) sections.now) }
     {
         self.made.clear();
-        merge(self.lists.get(n), sections, &mut self.made);
-        self.lists.put(n, &self.made);
+        let row = self.lists.get(n);
+        let kept = front(row, sections);
+        merge(row, sections, kept, &mut self.made);
+        self.lists.put_behind(n, kept, &self.made);
     }
 
     /// Adds the sections of another list, which is empty from then on.
@@ -109,9 +111,12 @@ impl Rows {
         ensures { self.new ≡ with_list (with_list self.old other []) n (united (list_at self.old n) (list_at self.old other)) }
     {
         self.made.clear();
-        merge(self.lists.get(n), self.lists.get(other), &mut self.made);
+        let row = self.lists.get(n);
+        let joined = self.lists.get(other);
+        let kept = front(row, joined);
+        merge(row, joined, kept, &mut self.made);
         self.lists.clear(other);
-        self.lists.put(n, &self.made);
+        self.lists.put_behind(n, kept, &self.made);
     }
 }
 
@@ -155,21 +160,21 @@ fn front(xs: &[SectionPos], ys: &[SectionPos]) -> usize
     }
 }
 
-/// Puts the sections of two lists, each in order, into an empty list with room for them, in order.
-///
-/// What lies before the second list is copied at once.
-fn merge(xs: &[SectionPos], ys: &[SectionPos], out: &mut Vec<SectionPos>)
+/// Puts the sections of two lists, each in order, into an empty list with room for them, in order, but for the first ones of the
+/// first list, so many of them, all of which are before the second list.
+fn merge(xs: &[SectionPos], ys: &[SectionPos], kept: usize, out: &mut Vec<SectionPos>)
     requires xs { IsRow xs.now }
     requires ys { IsRow ys.now }
+    requires kept { kept ≤ length xs.now }
+    requires front { IsStrictlySortedBy section_cmp (take kept xs.now ++ ys.now) }
     requires none { out.old.items ≡ [] }
     requires room { length xs.now + length ys.now ≤ vec_capacity out.old }
-    ensures united { out.new.items ≡ united xs.now ys.now }
-    ensures few { length out.new.items ≤ length xs.now + length ys.now }
+    ensures united { take kept xs.now ++ out.new.items ≡ united xs.now ys.now }
+    ensures few { kept + length out.new.items ≤ length xs.now + length ys.now }
     ensures room { vec_capacity out.old ≤ vec_capacity out.new }
 {
-    let mut i = front(xs, ys);
+    let mut i = kept;
     let mut j = 0;
-    let _ = out.extend_from_slice(&xs[..i]);
     while i < xs.len() && j < ys.len() {
         match compare(xs[i], ys[j]) {
             Ordering::Less => {
