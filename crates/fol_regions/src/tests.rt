@@ -1,4 +1,4 @@
-//! Small worlds event by event, and the border of what fits.
+//! Small worlds, event by event.
 
 use crate::{AddAnswer, Begun, MergePair, Regions};
 use fol_model::{ChunkPos, Grid, SectionPos, State};
@@ -14,9 +14,9 @@ enum Step {
     Release(u64),
 }
 
-/// No region, on a grid of sections of one chunk with this create radius, where a region is cleaned from one dead section in `den` on.
-fn table(rt: &impl Abort, alloc: Global, create: u8, den: u32) -> Regions {
-    let grid = Grid::of(0, create, 1, 2, 1, den).expect(rt, "the grid is within the limits");
+/// No region, on a grid of sections of one chunk with the create radius 1, where a region is cleaned from one dead section in 6 on.
+fn table(rt: &impl Abort, alloc: Global) -> Regions {
+    let grid = Grid::of(0, 1, 1, 2, 1, 6).expect(rt, "the grid is within the limits");
     Regions::new(alloc, grid).expect(rt, "memory")
 }
 
@@ -115,28 +115,8 @@ fn chunks_are(rt: &impl Abort, alloc: Global, regions: &Regions, id: u64, chunks
 }
 
 #[test]
-fn far_loads_stay_apart(rt: HostRuntime) {
-    let mut regions = table(&rt, rt.alloc(), 1, 6);
-    play(&rt, &mut regions, &[Step::Load(0), Step::Load(4)]);
-    last_is(&rt, &regions, &[2], &[], &[]);
-    region_is(&rt, &regions, 1, State::Ready, 9, &[]);
-    region_is(&rt, &regions, 2, State::Ready, 9, &[]);
-}
-
-#[test]
-fn near_loads_join(rt: HostRuntime) {
-    let mut regions = table(&rt, rt.alloc(), 1, 6);
-    play(&rt, &mut regions, &[Step::Load(0), Step::Load(3)]);
-    last_is(&rt, &regions, &[], &[], &[]);
-    region_is(&rt, &regions, 1, State::Ready, 18, &[]);
-    assert_eq!(rt; regions.owner(SectionPos { x: 4, z: 1 }), Some(1));
-    assert_eq!(rt; regions.owner(SectionPos { x: 5, z: 1 }), None);
-    assert_eq!(rt; regions.state(2), None);
-}
-
-#[test]
 fn a_region_between_two_joins_both(rt: HostRuntime) {
-    let mut regions = table(&rt, rt.alloc(), 1, 6);
+    let mut regions = table(&rt, rt.alloc());
     play(
         &rt,
         &mut regions,
@@ -153,41 +133,10 @@ fn a_region_between_two_joins_both(rt: HostRuntime) {
 }
 
 #[test]
-fn the_largest_near_region_stays(rt: HostRuntime) {
-    let mut regions = table(&rt, rt.alloc(), 1, 6);
+fn a_copy_goes_on_by_itself(rt: HostRuntime) {
+    let mut regions = table(&rt, rt.alloc());
     play(
         &rt,
-        &mut regions,
-        &[Step::Load(0), Step::Load(6), Step::Load(7)],
-    );
-    region_is(&rt, &regions, 2, State::Ready, 12, &[]);
-    play(&rt, &mut regions, &[Step::Load(3)]);
-    last_is(&rt, &regions, &[], &[1], &[MergePair { from: 1, into: 2 }]);
-    region_is(&rt, &regions, 2, State::Ready, 30, &[]);
-    live_are(&rt, rt.alloc(), &regions, &[2]);
-}
-
-#[test]
-fn a_region_waits_for_one_that_ticks(rt: HostRuntime) {
-    let mut regions = table(&rt, rt.alloc(), 1, 6);
-    play(
-        &rt,
-        &mut regions,
-        &[Step::Load(0), Step::Load(6), Step::Begin(1), Step::Load(3)],
-    );
-    region_is(&rt, &regions, 2, State::Transient, 18, &[1]);
-    let not_ready = Begun::NotReady(State::Transient);
-    assert_eq!(rt; begin(&rt, &mut regions, 2), not_ready);
-    play(&rt, &mut regions, &[Step::Release(1)]);
-    last_is(&rt, &regions, &[], &[2], &[MergePair { from: 2, into: 1 }]);
-    region_is(&rt, &regions, 1, State::Ready, 27, &[]);
-}
-
-/// Two regions tick, and a third one waits for both.
-fn between_two_that_tick(rt: &impl Abort, alloc: Global) -> Regions {
-    let mut regions = table(rt, alloc, 1, 6);
-    play(
-        rt,
         &mut regions,
         &[
             Step::Load(0),
@@ -197,24 +146,8 @@ fn between_two_that_tick(rt: &impl Abort, alloc: Global) -> Regions {
             Step::Load(3),
         ],
     );
-    last_is(rt, &regions, &[3], &[], &[]);
-    region_is(rt, &regions, 3, State::Transient, 9, &[1, 2]);
-    regions
-}
-
-#[test]
-fn a_joined_region_waits_for_the_other(rt: HostRuntime) {
-    let mut regions = between_two_that_tick(&rt, rt.alloc());
-    play(&rt, &mut regions, &[Step::Release(1)]);
-    region_is(&rt, &regions, 1, State::Transient, 18, &[2]);
-    play(&rt, &mut regions, &[Step::Release(2)]);
-    region_is(&rt, &regions, 2, State::Ready, 27, &[]);
-    live_are(&rt, rt.alloc(), &regions, &[2]);
-}
-
-#[test]
-fn a_copy_goes_on_by_itself(rt: HostRuntime) {
-    let regions = between_two_that_tick(&rt, rt.alloc());
+    let not_ready = Begun::NotReady(State::Transient);
+    assert_eq!(rt; begin(&rt, &mut regions, 3), not_ready);
     let mut copy = regions.copy(rt.alloc()).expect(&rt, "memory");
     last_is(&rt, &copy, &[3], &[], &[]);
     play(&rt, &mut copy, &[Step::Release(2)]);
@@ -225,95 +158,25 @@ fn a_copy_goes_on_by_itself(rt: HostRuntime) {
     region_is(&rt, &regions, 3, State::Transient, 9, &[1, 2]);
 }
 
-/// Three chunks in one region, the middle one unloaded, and one tick.
-fn unload_between(rt: &impl Abort, alloc: Global, den: u32) -> Regions {
-    let mut regions = table(rt, alloc, 1, den);
-    play(
-        rt,
-        &mut regions,
-        &[Step::Load(0), Step::Load(3), Step::Load(6)],
-    );
-    play(
-        rt,
-        &mut regions,
-        &[Step::Unload(3), Step::Begin(1), Step::Release(1)],
-    );
-    regions
-}
-
 #[test]
 fn a_region_falls_apart(rt: HostRuntime) {
-    let regions = unload_between(&rt, rt.alloc(), 6);
+    let mut regions = table(&rt, rt.alloc());
+    play(
+        &rt,
+        &mut regions,
+        &[
+            Step::Load(0),
+            Step::Load(3),
+            Step::Load(6),
+            Step::Unload(3),
+            Step::Begin(1),
+            Step::Release(1),
+        ],
+    );
     last_is(&rt, &regions, &[2, 3], &[1], &[]);
     assert_eq!(rt; *regions.last().parts(), *[2, 3].as_slice());
     region_is(&rt, &regions, 2, State::Ready, 9, &[]);
     region_is(&rt, &regions, 3, State::Ready, 9, &[]);
     assert_eq!(rt; regions.owner(SectionPos { x: -1, z: -1 }), Some(2));
     assert_eq!(rt; regions.owner(SectionPos { x: 5, z: -1 }), Some(3));
-}
-
-#[test]
-fn too_few_dead_sections_stay(rt: HostRuntime) {
-    let mut regions = unload_between(&rt, rt.alloc(), 2);
-    region_is(&rt, &regions, 1, State::Ready, 27, &[]);
-    play(
-        &rt,
-        &mut regions,
-        &[
-            Step::Unload(0),
-            Step::Unload(6),
-            Step::Begin(1),
-            Step::Release(1),
-        ],
-    );
-    last_is(&rt, &regions, &[], &[1], &[]);
-    live_are(&rt, rt.alloc(), &regions, &[]);
-}
-
-#[test]
-fn wide_margins_are_full_at_the_border(rt: HostRuntime) {
-    let mut regions = table(&rt, rt.alloc(), 8, 6);
-    for i in 0..56u16 {
-        load(
-            &rt,
-            &mut regions,
-            ChunkPos {
-                x: 40 * i as i32,
-                z: 0,
-            },
-        );
-    }
-    let c = ChunkPos { x: 2240, z: 0 };
-    let full = AddAnswer::Full {
-        present: 16_184,
-        wanted: 289,
-    };
-    assert_eq!(rt; load(&rt, &mut regions, c), full);
-    assert_eq!(rt; regions.holds(c), 0);
-}
-
-/// Loads the four chunks of columns `x` and `x + 1` in rows 0 and 1.
-fn load_four(rt: &impl Abort, regions: &mut Regions, x: u16) {
-    let x = x as i32;
-    load(rt, regions, ChunkPos { x, z: 0 });
-    load(rt, regions, ChunkPos { x: x + 1, z: 0 });
-    load(rt, regions, ChunkPos { x, z: 1 });
-    load(rt, regions, ChunkPos { x: x + 1, z: 1 });
-}
-
-#[test]
-fn the_last_section_fits(rt: HostRuntime) {
-    let mut regions = table(&rt, rt.alloc(), 1, 6);
-    for i in 0..1024u16 {
-        load_four(&rt, &mut regions, 8 * i);
-    }
-    let there = ChunkPos { x: 0, z: 0 };
-    assert_eq!(rt; load(&rt, &mut regions, there), AddAnswer::Counted);
-    let full = AddAnswer::Full {
-        present: 16_384,
-        wanted: 9,
-    };
-    assert_eq!(rt; load(&rt, &mut regions, ChunkPos { x: 9000, z: 0 }), full);
-    let live = regions.live(rt.alloc()).expect(&rt, "memory");
-    assert_eq!(rt; live.len(), 1024);
 }
