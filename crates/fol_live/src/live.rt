@@ -224,8 +224,8 @@ impl Live {
     }
 
     /// Begins a tick with the seat's number, which is not 0, as its worker. Over exactly where Finish or Stop stands in the history,
-    /// else Idle exactly where no Ready region owes a tick; regions that tick don't count. Which region it takes is free; the one whose tick
-    /// the seat ended last comes first, whose data are at hand. Only Got is recorded.
+    /// else Idle exactly where no Ready region owes a tick; regions that tick don't count. Which region it takes is free. Only Got is
+    /// recorded.
     pub fn begin<R: Wait>(
         &self,
         rt: &R,
@@ -238,6 +238,7 @@ impl Live {
     {
         let by = seat.seat.number();
         let mut turn = self.lock.take(rt, &mut seat.seat);
+        // The region whose tick the seat ended last comes first: its data are at hand.
         let answer = turn.state().begin(alloc, by, seat.region);
         seat.front = turn.state_ref().front();
         self.lock.give(&mut seat.seat, turn);

@@ -2,12 +2,12 @@
 
 ghost use Rattle.std.specs.Prelude.{◌≡◌, [], ◌∷◌, ◌++◌, codes, decimal, flat_map, length, IfOk, string_bytes};
 ghost use Rattle.fol_model.specs.ReportWords.{accept_words, action_words, chunk_words, end_words, entry_words, event_words, loaded_words, ran_words, unloaded_words};
-ghost use Rattle.fol_report.specs.Spaced.{joined, spaced};
+ghost use Rattle.fol_report.specs.Spaced.{joined, spaced, tasks_words};
 
 use crate::actions::put_action;
 use crate::answers::{put_accept, put_all_accepts, put_all_ran, put_loaded, put_unloaded};
 use crate::lines::Line;
-use crate::words::{put_chunk, put_number};
+use crate::words::{put_chunk, put_digits, put_number};
 use fol_model::{Accept, Action, ChunkPos, Entry, Event, Loaded, Ran, Unloaded};
 use std::alloc::AllocError;
 
@@ -15,8 +15,8 @@ use std::alloc::AllocError;
 fn put_begin(out: &mut String, worker: u32, region: u64) -> Result<(), AllocError>
     ensures { IfOk result (λ _. string_bytes out.new ≡ string_bytes out.old ++ joined (codes "begin" ∷ decimal worker ∷ decimal region ∷ [])) }
 {
-    out.push_str("begin")?;
-    put_number(out, worker)?;
+    out.push_str("begin ")?;
+    put_digits(out, worker)?;
     put_number(out, region)
 }
 
@@ -38,15 +38,34 @@ fn put_accepted(out: &mut String, accepts: &[Accept]) -> Result<(), AllocError>
     put_all_accepts(out, accepts)
 }
 
+/// Puts that no task ran and that the tick asked for none.
+fn put_no_tasks(out: &mut String) -> Result<(), AllocError>
+    ensures { IfOk result (λ _. string_bytes out.new ≡ string_bytes out.old ++ codes " ran 0 accepted 0") }
+{
+    out.push_str(" ran 0 accepted 0")
+}
+
+/// Puts the tasks that ran and what became of those that the tick asked for; most ticks have neither.
+#[tactic(auto, using(crate::proofs::Joined::spaced_append))]
+fn put_tasks(out: &mut String, ran: &[Ran], accepts: &[Accept]) -> Result<(), AllocError>
+    ensures { IfOk result (λ _. string_bytes out.new ≡ string_bytes out.old ++ spaced (tasks_words ran.now accepts.now)) }
+{
+    if ran.is_empty() && accepts.is_empty() {
+        return put_no_tasks(out);
+    }
+    put_ran(out, ran)?;
+    put_accepted(out, accepts)
+}
+
 /// Puts what the line of an end begins with: which tick it ends.
 fn put_ended(out: &mut String, worker: u32, region: u64, tick: u64) -> Result<(), AllocError>
     ensures { IfOk result (λ _. string_bytes out.new ≡ string_bytes out.old ++ joined (codes "end" ∷ decimal worker ∷ decimal region ∷ codes "tick" ∷ decimal tick ∷ [])) }
 {
-    out.push_str("end")?;
-    put_number(out, worker)?;
+    out.push_str("end ")?;
+    put_digits(out, worker)?;
     put_number(out, region)?;
-    out.push_str(" tick")?;
-    put_number(out, tick)
+    out.push_str(" tick ")?;
+    put_digits(out, tick)
 }
 
 /// Puts the line of an end: the other of the two most frequent lines.
@@ -62,8 +81,7 @@ fn put_end(
     ensures { IfOk result (λ _. string_bytes out.new ≡ string_bytes out.old ++ joined (end_words worker region tick ran.now accepts.now)) }
 {
     put_ended(out, worker, region, tick)?;
-    put_ran(out, ran)?;
-    put_accepted(out, accepts)
+    put_tasks(out, ran, accepts)
 }
 
 /// Puts the line of a load.
