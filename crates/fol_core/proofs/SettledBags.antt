@@ -82,6 +82,25 @@ relisted_all g id p f k l same own others r = elim (cases_eq id r) [
           out = own.out;
         })
 
+and_true : (x : Bool) → x ≡ (x && true)
+and_true true = refl
+and_true false = refl
+
+turned : (x y z : Bool) → ((x && y) && z) ≡ ((x && z) && y)
+turned true true z = elim z as (λ z. z ≡ (z && true)) [ true ↦ refl | false ↦ refl ]
+turned true false z = elim z as (λ z. false ≡ (z && false)) [ true ↦ refl | false ↦ refl ]
+turned false y z = refl
+
+-- the chunks of a region after the last hold of c
+left : (g : GridState) (c : ChunkPos) (r : ℕ) → nat_eq (g.holds c) 1 ≡ true → (q : ChunkPos) → is_chunk_of (drop_hold g c) r q ≡ (is_chunk_of g r q && not (same_chunk c q))
+unfolding drop_hold
+left g c r one q = elim (cases_Bool (same_chunk c q)) [
+  | inl s ↦
+      let o : g.holds c ≡ 1 = eqb-true (g.holds c) 1 one in
+      rw (s, o) (sym (and_right (is_chunk_of g r q) false refl))
+  | inr s ↦ rw s (and_true (is_chunk_of g r q))
+]
+
 -- after the last hold of c
 pub narrows : (g : GridState) (c : ChunkPos) (r : ℕ) (b : Bag) → nat_eq (g.holds c) 1 ≡ true → (b.listed ≡ true → b.chunks ≡ filter (is_chunk_of g r) all_chunks) → Narrows (drop_hold g c) c r b
 narrows g c r b one is w =
@@ -90,26 +109,8 @@ narrows g c r b one is w =
     subst P (sym e) (kept_sorted (is_chunk_of g r), λ q.
       ap (λ z. z && not (same_chunk c q)) (listed (is_chunk_of g r) all_chunks q)
       ∙ turned (is_chunk_of g r q) (is_recorded all_chunks q) (not (same_chunk c q))
-      ∙ ap (λ z. z && is_recorded all_chunks q) (sym (left q))
+      ∙ ap (λ z. z && is_recorded all_chunks q) (sym (left g c r one q))
       ∙ sym (listed (is_chunk_of (drop_hold g c) r) all_chunks q))
-  where
-    turned : (x y z : Bool) → ((x && y) && z) ≡ ((x && z) && y)
-    turned true true z = elim z as (λ z. z ≡ (z && true)) [ true ↦ refl | false ↦ refl ]
-    turned true false z = elim z as (λ z. false ≡ (z && false)) [ true ↦ refl | false ↦ refl ]
-    turned false y z = refl
-
-    left : (q : ChunkPos) → is_chunk_of (drop_hold g c) r q ≡ (is_chunk_of g r q && not (same_chunk c q))
-    unfolding drop_hold
-    left q = elim (cases_Bool (same_chunk c q)) [
-      | inl s ↦
-          let o : g.holds c ≡ 1 = eqb-true (g.holds c) 1 one in
-          rw (s, o) (sym (and_right (is_chunk_of g r q) false refl))
-      | inr s ↦ rw s (last (is_chunk_of g r q))
-    ]
-      where
-        last : (x : Bool) → x ≡ (x && true)
-        last true = refl
-        last false = refl
 
 counted_when : (g : GridState) (c : ChunkPos) → add_answer g c ≡ Counted → (is_full g c ≡ false) × (nat_eq (wanted g c) 0 ≡ true)
 counted_when g c e = elim (cases_Bool (is_full g c)) [

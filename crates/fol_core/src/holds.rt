@@ -132,8 +132,9 @@ fn lose_chunk(regions: &Regions, store: &mut Store, s: SectionPos, c: ChunkPos)
     ensures things { SameThings store.old store.new }
     ensures next { next_of store.new ≡ next_of store.old }
 {
-    if let Some(id) = regions.owner(s) {
-        store.lose(id, c);
+    match regions.owner(s) {
+        Some(id) => store.lose(id, c),
+        None => {}
     }
 }
 
@@ -225,8 +226,9 @@ fn gain_alone(regions: &Regions, store: &mut Store, s: SectionPos, c: ChunkPos)
     ensures spare { store.new.spare ≡ store.old.spare }
     ensures slots { store.new.slots ≡ store.old.slots }
 {
-    if let Some(id) = regions.owner(s) {
-        store.gain(id, c);
+    match regions.owner(s) {
+        Some(id) => store.gain(id, c),
+        None => {}
     }
 }
 

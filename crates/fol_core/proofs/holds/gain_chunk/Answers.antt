@@ -9,4 +9,4 @@ pub returns-in-Changed-clause-bags : goal.returns-in-Changed-clause-bags
 returns-in-Changed-clause-bags c = settle_same (grid_state c.args.regions.now) _ _ c.unsettle_owner.ensures.bags
 
 pub returns-in-Full-clause-bags : goal.returns-in-Full-clause-bags
-returns-in-Full-clause-bags c = settle_same (grid_state c.args.regions.now) _ _ c.unsettle_owner.ensures.bags
+returns-in-Full-clause-bags c = settle_same (grid_state c.args.regions.now) _ _ c.unsettle_owner-in-Full.ensures.bags
