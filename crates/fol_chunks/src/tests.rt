@@ -104,9 +104,9 @@ fn blocks_are_set_and_listed(rt: HostRuntime) -> Result<(), Fail> {
 
 /// Gives 3,000 blocks in a row the number 9, here and there, so that some stand apart, and are settled more than once on the way.
 fn set_many(chunks: &mut Chunks) -> Result<(), AllocError> {
-    for i in 0..3000 {
+    for i in 0..3000_u32 {
         chunks.reserve(1)?;
-        chunks.set(block((i * 37) % 3001, 0), 9);
+        chunks.set(block((i * 37 % 3001) as i32, 0), 9);
     }
     Ok(())
 }
