@@ -33,6 +33,9 @@ const MOST_NEAR: usize = 625;
 /// The most regions that one event makes: each is a part of a split, and has the sections of a margin to itself.
 const MOST_MADE: usize = 1_820;
 
+/// For how many events memory is taken at once, so that most calls of `reserve` find it there.
+const EVENTS_AHEAD: u32 = 16;
+
 /// The region table. Contracts see a `Table`, whose word `grid_state` is the state of the grid that it stands for.
 #[derive(Drop)]
 pub struct Regions {
@@ -116,6 +119,17 @@ impl Regions {
         if n <= self.spare {
             return Ok(());
         }
+        self.make_room(n.max(EVENTS_AHEAD))
+    }
+
+    /// Makes `spare` `n`, which is not less than it is.
+    fn make_room(&mut self, n: u32) -> Result<(), AllocError>
+        requires more { self.old.spare ≤ n }
+        ensures ok { OnOk result (self.new.spare ≡ n) }
+        ensures state { grid_state self.new ≡ grid_state self.old }
+        ensures last { self.new.last ≡ self.old.last }
+        ensures spare { self.old.spare ≤ self.new.spare }
+    {
         self.sections.reserve(n)?;
         let events = n as usize;
         self.tables

@@ -1,8 +1,8 @@
-use Rattle.std.proofs.Common.{arith}
+use Rattle.std.proofs.Common.{◌≤◌, arith}
 use Rattle.fol_regions.specs.Released.{grid_of}
 use Rattle.fol_regions.specs.Table.{grid_state}
 use Rattle.fol_regions.proofs.TableSteps as steps
-use Rattle.fol_regions.proofs.regions.Regions.reserve.Goals as goal
+use Rattle.fol_regions.proofs.regions.Regions.make_room.Goals as goal
 
 pub invariant_of-self : goal.invariant_of-self
 invariant_of-self c = (
@@ -27,8 +27,8 @@ unfolding grid_state grid_of
 returns-in_err-reserve-2-clause-state c = rw (← c.self.view_is) (steps.alike_state c.self.inside.grid c.self.inside.sections c.self.inside.tables c.self.inside.spare _ _ c.self.invariant.0 c.reserve.new.self c.reserve-2.new.self c.self.inside.spare c.reserve.ensures.same c.reserve-2.ensures.same)
 
 pub invariant_of-self-2 : goal.invariant_of-self-2
-invariant_of-self-2 c = (
-  steps.alike_kept c.self.inside.grid c.self.inside.sections c.self.inside.tables c.self.inside.spare _ _ c.self.invariant.0 c.reserve.new.self c.reserve-2.new.self c.args.n c.reserve.ensures.same c.reserve-2.ensures.same (omega arith)
+invariant_of-self-2 c = let more : c.self.inside.spare ≤ c.args.n = rw (← c.self.view_is) at c.requires.more in (
+  steps.alike_kept c.self.inside.grid c.self.inside.sections c.self.inside.tables c.self.inside.spare _ _ c.self.invariant.0 c.reserve.new.self c.reserve-2.new.self c.args.n c.reserve.ensures.same c.reserve-2.ensures.same (omega (arith, more))
       (omega (arith, c.in_ok-reserve.ensures.ok)) c.in_ok-reserve-2.ensures.ok,
   steps.alike_bounds c.self.inside.grid c.self.inside.sections c.self.inside.tables c.self.inside.spare _ _ c.self.invariant.0 c.reserve.new.self c.reserve-2.new.self c.args.n c.reserve.ensures.same c.reserve-2.ensures.same _ c.self.invariant.1,
 )
