@@ -6,3 +6,4 @@ pub mod Posted
 pub mod Taken
 pub mod Closing
 pub mod TwoSenders
+pub mod Crossing
