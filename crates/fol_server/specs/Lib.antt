@@ -1,0 +1,3 @@
+pub mod Crew
+pub mod Whole
+pub mod Dealt

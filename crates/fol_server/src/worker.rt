@@ -1,0 +1,142 @@
+//! Who ticks regions.
+
+ghost use Rattle.std.specs.Prelude.{◌≡◌};
+ghost use Rattle.fol_live.specs.Held.{HoldsRun, HoldsTick};
+ghost use Rattle.fol_live.specs.Lives.{live_id};
+ghost use Rattle.fol_server.specs.Crew.{IsSameWorker, IsWorkerOf, Ran};
+
+use crate::server::Server;
+use core::mem::replace_with;
+use fol_core::Tick;
+use fol_follow::BookSeat;
+use fol_live::{Live, LiveBegin, LiveHost, Seat};
+use fol_tick::run_tick;
+use std::alloc::Global;
+use std::sync::Wait;
+use std::thread::Parker;
+use std::time::Duration;
+
+/// How long one rests who found nothing to do.
+const REST_MICROS: u64 = 50;
+
+/// A worker has a seat in the world, and one at the book of visits.
+#[derive(Drop)]
+pub struct Worker {
+    pub seat: Seat,
+    pub pages: BookSeat,
+}
+
+/// What trying to tick came to.
+#[derive(Clone, Copy, Debug, PartialEq, Eq)]
+pub enum Tried {
+    /// A region ticked.
+    Done,
+    /// No region owed a tick.
+    Idle,
+    /// The history is over, or memory was not found and the world was stopped.
+    Over,
+}
+
+/// Ticks until the history is over.
+pub fn work<R: Wait>(rt: &R, alloc: Global, server: &Server, worker: &mut Worker)
+    requires of { IsWorkerOf server.now worker.old }
+    ensures same { IsSameWorker worker.old worker.new }
+{
+    for _turn in rt.forever() {
+        match tick(rt, alloc, server, worker) {
+            Tried::Done => {}
+            Tried::Idle => rest(rt),
+            Tried::Over => return,
+        }
+    }
+}
+
+/// Begins, runs and ends one tick, where a region owes one.
+pub fn tick<R: Wait>(rt: &R, alloc: Global, server: &Server, worker: &mut Worker) -> Tried
+    requires of { IsWorkerOf server.now worker.old }
+    ensures same { IsSameWorker worker.old worker.new }
+{
+    match server.live.begin(rt, alloc, &mut worker.seat) {
+        Ok(LiveBegin::Got(tick)) => run_and_end(rt, alloc, server, worker, tick),
+        Ok(LiveBegin::Idle) => Tried::Idle,
+        Ok(LiveBegin::Over) => Tried::Over,
+        Err(_) => give_up(rt, server, worker),
+    }
+}
+
+/// Runs a tick that was begun, shows it to the book of visits, and gives it back to the world.
+fn run_and_end<R: Wait>(
+    rt: &R,
+    alloc: Global,
+    server: &Server,
+    worker: &mut Worker,
+    tick: Tick,
+) -> Tried
+    requires of { IsWorkerOf server.now worker.old }
+    requires holds { HoldsTick worker.old.seat tick }
+    ensures same { IsSameWorker worker.old worker.new }
+{
+    let live = &server.live;
+    let ran = replace_with(
+        &mut worker.seat,
+        tick,
+        |seat: Seat, tick: Tick| -> (Seat, Option<Tick>)
+            requires { (seat.lock ≡ live_id live.now) × HoldsTick seat tick }
+            ensures { Ran seat result.0 result.1 }
+        { run(rt, alloc, live, seat, tick) },
+    );
+    match ran {
+        Some(tick) => end(rt, alloc, server, worker, tick),
+        None => give_up(rt, server, worker),
+    }
+}
+
+/// Runs a tick, without the lock. The seat is its host meanwhile: what the tick loads and unloads is recorded as the seat's. Hands the seat
+/// back, and the tick where it has run.
+fn run<R: Wait>(rt: &R, alloc: Global, live: &Live, seat: Seat, tick: Tick) -> (Seat, Option<Tick>)
+    requires own { seat.lock ≡ live_id live.now }
+    requires holds { HoldsTick seat tick }
+    ensures { Ran seat result.0 result.1 }
+{
+    let mut tick = tick;
+    let mut host = LiveHost::of(rt, live, seat);
+    let ran = run_tick(alloc, &mut tick, &mut host);
+    let seat = host.into_seat();
+    match ran {
+        Ok(()) => (seat, Some(tick)),
+        Err(_) => (seat, None),
+    }
+}
+
+/// Ends a tick that has run. The book sees it before the world takes it back, and keeps the visits that it makes.
+fn end<R: Wait>(rt: &R, alloc: Global, server: &Server, worker: &mut Worker, tick: Tick) -> Tried
+    requires of { IsWorkerOf server.now worker.old }
+    requires holds { HoldsRun worker.old.seat tick }
+    ensures same { IsSameWorker worker.old worker.new }
+{
+    if server
+        .book
+        .visit(rt, alloc, &mut worker.pages, &tick)
+        .is_err()
+    {
+        return give_up(rt, server, worker);
+    }
+    match server.live.release(rt, alloc, &mut worker.seat, tick) {
+        Ok(_length) => Tried::Done,
+        Err(_) => give_up(rt, server, worker),
+    }
+}
+
+/// Stops the world, so that no other thread waits for the end of this tick.
+fn give_up<R: Wait>(rt: &R, server: &Server, worker: &mut Worker) -> Tried
+    requires of { IsWorkerOf server.now worker.old }
+    ensures same { IsSameWorker worker.old worker.new }
+{
+    server.live.stop(rt, &mut worker.seat);
+    Tried::Over
+}
+
+/// Stays away for a moment. Each look for a tick is a turn of the lock, which serves in order, so who finds nothing does not look again at once.
+pub fn rest<R: Wait>(rt: &R) {
+    Parker::new().park_timeout(rt, Duration::from_micros(REST_MICROS));
+}
