@@ -24,7 +24,12 @@ mod reading;
 mod tests;
 mod words;
 
+pub use actions::action;
+pub use events::read_event;
+pub use faults::Fault;
+pub use lines::{behind_head, cut_line};
 pub use reading::{EventLines, read_events};
+pub use words::{Words, is_word};
 
 /// Two events in range with the same words are the same.
 pub fn one_event()

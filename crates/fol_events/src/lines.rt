@@ -27,7 +27,7 @@ fn line_end(bytes: &[u8]) -> Option<usize>
 }
 
 /// The first line without its end, and the bytes behind its end.
-fn cut_line(bytes: &[u8]) -> Result<(&[u8], &[u8]), Fault>
+pub fn cut_line(bytes: &[u8]) -> Result<(&[u8], &[u8]), Fault>
     ensures found { IfOk result (λ r. (has_no_feed r.0.now ≡ true) × (bytes.now ≡ r.0.now ++ 10 ∷ r.1.now)) }
     ensures none { OnErr result (has_no_feed bytes.now ≡ true) }
 {

@@ -127,7 +127,7 @@ impl<'a> Words<'a> {
     }
 
     /// A number from `low` to `high`.
-    fn integer(&mut self, low: i64, high: i64) -> Result<i32, Fault>
+    pub fn integer(&mut self, low: i64, high: i64) -> Result<i32, Fault>
         requires low { negsuc 2147483647 ≤ℤ low }
         requires high { high ≤ℤ pos 2147483647 }
         ensures found { IfOk result (λ z. (low ≤ℤ z) × (z ≤ℤ high) × (self.old ≡ signed_decimal z ∷ self.new)) }

@@ -1,0 +1,12 @@
+pub mod Rows
+pub mod Parts
+pub mod Reports
+pub mod Holds
+pub mod Counts
+pub mod Layouts
+pub mod Places
+pub mod Marks
+pub mod Legends
+pub mod Pictures
+pub mod Runs
+pub mod Complaints
