@@ -40,6 +40,18 @@ run() {
     ./fol "$@" >"$out" 2>"$work/err" || code=$?
 }
 
+# draw OUTPUT WORLD REPORT: the picture of a report and the complaint, and the exit status in `code`
+draw() {
+    local out=$1
+    shift
+    code=0
+    ./fol-map "$@" >"$out" 2>"$work/err" || code=$?
+}
+
+not_drawn() {
+    [ "$code" = 10 ] && [ ! -s "$work/out" ] && [ "$(cat "$work/err")" = "fol-map: report line $1" ]
+}
+
 bad_line_told() {
     local expected=4
     if grep -q '^fol: world' "$1/error.txt"; then
@@ -156,6 +168,18 @@ for bad in examples/checks/*; do
     run "$work/said" check examples/first/world.txt examples/first/script.txt "$bad/report.txt"
     is "$bad" bad_report_told "$bad"
 done
+
+for picture in examples/*/picture.svg examples/rules/*/picture.svg; do
+    folder=$(dirname "$picture")
+    draw "$work/out" "$folder/world.txt" "$folder/report.txt"
+    is "$picture" same "$work/out" "$picture"
+done
+
+# what is no report is not drawn
+draw "$work/out" examples/first/world.txt examples/checks/another_version/report.txt
+is "a report of another version" not_drawn 1
+draw "$work/out" examples/first/world.txt examples/checks/a_carriage_return/report.txt
+is "a report with a carriage return" not_drawn "$(grep -n $'\r' examples/checks/a_carriage_return/report.txt | head -1 | cut -d: -f1)"
 
 for summary in examples/made/*.txt; do
     run "$work/out" make "$(basename "$summary" .txt)"

@@ -1,10 +1,10 @@
 -- From how the drawing of a closing ends to how a run ends.
-use Rattle.std.proofs.Common.{◌≡◌, ℕ, ◌∙◌, ◌≤◌, inl, inr, refl, sym, true, List, [], ◌∷◌}
-use Rattle.std.specs.Prelude.{◌⊎◌, Option}
+use Rattle.std.proofs.Common.{◌≡◌, ℕ, ◌∙◌, ◌≤◌, inl, inr, refl, sym, List, [], ◌∷◌}
+use Rattle.std.specs.Prelude.{◌⊎◌, Option, Some}
 use Rattle.fol_model.specs.declared.openings.Opening.{Opening}
 use Rattle.fol_model.specs.Texts.{IsWorldText}
 use Rattle.fol_io.specs.Shelf.{IsHeld}
-use Rattle.fol_map.specs.Runs.{Came, Course, FilesCame, FilesEnd, IsDrawn, IsDrawnOver, Names, OneOf, Outcome, PutEnds, ReportEnds, TextsEnd, is_name}
+use Rattle.fol_map.specs.Runs.{Came, Course, FilesCame, FilesEnd, IsDrawn, IsDrawnOver, Names, OneOf, Outcome, PutEnds, ReportEnds, TextsEnd, names_in}
 use Rattle.fol_map.specs.declared.endings.Ending.{Ending}
 use Rattle.fol_map.specs.declared.endings.Ending.TheVariants.{Written, Words, World, ReadFault, WriteFault, NoMemory, TooLong, Report}
 
@@ -53,21 +53,21 @@ files_end v world report wb rb hw hr ReadFault h = absurd h
 files_end v world report wb rb hw hr TooLong h = absurd h
 files_end v world report wb rb hw hr (Report line) h = record { world_bytes = wb; report_bytes = rb; world_held = hw; report_held = hr; ends = h }
 
-came : (v : Course) (world report : List ℕ) → v.words ≡ world ∷ report ∷ [] → is_name world ≡ true → is_name report ≡ true → (e : Ending) → FilesCame v world report e → Came v e
-came v world report w nw nr e h = record {
+came : (v : Course) (world report : List ℕ) → names_in v.words ≡ Some (record { world = world; report = report }) → (e : Ending) → FilesCame v world report e → Came v e
+came v world report w e h = record {
   world = h.world_bytes;
   report = h.report_bytes;
-  inputs = record { names = record { world = world; report = report; words_are = w; world_name = nw; report_name = nr }; world_held = h.world_held; report_held = h.report_held };
+  inputs = record { names = record { world = world; report = report; command = w }; world_held = h.world_held; report_held = h.report_held };
   ends = h.ends;
 }
 
 -- the work on the files that the words name
-pub run_ends : (v : Course) (world report : List ℕ) → v.words ≡ world ∷ report ∷ [] → is_name world ≡ true → is_name report ≡ true → (e : Ending) → FilesEnd v world report e → Outcome v e
-run_ends v world report w nw nr Written h = came v world report w nw nr Written h
-run_ends v world report w nw nr WriteFault h = came v world report w nw nr WriteFault h
-run_ends v world report w nw nr NoMemory h = h
-run_ends v world report w nw nr Words h = absurd h
-run_ends v world report w nw nr (World line cause) h = came v world report w nw nr (World line cause) h
-run_ends v world report w nw nr ReadFault h = record { names = record { world = world; report = report; words_are = w; world_name = nw; report_name = nr }; fact = h.fact; nothing = h.nothing }
-run_ends v world report w nw nr TooLong h = record { names = record { world = world; report = report; words_are = w; world_name = nw; report_name = nr }; fact = h.fact; nothing = h.nothing }
-run_ends v world report w nw nr (Report line) h = came v world report w nw nr (Report line) h
+pub run_ends : (v : Course) (world report : List ℕ) → names_in v.words ≡ Some (record { world = world; report = report }) → (e : Ending) → FilesEnd v world report e → Outcome v e
+run_ends v world report w Written h = came v world report w Written h
+run_ends v world report w WriteFault h = came v world report w WriteFault h
+run_ends v world report w NoMemory h = h
+run_ends v world report w Words h = absurd h
+run_ends v world report w (World line cause) h = came v world report w (World line cause) h
+run_ends v world report w ReadFault h = record { names = record { world = world; report = report; command = w }; fact = h.fact; nothing = h.nothing }
+run_ends v world report w TooLong h = record { names = record { world = world; report = report; command = w }; fact = h.fact; nothing = h.nothing }
+run_ends v world report w (Report line) h = came v world report w (Report line) h

@@ -1,9 +1,10 @@
 -- One more event, and one more hold.
-use Rattle.std.proofs.Common.{◌≡◌, ℕ, ◌+◌, ◌-◌, ◌<◌, ◌≤◌, refl, sym, ap, ◌∙◌, subst, arith, Bool, true, false, inl, inr, List, [], ◌∷◌, ◌++◌}
+use Rattle.std.proofs.Common.{◌≡◌, ℕ, ◌+◌, ◌-◌, ◌<◌, ◌≤◌, refl, sym, ap, ◌∙◌, subst, arith, zero-add, Bool, true, false, inl, inr, List, [], ◌∷◌, ◌++◌}
 use Rattle.std.specs.Prelude.{count_by, if◌then◌else◌, cond, Option, Some, None}
 use Rattle.std.specs.Option.{IfSome, unwrap_or}
 use Rattle.std.specs.BTreeMap.{BTreeMap, get, is_at}
 use Rattle.std.proofs.lemmas.Bool.{cases_Bool}
+use Rattle.std.proofs.lemmas.List.Sums.{sum_by-append}
 use Rattle.fol_model.specs.declared.places.ChunkPos.{ChunkPos}
 use Rattle.fol_model.specs.declared.events.Loaded.TheVariants as loaded
 use Rattle.fol_model.specs.declared.events.Unloaded.TheVariants as unloaded
@@ -93,8 +94,7 @@ counted_at m n d w e h all q = elim (cases_Bool (same_chunk d q)) [
 -- ---- one more task
 
 count_more : {X : Type 0} (p : X → Bool) (xs : List X) (x : X) → count_by p (xs ++ x ∷ []) ≡ count_by p xs + cond (p x) 1 0
-count_more p [] x = omega arith
-count_more p (y ∷ ys) x = omega (arith, count_more p ys x)
+count_more {X} p xs x = sum_by-append (λ (y : X). cond (p y) 1 0) xs (x ∷ []) ∙ ap (λ (n : ℕ). count_by p xs + n) (zero-add (cond (p x) 1 0))
 
 pub holds_more : (es : List Entry) (ts : List TaskRow) (t : TaskRow) (c : ChunkPos) → holds es (ts ++ t ∷ []) c ≡ holds es ts c + one_at t.task.chunk c
 holds_more es ts t c = omega (arith, count_more (λ (r : TaskRow). same_chunk r.task.chunk c) ts t)

@@ -45,22 +45,32 @@ between axis at across a [] = []
 between axis at across a (b ∷ more) = gap_mark axis at across (unsigned_abs (a -ℤ b))
 
 -- how far behind a column or row the next one begins
-abbrev pub ahead : ℤ → List ℤ → ℕ
+unfoldable pub ahead : ℤ → List ℤ → ℕ
 ahead a [] = 0
 ahead a (b ∷ more) = 512 * step a b
+
+-- the number of a column or row, and what stands between it and those behind it
+unfoldable pub place_marks : Axis → ℕ → ℕ → ℤ → List ℤ → List ℕ
+place_marks axis at across a more = number_mark axis at a ++ between axis at across a more
 
 -- the numbers of the columns or rows, from here on, and the lines between those that are far apart
 abbrev pub axis_marks : Axis → ℕ → ℕ → List ℤ → List ℕ
 axis_marks axis at across [] = []
-axis_marks axis at across (a ∷ more) = number_mark axis at a ++ between axis at across a more ++ axis_marks axis (at + ahead a more) across more
+axis_marks axis at across (a ∷ more) = place_marks axis at across a more ++ axis_marks axis (at + ahead a more) across more
 
 -- ---- the legend: lines of 224 units
 
+unfoldable pub swatch : ℕ → ℕ → List ℕ
+swatch y colour = codes "<path class='r" ++ decimal colour ++ codes "' d='M768 " ++ decimal y ++ codes "h192v176h-192z'/>"
+
+unfoldable pub region_name : ℕ → ℕ → List ℕ
+region_name y id = codes "<text class='l' x='1056' y='" ++ decimal y ++ codes "'>" ++ codes "region " ++ decimal id ++ codes ": "
+
+unfoldable pub region_sizes : RegionRow → List ℕ
+region_sizes r = codes ", tick " ++ decimal r.tick ++ codes ", owed " ++ decimal r.owed ++ codes ", sections " ++ decimal r.sections ++ codes ", chunks " ++ decimal r.chunks ++ codes "</text>\n"
+
 unfoldable pub region_line : ℕ → RegionRow → List ℕ
-region_line y r =
-    codes "<path class='r" ++ decimal (r.id % 12) ++ codes "' d='M768 " ++ decimal y ++ codes "h192v176h-192z'/>" ++ codes "<text class='l' x='1056' y='" ++ decimal (y + 136)
-    ++ codes "'>region " ++ decimal r.id ++ codes ": " ++ state_word r.state ++ codes ", tick " ++ decimal r.tick ++ codes ", owed " ++ decimal r.owed
-    ++ codes ", sections " ++ decimal r.sections ++ codes ", chunks " ++ decimal r.chunks ++ codes "</text>\n"
+region_line y r = swatch y (r.id % 12) ++ region_name (y + 136) r.id ++ state_word r.state ++ region_sizes r
 
 abbrev pub region_lines : ℕ → List RegionRow → List ℕ
 region_lines y [] = []

@@ -1,5 +1,5 @@
 -- What an ending says of a run of the program.
-use Rattle.std.specs.Prelude.{ℕ, ◌≡◌, ◌⊎◌, Bool, true, false, not, ◌==◌, List, [], ◌∷◌, Option, Some}
+use Rattle.std.specs.Prelude.{ℕ, ◌≡◌, ◌⊎◌, Bool, false, not, ◌==◌, List, [], ◌∷◌, Option, Some, None, ◌&&◌, if◌then◌else◌}
 use Rattle.fol_model.specs.declared.causes.Cause.{Cause}
 use Rattle.fol_model.specs.declared.openings.Opening.{Opening}
 use Rattle.fol_model.specs.declared.closings.Closing.{Closing}
@@ -37,13 +37,21 @@ abbrev pub is_name : List ℕ → Bool
 is_name [] = false
 is_name (b ∷ bs) = not (b == 45)
 
--- the words name a world and a report
+-- the names of a world and of a report
+pub record FileNames : Type 0 where
+  pub world : List ℕ
+  pub report : List ℕ
+
+-- the names that words are; None where they are not two names
+abbrev pub names_in : List (List ℕ) → Option FileNames
+names_in (world ∷ report ∷ []) = if is_name world && is_name report then Some (record { world = world; report = report }) else None
+names_in _ = None
+
+-- the words are the names of a world and of a report
 pub record Names (words : List (List ℕ)) : Type 0 where
   pub world : List ℕ
   pub report : List ℕ
-  pub words_are : words ≡ world ∷ report ∷ []
-  pub world_name : is_name world ≡ true
-  pub report_name : is_name report ≡ true
+  pub command : names_in words ≡ Some (record { world = world; report = report })
 
 -- how many bytes a file may have
 abbrev pub size_limit : ℕ
@@ -136,7 +144,7 @@ FilesEnd v world report ending = FilesCame v world report ending
 
 -- the words name no files, nothing was read and nothing was written
 pub record NoNames (v : Course) : Type 0 where
-  pub none : Names v.words → ⊥
+  pub none : names_in v.words ≡ None
   pub reads : v.reads_later ≡ v.reads
   pub nothing : v.received_later ≡ v.received
 

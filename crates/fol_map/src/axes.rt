@@ -1,7 +1,7 @@
 //! The numbers of columns and rows, and what is left out between them.
 
 ghost use Rattle.std.specs.Prelude.{◌≡◌, ◌<◌, ◌≤◌, ◌^◌, ◌++◌, IfOk, string_bytes};
-ghost use Rattle.fol_map.specs.Legends.{ahead, axis_marks, between, column_cut, column_number, cut_mark, gap_mark, number_mark, row_cut, row_number};
+ghost use Rattle.fol_map.specs.Legends.{ahead, axis_marks, between, column_cut, column_number, cut_mark, gap_mark, number_mark, place_marks, row_cut, row_number};
 
 use crate::layouts::step;
 use crate::places::SECTION;
@@ -17,6 +17,7 @@ pub enum Axis {
 }
 
 /// Puts the number of a column that begins here.
+#[tactic(auto, unfolding(crate::specs::Legends::column_number))]
 fn put_column_number(out: &mut String, at: u128, number: i32) -> Result<(), AllocError>
     requires { at < 2 ^ 100 }
     ensures { IfOk result (λ _. string_bytes out.new ≡ string_bytes out.old ++ column_number at number) }
@@ -26,6 +27,7 @@ fn put_column_number(out: &mut String, at: u128, number: i32) -> Result<(), Allo
 }
 
 /// Puts the number of a row that begins here.
+#[tactic(auto, unfolding(crate::specs::Legends::row_number))]
 fn put_row_number(out: &mut String, at: u128, number: i32) -> Result<(), AllocError>
     requires { at < 2 ^ 100 }
     ensures { IfOk result (λ _. string_bytes out.new ≡ string_bytes out.old ++ row_number at number) }
@@ -119,7 +121,25 @@ fn put_between(
     }
 }
 
+/// Puts the number of a column or row, and what stands between it and those behind it.
+#[tactic(auto, unfolding(crate::specs::Legends::place_marks))]
+fn put_place(
+    out: &mut String,
+    axis: Axis,
+    at: u128,
+    across: u128,
+    place: i32,
+    more: &[i32],
+) -> Result<(), AllocError>
+    requires { at < 2 ^ 100 }
+    ensures { IfOk result (λ _. string_bytes out.new ≡ string_bytes out.old ++ place_marks axis at across place more.now) }
+{
+    put_number(out, axis, at, place)?;
+    put_between(out, axis, at, across, place, more)
+}
+
 /// How far behind a column or row the next one begins.
+#[tactic(auto, unfolding(crate::specs::Legends::ahead))]
 fn ahead(place: i32, more: &[i32]) -> u128
     ensures value { result ≡ ahead place more.now }
     ensures small { result ≤ 2048 }
@@ -144,8 +164,7 @@ pub fn put_axis(
     let mut rest = places;
     let mut at = start;
     while let [place, more @ ..] = rest {
-        put_number(out, axis, at, *place)?;
-        put_between(out, axis, at, across, *place, more)?;
+        put_place(out, axis, at, across, *place, more)?;
         at += ahead(*place, more);
         rest = more;
     }

@@ -1,9 +1,9 @@
 //! Which columns and rows of sections are drawn, and how far apart.
 
-ghost use Rattle.std.specs.Prelude.{◌≡◌, ◌<◌, ◌≤◌, ◌^◌, ℤ, map, IfOk};
-ghost use Rattle.std.specs.List.{list_any};
+ghost use Rattle.std.specs.Prelude.{◌≡◌, ◌<◌, ◌≤◌, ◌^◌, map, IfOk};
 ghost use Rattle.std.specs.List.Sorted.{IsStrictlySortedBy};
-ghost use Rattle.std.specs.Ordering.{eq_by_cmp, int_cmp};
+ghost use Rattle.std.specs.Ordering.{int_cmp};
+ghost use Rattle.std.specs.BTreeSet.{IsFromIterResult};
 ghost use Rattle.fol_model.specs.declared.places.SectionPos.{SectionPos};
 ghost use Rattle.fol_map.specs.Holds.{holds};
 ghost use Rattle.fol_map.specs.Layouts.{AreHeld, IsAxis, IsLayout, cell, drawn, step, width};
@@ -98,14 +98,14 @@ fn drawn_sections(
 
 /// The columns of some sections, as a set.
 fn column_set(alloc: Global, sections: &[SectionPos]) -> Result<BTreeSet<i32>, AllocError>
-    ensures { IfOk result (λ set. (q : ℤ) → list_any (eq_by_cmp int_cmp q) set.keys ≡ list_any (eq_by_cmp int_cmp q) (map (λ (s : SectionPos). s.x) sections.now)) }
+    ensures { IfOk result (λ set. IsFromIterResult int_cmp (map (λ (s : SectionPos). s.x) sections.now) set) }
 {
     sections.iter().map(|s| s.x).collect::<BTreeSet<i32>>(alloc)
 }
 
 /// The rows of some sections, as a set.
 fn row_set(alloc: Global, sections: &[SectionPos]) -> Result<BTreeSet<i32>, AllocError>
-    ensures { IfOk result (λ set. (q : ℤ) → list_any (eq_by_cmp int_cmp q) set.keys ≡ list_any (eq_by_cmp int_cmp q) (map (λ (s : SectionPos). s.z) sections.now)) }
+    ensures { IfOk result (λ set. IsFromIterResult int_cmp (map (λ (s : SectionPos). s.z) sections.now) set) }
 {
     sections.iter().map(|s| s.z).collect::<BTreeSet<i32>>(alloc)
 }

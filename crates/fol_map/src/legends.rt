@@ -2,7 +2,7 @@
 
 ghost use Rattle.std.specs.Prelude.{◌≡◌, ℕ, ◌<◌, ◌≤◌, ◌+◌, ◌*◌, ◌^◌, ◌++◌, length, count_by, IfOk, string_bytes};
 ghost use Rattle.fol_model.specs.ReportWords.{state_word};
-ghost use Rattle.fol_map.specs.Legends.{chunks_line, cuts_line, entities_line, is_away, left_line, legend, marks_legend, more_line, region_line, region_line_count, region_lines, regions_legend, scale_line, tasks_line};
+ghost use Rattle.fol_map.specs.Legends.{chunks_line, cuts_line, entities_line, is_away, left_line, legend, marks_legend, more_line, region_line, region_line_count, region_lines, region_name, region_sizes, regions_legend, scale_line, swatch, tasks_line};
 
 use crate::layouts::Layout;
 use crate::marks::COLOURS;
@@ -36,18 +36,48 @@ fn state_word(state: State) -> &'static str
     }
 }
 
+/// Puts the colour of a region.
+#[tactic(auto, unfolding(crate::specs::Legends::swatch))]
+fn put_swatch(out: &mut String, y: u128, colour: u64) -> Result<(), AllocError>
+    ensures { IfOk result (λ _. string_bytes out.new ≡ string_bytes out.old ++ swatch y colour) }
+{
+    write!(out, "<path class='r{colour}' d='M768 {y}h192v176h-192z'/>")
+}
+
+/// Puts the name of a region.
+fn put_region_name(out: &mut String, y: u128, id: u64) -> Result<(), AllocError>
+    ensures { IfOk result (λ _. string_bytes out.new ≡ string_bytes out.old ++ region_name y id) }
+{
+    write!(out, "<text class='l' x='1056' y='{y}'>")?;
+    write!(out, "region {id}: ")
+}
+
+/// Puts the word of a state.
+fn put_state(out: &mut String, state: State) -> Result<(), AllocError>
+    ensures { IfOk result (λ _. string_bytes out.new ≡ string_bytes out.old ++ state_word state) }
+{
+    out.push_str(state_word(state))?;
+    Ok(())
+}
+
+/// Puts the numbers of a region.
+fn put_region_sizes(out: &mut String, region: &RegionRow) -> Result<(), AllocError>
+    ensures { IfOk result (λ _. string_bytes out.new ≡ string_bytes out.old ++ region_sizes region.now) }
+{
+    write!(out, ", tick {}, owed {}", region.tick, region.owed)?;
+    write!(out, ", sections {}, chunks {}</text>\n", region.sections, region.chunks)
+}
+
 /// Puts the line of a region.
+#[tactic(auto, unfolding(crate::specs::Legends::region_line))]
 fn put_region(out: &mut String, y: u128, region: &RegionRow) -> Result<(), AllocError>
     requires { y < 2 ^ 110 }
     ensures { IfOk result (λ _. string_bytes out.new ≡ string_bytes out.old ++ region_line y region.now) }
 {
-    let colour = region.id % COLOURS;
-    let base = y + 136;
-    let state = state_word(region.state);
-    write!(out, "<path class='r{colour}' d='M768 {y}h192v176h-192z'/>")?;
-    write!(out, "<text class='l' x='1056' y='{base}'>region {}: {state}", region.id)?;
-    write!(out, ", tick {}, owed {}", region.tick, region.owed)?;
-    write!(out, ", sections {}, chunks {}</text>\n", region.sections, region.chunks)
+    put_swatch(out, y, region.id % COLOURS)?;
+    put_region_name(out, y + 136, region.id)?;
+    put_state(out, region.state)?;
+    put_region_sizes(out, region)
 }
 
 /// Puts a line for each of some regions.

@@ -38,6 +38,7 @@ pub fn put_marks<M: Mark>(
 }
 
 /// Puts the square of a section.
+#[tactic(auto, unfolding(crate::specs::Marks::section_shape))]
 fn put_section_shape(out: &mut String, colour: u64, at: Point) -> Result<(), AllocError>
     ensures { IfOk result (λ _. string_bytes out.new ≡ string_bytes out.old ++ section_shape colour at) }
 {

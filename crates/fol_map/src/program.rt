@@ -1,11 +1,10 @@
 //! The program as one call.
 
-ghost use Rattle.std.specs.Prelude.{◌≡◌, ◌≤◌, ℕ, List, [], ◌∷◌, map, IfOk, IfErr};
-ghost use Rattle.fol_io.specs.Counts.{raised};
+ghost use Rattle.std.specs.Prelude.{◌≡◌, ◌≤◌, ℕ, List, map, Some, None, IfOk, IfErr, MatchOption};
 ghost use Rattle.fol_io.specs.Shelf.{IsHeld};
 ghost use Rattle.fol_map.specs.Complaints.{Complains};
 ghost use Rattle.fol_map.specs.Pictures.{IsPicture};
-ghost use Rattle.fol_map.specs.Runs.{FileEnds, FilesEnd, Outcome, PutEnds, ReportEnds, TextsEnd, is_name};
+ghost use Rattle.fol_map.specs.Runs.{FileEnds, FilesEnd, Outcome, PutEnds, ReportEnds, TextsEnd, is_name, names_in};
 
 use crate::endings::{Ending, complain};
 use crate::parts::Fault;
@@ -43,11 +42,32 @@ pub fn run<F: Shelf, K: Sink, E: Sink>(
 fn work<F: Shelf, K: Sink>(alloc: Global, words: &[&str], shelf: &mut F, out: &mut K) -> Ending
     ensures { Outcome (record { words = map (λ w. w.now) words.now; held = F.held shelf.old; faults = F.faults shelf.old; faults_later = F.faults shelf.new; taken = F.taken shelf.old; taken_later = F.taken shelf.new; reads = F.reads shelf.old; reads_later = F.reads shelf.new; received = K.received out.old; received_later = K.received out.new; write_faults = K.faults out.old; write_faults_later = K.faults out.new; puts = K.puts out.old; puts_later = K.puts out.new }) result }
 {
+    match names_in(words) {
+        None => Ending::Words,
+        Some(names) => draw_files(alloc, names.world, names.report, shelf, out),
+    }
+}
+
+/// The names of a world and of a report.
+#[derive(Clone, Copy)]
+struct Names<'a> {
+    world: &'a str,
+    report: &'a str,
+}
+
+/// The names that the words are; `None` exactly where they are not two names.
+fn names_in<'a>(words: &[&'a str]) -> Option<Names<'a>>
+    ensures { MatchOption result (names_in (map (λ w. w.now) words.now) ≡ None) (λ n. names_in (map (λ w. w.now) words.now) ≡ Some (record { world = n.world.now; report = n.report.now })) }
+{
     match words {
-        [world, report] if is_name(world) && is_name(report) => {
-            draw_files(alloc, world, report, shelf, out)
+        [world, report] => {
+            if is_name(world) && is_name(report) {
+                Some(Names { world, report })
+            } else {
+                None
+            }
         }
-        _ => Ending::Words,
+        _ => None,
     }
 }
 
@@ -69,7 +89,7 @@ fn draw_files<F: Shelf, K: Sink>(
     shelf: &mut F,
     out: &mut K,
 ) -> Ending
-    ensures { FilesEnd (record { words = world.now ∷ report.now ∷ []; held = F.held shelf.old; faults = F.faults shelf.old; faults_later = F.faults shelf.new; taken = F.taken shelf.old; taken_later = F.taken shelf.new; reads = F.reads shelf.old; reads_later = F.reads shelf.new; received = K.received out.old; received_later = K.received out.new; write_faults = K.faults out.old; write_faults_later = K.faults out.new; puts = K.puts out.old; puts_later = K.puts out.new }) world.now report.now result }
+    ensures { (words : List (List ℕ)) → FilesEnd (record { words = words; held = F.held shelf.old; faults = F.faults shelf.old; faults_later = F.faults shelf.new; taken = F.taken shelf.old; taken_later = F.taken shelf.new; reads = F.reads shelf.old; reads_later = F.reads shelf.new; received = K.received out.old; received_later = K.received out.new; write_faults = K.faults out.old; write_faults_later = K.faults out.new; puts = K.puts out.old; puts_later = K.puts out.new }) world.now report.now result }
 {
     let world = match read_file(alloc, world, shelf) {
         Ok(bytes) => bytes,

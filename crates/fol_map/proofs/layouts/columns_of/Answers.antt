@@ -5,4 +5,4 @@ use Rattle.fol_map.proofs.Ordered.{axis_of}
 use Rattle.fol_map.proofs.layouts.columns_of.Goals as goal
 
 pub returns : goal.returns
-returns c = IfOk-weaker c.in_order.result _ _ (λ xs e. axis_of (map (λ (s : SectionPos). s.x) c.args.sections.now) c.in_ok-set.set.keys xs.items e c.in_order.ensures.ordered c.in_ok-set.ensures) c.in_order.ensures.keys
+returns c = IfOk-weaker c.in_order.result _ _ (λ xs e. axis_of (map (λ (s : SectionPos). s.x) c.args.sections.now) c.in_ok-set.set.keys xs.items e c.in_order.ensures.ordered c.in_ok-set.ensures.0) c.in_order.ensures.keys

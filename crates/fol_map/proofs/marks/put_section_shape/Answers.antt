@@ -1,8 +1,0 @@
-use Rattle.std.proofs.Common.{◌∙◌, append_assoc}
-use Rattle.std.proofs.lemmas.Result.{IfOk-weaker}
-use Rattle.fol_map.specs.Marks.{section_shape}
-use Rattle.fol_map.proofs.marks.put_section_shape.Goals as goal
-
-pub returns : goal.returns
-unfolding section_shape
-returns c = IfOk-weaker c.write.result _ _ (λ x e. e ∙ simp append_assoc) c.write.ensures.bytes
