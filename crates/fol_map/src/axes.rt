@@ -23,7 +23,10 @@ fn put_column_number(out: &mut String, at: u128, number: i32) -> Result<(), Allo
     ensures { IfOk result (λ _. string_bytes out.new ≡ string_bytes out.old ++ column_number at number) }
 {
     let middle = at + 256;
-    write!(out, "<text class='n' x='{middle}' y='416'>{number}</text>\n")
+    write!(
+        out,
+        "<text class='n' x='{middle}' y='416'>{number}</text>\n"
+    )
 }
 
 /// Puts the number of a row that begins here.
@@ -54,7 +57,10 @@ fn put_column_cut(out: &mut String, at: u128, across: u128, count: u32) -> Resul
 {
     let middle = at + 768;
     write!(out, "<path class='g' d='M{middle} 512v{across}'/>")?;
-    write!(out, "<text class='n o' x='{middle}' y='416'>{count}</text>\n")
+    write!(
+        out,
+        "<text class='n o' x='{middle}' y='416'>{count}</text>\n"
+    )
 }
 
 /// Puts a line across the picture behind the row that begins here, and how many are left out.

@@ -65,7 +65,11 @@ fn put_region_sizes(out: &mut String, region: &RegionRow) -> Result<(), AllocErr
     ensures { IfOk result (λ _. string_bytes out.new ≡ string_bytes out.old ++ region_sizes region.now) }
 {
     write!(out, ", tick {}, owed {}", region.tick, region.owed)?;
-    write!(out, ", sections {}, chunks {}</text>\n", region.sections, region.chunks)
+    write!(
+        out,
+        ", sections {}, chunks {}</text>\n",
+        region.sections, region.chunks
+    )
 }
 
 /// Puts the line of a region.
@@ -110,7 +114,11 @@ fn put_more(out: &mut String, y: u128, count: usize) -> Result<(), AllocError>
     requires { y < 2 ^ 110 }
     ensures { IfOk result (λ _. string_bytes out.new ≡ string_bytes out.old ++ more_line y count) }
 {
-    if count == 0 { Ok(()) } else { put_left(out, y, count) }
+    if count == 0 {
+        Ok(())
+    } else {
+        put_left(out, y, count)
+    }
 }
 
 /// Puts the first regions, and how many more there are.
@@ -120,7 +128,11 @@ fn put_regions(out: &mut String, y: u128, regions: &[RegionRow]) -> Result<(), A
 {
     let named = regions.len().min(MOST_REGIONS);
     put_region_lines(out, y, &regions[..named])?;
-    put_more(out, y + LINE * 12, regions.len().saturating_sub(MOST_REGIONS))
+    put_more(
+        out,
+        y + LINE * 12,
+        regions.len().saturating_sub(MOST_REGIONS),
+    )
 }
 
 /// How many entities are on their way.
@@ -140,7 +152,10 @@ fn put_chunks_line(out: &mut String, y: u128, count: usize) -> Result<(), AllocE
 {
     let base = y + 136;
     write!(out, "<path class='c' d='M768 {y}h192v176h-192z'/>")?;
-    write!(out, "<text class='l' x='1056' y='{base}'>a loaded chunk: {count}</text>\n")
+    write!(
+        out,
+        "<text class='l' x='1056' y='{base}'>a loaded chunk: {count}</text>\n"
+    )
 }
 
 /// Puts the line of queued tasks.
@@ -149,25 +164,32 @@ fn put_tasks_line(out: &mut String, y: u128, count: usize) -> Result<(), AllocEr
     ensures { IfOk result (λ _. string_bytes out.new ≡ string_bytes out.old ++ tasks_line y count) }
 {
     let base = y + 136;
-    write!(out, "<path class='t' d='M864 {y}m0 16l72 72-72 72-72-72z'/>")?;
-    write!(out, "<text class='l' x='1056' y='{base}'>a queued task, on its chunk: {count}</text>\n")
+    write!(
+        out,
+        "<path class='t' d='M864 {y}m0 16l72 72-72 72-72-72z'/>"
+    )?;
+    write!(
+        out,
+        "<text class='l' x='1056' y='{base}'>a queued task, on its chunk: {count}</text>\n"
+    )
 }
 
 /// Puts the line of entities.
-fn put_entities_line(
-    out: &mut String,
-    y: u128,
-    count: usize,
-    away: usize,
-) -> Result<(), AllocError>
+fn put_entities_line(out: &mut String, y: u128, count: usize, away: usize) -> Result<(), AllocError>
     requires { y < 2 ^ 110 }
     ensures { IfOk result (λ _. string_bytes out.new ≡ string_bytes out.old ++ entities_line y count away) }
 {
     let middle = y + 88;
     let base = y + 136;
     write!(out, "<circle class='e' cx='864' cy='{middle}' r='48'/>")?;
-    write!(out, "<text class='l' x='1056' y='{base}'>an entity, at its block: {count}")?;
-    write!(out, ", of these on their way and not drawn: {away}</text>\n")
+    write!(
+        out,
+        "<text class='l' x='1056' y='{base}'>an entity, at its block: {count}"
+    )?;
+    write!(
+        out,
+        ", of these on their way and not drawn: {away}</text>\n"
+    )
 }
 
 /// Puts the line of what is left out.
@@ -176,8 +198,14 @@ fn put_cuts_line(out: &mut String, y: u128) -> Result<(), AllocError>
     ensures { IfOk result (λ _. string_bytes out.new ≡ string_bytes out.old ++ cuts_line y) }
 {
     let base = y + 136;
-    write!(out, "<path class='g' d='M864 {y}v176'/><text class='l' x='1056' y='{base}'>")?;
-    write!(out, "columns or rows of sections left out, with their number</text>\n")
+    write!(
+        out,
+        "<path class='g' d='M864 {y}v176'/><text class='l' x='1056' y='{base}'>"
+    )?;
+    write!(
+        out,
+        "columns or rows of sections left out, with their number</text>\n"
+    )
 }
 
 /// Puts the scale, for sections of so many chunks.
@@ -186,8 +214,14 @@ fn put_scale_line(out: &mut String, y: u128, side: u32) -> Result<(), AllocError
     ensures { IfOk result (λ _. string_bytes out.new ≡ string_bytes out.old ++ scale_line y side) }
 {
     let base = y + 136;
-    write!(out, "<path class='b' d='M768 {y}m0 40v96m0-48h512m0-48v96'/>")?;
-    write!(out, "<text class='l' x='1344' y='{base}'>a section: {side} by {side}")?;
+    write!(
+        out,
+        "<path class='b' d='M768 {y}m0 40v96m0-48h512m0-48v96'/>"
+    )?;
+    write!(
+        out,
+        "<text class='l' x='1344' y='{base}'>a section: {side} by {side}"
+    )?;
     write!(out, " chunks of 16 by 16 blocks</text>\n")
 }
 

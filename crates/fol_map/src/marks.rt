@@ -24,11 +24,7 @@ pub trait Mark {
 }
 
 /// Puts the mark of each row.
-pub fn put_marks<M: Mark>(
-    out: &mut String,
-    layout: &Layout,
-    rows: &[M],
-) -> Result<(), AllocError>
+pub fn put_marks<M: Mark>(out: &mut String, layout: &Layout, rows: &[M]) -> Result<(), AllocError>
     ensures { IfOk result (λ _. string_bytes out.new ≡ string_bytes out.old ++ flat_map (M.mark layout.now) rows.now) }
 {
     for row in rows {
@@ -42,14 +38,22 @@ pub fn put_marks<M: Mark>(
 fn put_section_shape(out: &mut String, colour: u64, at: Point) -> Result<(), AllocError>
     ensures { IfOk result (λ _. string_bytes out.new ≡ string_bytes out.old ++ section_shape colour at) }
 {
-    write!(out, "<path class='s r{colour}' d='M{} {}h512v512h-512z'>", at.x, at.y)
+    write!(
+        out,
+        "<path class='s r{colour}' d='M{} {}h512v512h-512z'>",
+        at.x, at.y
+    )
 }
 
 /// Puts the name of a section.
 fn put_section_title(out: &mut String, at: SectionPos, region: u64) -> Result<(), AllocError>
     ensures { IfOk result (λ _. string_bytes out.new ≡ string_bytes out.old ++ section_title at region) }
 {
-    write!(out, "<title>section {} {}, region {region}</title></path>\n", at.x, at.z)
+    write!(
+        out,
+        "<title>section {} {}, region {region}</title></path>\n",
+        at.x, at.z
+    )
 }
 
 /// A section has the colour of its region.
@@ -68,7 +72,11 @@ impl Mark for OwnerRow {
 fn put_chunk_shape(out: &mut String, side: u128, at: Point) -> Result<(), AllocError>
     ensures { IfOk result (λ _. string_bytes out.new ≡ string_bytes out.old ++ chunk_shape side at) }
 {
-    write!(out, "<path class='c' d='M{} {}h{side}v{side}h-{side}z'>", at.x, at.y)
+    write!(
+        out,
+        "<path class='c' d='M{} {}h{side}v{side}h-{side}z'>",
+        at.x, at.y
+    )
 }
 
 /// Puts the name of a chunk.
@@ -95,14 +103,22 @@ impl Mark for ChunkPos {
 fn put_task_shape(out: &mut String, at: Point) -> Result<(), AllocError>
     ensures { IfOk result (λ _. string_bytes out.new ≡ string_bytes out.old ++ task_shape at) }
 {
-    write!(out, "<path class='t' d='M{} {}m0-72l72 72-72 72-72-72z'>", at.x, at.y)
+    write!(
+        out,
+        "<path class='t' d='M{} {}m0-72l72 72-72 72-72-72z'>",
+        at.x, at.y
+    )
 }
 
 /// Puts the name of a task.
 fn put_task_title(out: &mut String, number: u64, at: ChunkPos, rest: u32) -> Result<(), AllocError>
     ensures { IfOk result (λ _. string_bytes out.new ≡ string_bytes out.old ++ task_title number at rest) }
 {
-    write!(out, "<title>task {number} on chunk {} {}, in {rest} ticks</title></path>\n", at.x, at.z)
+    write!(
+        out,
+        "<title>task {number} on chunk {} {}, in {rest} ticks</title></path>\n",
+        at.x, at.z
+    )
 }
 
 /// A task stands in the middle of its chunk.
@@ -129,7 +145,11 @@ fn put_dot_shape(out: &mut String, at: Point) -> Result<(), AllocError>
 fn put_dot_title(out: &mut String, id: u32, at: BlockPos) -> Result<(), AllocError>
     ensures { IfOk result (λ _. string_bytes out.new ≡ string_bytes out.old ++ dot_title id at) }
 {
-    write!(out, "<title>entity {id} at {} {} {}</title></circle>\n", at.x, at.y, at.z)
+    write!(
+        out,
+        "<title>entity {id} at {} {} {}</title></circle>\n",
+        at.x, at.y, at.z
+    )
 }
 
 /// Puts the mark of an entity at its place.

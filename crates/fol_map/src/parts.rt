@@ -86,11 +86,7 @@ fn cut_row<R: Row>(alloc: Global, text: &[u8]) -> Result<(R, &[u8]), fol_events:
 }
 
 /// The rows of so many lines, and what follows them.
-fn read_rows<R: Row>(
-    alloc: Global,
-    count: u64,
-    text: &[u8],
-) -> Result<(Sequence<R>, &[u8]), Fault>
+fn read_rows<R: Row>(alloc: Global, count: u64, text: &[u8]) -> Result<(Sequence<R>, &[u8]), Fault>
     requires few { count ≤ 16777216 }
     requires one_line { (r : R) → has_no_feed (line_of (R.words r)) ≡ true }
     ensures found { IfOk result (λ r. Reads R.words R.InRange count text.now r.0 r.1.now) }

@@ -12,7 +12,8 @@ use fol_model::Closing;
 use std::alloc::{AllocError, Global};
 
 /// How the marks look.
-pub const STYLE: &str = "<style>text{font:112px sans-serif;fill:#222}.n{text-anchor:middle}.z{text-anchor:end}.o{fill:#999;font-style:italic}.s{stroke:#fff;stroke-width:12}.c{fill:#000;fill-opacity:.16;stroke:#333;stroke-width:6}.t{fill:#c22;stroke:#fff;stroke-width:12}.e{fill:#124;stroke:#fff;stroke-width:12}.g{stroke:#999;stroke-width:12;stroke-dasharray:48 48;fill:none}.b{stroke:#222;stroke-width:12;fill:none}.p{fill:#fff}.r0{fill:#ccebc5}.r1{fill:#8dd3c7}.r2{fill:#fdb462}.r3{fill:#80b1d3}.r4{fill:#fb8072}.r5{fill:#b3de69}.r6{fill:#bebada}.r7{fill:#fccde5}.r8{fill:#ffed6f}.r9{fill:#d9b38c}.r10{fill:#a1c9f4}.r11{fill:#ff9da7}</style>\n";
+pub const STYLE: &str =
+    "<style>text{font:112px sans-serif;fill:#222}.n{text-anchor:middle}.z{text-anchor:end}.o{fill:#999;font-style:italic}.s{stroke:#fff;stroke-width:12}.c{fill:#000;fill-opacity:.16;stroke:#333;stroke-width:6}.t{fill:#c22;stroke:#fff;stroke-width:12}.e{fill:#124;stroke:#fff;stroke-width:12}.g{stroke:#999;stroke-width:12;stroke-dasharray:48 48;fill:none}.b{stroke:#222;stroke-width:12;fill:none}.p{fill:#fff}.r0{fill:#ccebc5}.r1{fill:#8dd3c7}.r2{fill:#fdb462}.r3{fill:#80b1d3}.r4{fill:#fb8072}.r5{fill:#b3de69}.r6{fill:#bebada}.r7{fill:#fccde5}.r8{fill:#ffed6f}.r9{fill:#d9b38c}.r10{fill:#a1c9f4}.r11{fill:#ff9da7}</style>\n";
 
 /// The least width of a page.
 const LEAST_WIDTH: u128 = 6144;

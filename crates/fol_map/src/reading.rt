@@ -18,7 +18,11 @@ fn read_foot(text: &[u8]) -> Result<(), Fault>
     ensures bad { IfErr result (λ e. OnLine e (λ l. IsBadFoot text.now l)) }
     ensures small { IfErr result (λ e. OnLine e (λ l. l ≤ 1)) }
 {
-    if is_word(text, b"end\n") { Ok(()) } else { Err(Fault::Line(1)) }
+    if is_word(text, b"end\n") {
+        Ok(())
+    } else {
+        Err(Fault::Line(1))
+    }
 }
 
 /// What was read behind so many rows and their count; a line at fault is counted from that count on.
@@ -127,8 +131,10 @@ pub fn read_report(alloc: Global, opening: Opening, bytes: &[u8]) -> Result<Clos
     let Ok(text) = behind_head(bytes) else {
         return Err(Fault::Line(1));
     };
-    let (history, (regions, (owners, (tasks, (entities, blocks))))) =
-        behind(0, read_events(alloc, text))?;
+    let (history, (regions, (owners, (tasks, (entities, blocks))))) = behind(
+        0,
+        read_events(alloc, text),
+    )?;
     Ok(Closing {
         opening,
         history,

@@ -15,8 +15,8 @@ ghost use Rattle.fol_map.specs.Rows.{BlockInRange, EntityInRange, OwnerInRange, 
 use crate::parts::Row;
 use fol_events::{Fault, Words, action, is_word, read_event};
 use fol_model::{
-    Action, BlockAt, ChunkPos, Entity, EntityRow, Entry, OwnerRow, Place, RegionRow, SectionPos, State, Task,
-    TaskRow,
+    Action, BlockAt, ChunkPos, Entity, EntityRow, Entry, OwnerRow, Place, RegionRow, SectionPos,
+    State, Task, TaskRow,
 };
 use std::alloc::Global;
 

@@ -25,13 +25,7 @@ fn main(rt: HostRuntime) -> io::Result<ExitCode> {
     let mut shelf = FileShelf::new(&rt);
     let mut out = StdSink::out(&rt);
     let mut err = StdSink::err(&rt);
-    let ending = run(
-        rt.alloc(),
-        words.as_slice(),
-        &mut shelf,
-        &mut out,
-        &mut err,
-    );
+    let ending = run(rt.alloc(), words.as_slice(), &mut shelf, &mut out, &mut err);
     Ok(ExitCode::from(ending.code()))
 }
 

@@ -8,7 +8,7 @@ use Rattle.fol_map.proofs.Tickets.{ticketed_same, ticketed_small, tickets_more}
 use Rattle.fol_map.proofs.holds.count_tickets.Goals as goal
 
 pub loop-entry-preserved : goal.loop-entry-preserved
-loop-entry-preserved c = 
+loop-entry-preserved c =
     let inv = c.loop-entry.invariant in
     let h = c.args.history.now in
     let i = c.loop-entry.entry-index in

@@ -3,7 +3,7 @@ use Rattle.fol_map.proofs.Outcomes.{files_end}
 use Rattle.fol_map.proofs.program.draw_files.Goals as goal
 
 pub returns : goal.returns
-returns g c words = 
+returns g c words =
     let held = rw (c.in-Ok.ensures.holds_the_same c.args.report.now) at c.in-Ok-read_file.ensures.held in
     let v : Course = record {
       words = words;

@@ -4,7 +4,7 @@ use Rattle.fol_map.proofs.Outcomes.{run_ends}
 use Rattle.fol_map.proofs.program.work.Goals as goal
 
 pub returns-in-Some : goal.returns-in-Some
-returns-in-Some g c = 
+returns-in-Some g c =
     let words : List (List ℕ) = map (λ w. w.now) c.args.words.now in
     let v : Course = record {
       words = words;
