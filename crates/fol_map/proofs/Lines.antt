@@ -1,10 +1,9 @@
 -- The line of a row is one line, and its words are those of the row.
-use Rattle.std.proofs.Common.{◌≡◌, ℕ, ◌<◌, refl, ap, ◌∙◌, arith, Bool, true, List, [], ◌∷◌, ◌++◌, length, decimal, codes}
+use Rattle.std.proofs.Common.{◌≡◌, ℕ, refl, ap, ◌∙◌, arith, Bool, true, List, [], ◌∷◌, decimal, codes}
 use Rattle.std.specs.Prelude.{ℤ, pos}
 use Rattle.std.specs.Fmt.{signed_decimal}
 use Rattle.std.specs.List.{list_all}
 use Rattle.std.proofs.lemmas.Bool.{and_parts, and_from}
-use Rattle.std.proofs.lemmas.List.Folds.{list_all-append}
 use Rattle.fol_model.specs.declared.actions.Action.{Action}
 use Rattle.fol_model.specs.declared.entities.Place.TheVariants.{At}
 use Rattle.fol_model.specs.declared.events.Accept.TheVariants.{Posted}
@@ -19,7 +18,7 @@ use Rattle.fol_model.specs.declared.closings.TaskRow.{TaskRow}
 use Rattle.fol_model.specs.declared.closings.EntityRow.{EntityRow}
 use Rattle.fol_model.specs.TextLines.{words, line_of}
 use Rattle.fol_model.specs.LineWords.{Word}
-use Rattle.fol_model.specs.ReportWords.{action_words, block_row_words, chunk_words, entity_words, entry_words, owner_words, region_words, state_word, task_words}
+use Rattle.fol_model.specs.ReportWords.{action_words, block_row_words, entity_words, entry_words, owner_words, region_words, state_word, task_words}
 use Rattle.fol_report_laws.proofs.InkWords.{blocks_ink, decimal_ink, entities_ink, entries_ink}
 use Rattle.fol_report_laws.proofs.Rows.{InkRows, is_ink, is_ink_word, line_words}
 use Rattle.fol_events.specs.Cuts.{has_no_feed}

@@ -1,5 +1,5 @@
 -- Columns and rows in order.
-use Rattle.std.proofs.Common.{◌≡◌, ℕ, ◌+◌, ◌<◌, refl, sym, ap, ◌∙◌, arith, Bool, true, false, inl, inr, List, [], ◌∷◌, length}
+use Rattle.std.proofs.Common.{◌≡◌, ℕ, ◌<◌, refl, sym, ap, ◌∙◌, arith, List, [], ◌∷◌, length}
 use Rattle.std.specs.Prelude.{ℤ, Option, Some, None, nat_lt, is_some}
 use Rattle.std.specs.Option.{IfSome, unwrap_or}
 use Rattle.std.specs.List.{list_any}

@@ -1,10 +1,10 @@
 -- From how the drawing of a closing ends to how a run ends.
-use Rattle.std.proofs.Common.{◌≡◌, ℕ, ◌∙◌, ◌≤◌, inl, inr, refl, sym, List, [], ◌∷◌}
-use Rattle.std.specs.Prelude.{◌⊎◌, Option, Some}
+use Rattle.std.proofs.Common.{◌≡◌, ℕ, List}
+use Rattle.std.specs.Prelude.{Option, Some}
 use Rattle.fol_model.specs.declared.openings.Opening.{Opening}
 use Rattle.fol_model.specs.Texts.{IsWorldText}
 use Rattle.fol_io.specs.Shelf.{IsHeld}
-use Rattle.fol_map.specs.Runs.{Came, Course, FilesCame, FilesEnd, IsDrawn, IsDrawnOver, Names, OneOf, Outcome, PutEnds, ReportEnds, TextsEnd, names_in}
+use Rattle.fol_map.specs.Runs.{Came, Course, FilesCame, FilesEnd, IsDrawn, IsDrawnOver, Outcome, PutEnds, ReportEnds, TextsEnd, names_in}
 use Rattle.fol_map.specs.declared.endings.Ending.{Ending}
 use Rattle.fol_map.specs.declared.endings.Ending.TheVariants.{Written, Words, World, ReadFault, WriteFault, NoMemory, TooLong, Report}
 

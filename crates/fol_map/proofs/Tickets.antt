@@ -1,6 +1,6 @@
 -- One more event, and one more hold.
 use Rattle.std.proofs.Common.{◌≡◌, ℕ, ◌+◌, ◌-◌, ◌<◌, ◌≤◌, refl, sym, ap, ◌∙◌, subst, arith, zero-add, Bool, true, false, inl, inr, List, [], ◌∷◌, ◌++◌}
-use Rattle.std.specs.Prelude.{count_by, if◌then◌else◌, cond, Option, Some, None}
+use Rattle.std.specs.Prelude.{count_by, cond, Option, Some}
 use Rattle.std.specs.Option.{IfSome, unwrap_or}
 use Rattle.std.specs.BTreeMap.{BTreeMap, get, is_at}
 use Rattle.std.proofs.lemmas.Bool.{cases_Bool}

@@ -6,7 +6,7 @@ use Rattle.fol_model.specs.declared.entities.Place.TheVariants.{At, Transit}
 use Rattle.fol_model.specs.declared.closings.RegionRow.{RegionRow}
 use Rattle.fol_model.specs.declared.closings.Closing.{Closing}
 use Rattle.fol_model.specs.ReportWords.{state_word}
-use Rattle.fol_map.specs.Layouts.{step, width}
+use Rattle.fol_map.specs.Layouts.{step}
 use Rattle.fol_map.specs.declared.layouts.Layout.{Layout}
 use Rattle.fol_map.specs.declared.axes.Axis.{Axis}
 use Rattle.fol_map.specs.declared.axes.Axis.TheVariants.{Columns, Rows}

@@ -1,5 +1,5 @@
 -- Where on the page a section, a chunk and a block stand. A section is 512 units wide; the first column begins at 768, and the first row at 512.
-use Rattle.std.specs.Prelude.{ℕ, ◌+◌, ◌*◌, ◌/◌, ◌^◌, ◌<◌, ℤ, pos, unsigned_abs}
+use Rattle.std.specs.Prelude.{ℕ, ◌+◌, ◌*◌, ◌/◌, ◌^◌, ℤ, pos, unsigned_abs}
 use Rattle.std.specs.Int.{int_rem_euclid}
 use Rattle.fol_model.specs.declared.places.ChunkPos.{ChunkPos}
 use Rattle.fol_model.specs.declared.places.SectionPos.{SectionPos}
@@ -43,7 +43,3 @@ block_middle l b = record {
   x = (chunk_point l (chunk_of b)).x + block_side l.grid * past 16 b.x + block_side l.grid / 2;
   y = (chunk_point l (chunk_of b)).y + block_side l.grid * past 16 b.z + block_side l.grid / 2;
 }
-
--- a point whose numbers 100 bits hold
-abbrev pub IsNear : Point → Type 0
-IsNear p = (p.x < 2 ^ 100) × (p.y < 2 ^ 100)

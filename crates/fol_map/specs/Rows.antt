@@ -1,7 +1,7 @@
 -- Which rows the lines of a report may tell: each number in its type, each place within the limits.
-use Rattle.std.specs.Prelude.{◌≡◌, ℕ, ◌<◌, ◌≤◌, ◌^◌, ◌⊎◌, ℤ, pos, negsuc, ◌≤ℤ◌, true, List, [], ◌∷◌, codes, decimal}
+use Rattle.std.specs.Prelude.{◌≡◌, ℕ, ◌≤◌, ◌⊎◌, ℤ, pos, negsuc, ◌≤ℤ◌, true, List, [], ◌∷◌, codes, decimal}
 use Rattle.fol_model.specs.declared.regions.State.{State}
-use Rattle.fol_model.specs.declared.regions.State.TheVariants.{Transient, Ready, Ticking, Dead}
+use Rattle.fol_model.specs.declared.regions.State.TheVariants.{Dead}
 use Rattle.fol_model.specs.declared.actions.Action.{Action}
 use Rattle.fol_model.specs.declared.actions.Action.TheVariants.{Arrive}
 use Rattle.fol_model.specs.declared.entities.Place.{Place}

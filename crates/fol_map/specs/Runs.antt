@@ -1,6 +1,5 @@
 -- What an ending says of a run of the program.
 use Rattle.std.specs.Prelude.{ℕ, ◌≡◌, ◌⊎◌, Bool, false, not, ◌==◌, List, [], ◌∷◌, Option, Some, None, ◌&&◌, if◌then◌else◌}
-use Rattle.fol_model.specs.declared.causes.Cause.{Cause}
 use Rattle.fol_model.specs.declared.openings.Opening.{Opening}
 use Rattle.fol_model.specs.declared.closings.Closing.{Closing}
 use Rattle.fol_model.specs.declared.words.TextKind.TheVariants as kinds

@@ -2,7 +2,7 @@
 
 ghost use Rattle.std.specs.Prelude.{◌≡◌, ◌<◌, ◌≤◌, ◌+◌, ◌*◌, ◌^◌};
 ghost use Rattle.fol_map.specs.Layouts.{cell};
-ghost use Rattle.fol_map.specs.Places.{IsNear, block_middle, block_side, chunk_middle, chunk_point, chunk_side, past, section_point};
+ghost use Rattle.fol_map.specs.Places.{block_middle, block_side, chunk_middle, chunk_point, chunk_side, past, section_point};
 
 use crate::layouts::{Layout, cell};
 use fol_model::{BlockPos, ChunkPos, Grid, SectionPos, chunk_of, section_of};

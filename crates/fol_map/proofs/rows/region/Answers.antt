@@ -1,4 +1,4 @@
-use Rattle.std.proofs.Common.{[], ◌∷◌, codes, decimal}
+use Rattle.std.proofs.Common.{◌∷◌, codes, decimal}
 use Rattle.fol_events.proofs.Steps.{on_err}
 use Rattle.fol_map.specs.Rows.{sizes_words}
 use Rattle.fol_map.proofs.rows.region.Goals as goal
