@@ -106,11 +106,14 @@ pub narrows : (g : GridState) (c : ChunkPos) (r : ℕ) (b : Bag) → nat_eq (g.h
 narrows g c r b one is w =
     let e : b.chunks ≡ filter (is_chunk_of g r) all_chunks = is w in
     let P : List ChunkPos → Type 0 = λ xs. IsStrictlySortedBy chunk_cmp xs × ((q : ChunkPos) → (is_recorded xs q && not (same_chunk c q)) ≡ is_recorded (filter (is_chunk_of (drop_hold g c) r) all_chunks) q) in
-    subst P (sym e) (kept_sorted (is_chunk_of g r), λ q.
-      ap (λ z. z && not (same_chunk c q)) (listed (is_chunk_of g r) all_chunks q)
-      ∙ turned (is_chunk_of g r q) (is_recorded all_chunks q) (not (same_chunk c q))
-      ∙ ap (λ z. z && is_recorded all_chunks q) (sym (left g c r one q))
-      ∙ sym (listed (is_chunk_of (drop_hold g c) r) all_chunks q))
+    subst P (sym e) (
+      kept_sorted (is_chunk_of g r),
+      λ q.
+          ap (λ z. z && not (same_chunk c q)) (listed (is_chunk_of g r) all_chunks q)
+          ∙ turned (is_chunk_of g r q) (is_recorded all_chunks q) (not (same_chunk c q))
+          ∙ ap (λ z. z && is_recorded all_chunks q) (sym (left g c r one q))
+          ∙ sym (listed (is_chunk_of (drop_hold g c) r) all_chunks q),
+    )
 
 counted_when : (g : GridState) (c : ChunkPos) → add_answer g c ≡ Counted → (is_full g c ≡ false) × (nat_eq (wanted g c) 0 ≡ true)
 counted_when g c e = elim (cases_Bool (is_full g c)) [
@@ -135,10 +138,13 @@ widens : (g : GridState) (c : ChunkPos) (r : ℕ) (b : Bag) → is_chunk c ≡ t
 widens g c r b limits mine is w =
     let e : b.chunks ≡ filter (is_chunk_of g r) all_chunks = is w in
     let P : List ChunkPos → Type 0 = λ xs. IsStrictlySortedBy chunk_cmp xs × ((q : ChunkPos) → (is_recorded xs q || same_chunk c q) ≡ is_recorded (filter (is_chunk_of (counted g c) r) all_chunks) q) in
-    subst P (sym e) (kept_sorted (is_chunk_of g r), λ q.
-      ap (λ z. z || same_chunk c q) (listed (is_chunk_of g r) all_chunks q)
-      ∙ come q
-      ∙ sym (listed (is_chunk_of (counted g c) r) all_chunks q))
+    subst P (sym e) (
+      kept_sorted (is_chunk_of g r),
+      λ q.
+          ap (λ z. z || same_chunk c q) (listed (is_chunk_of g r) all_chunks q)
+          ∙ come q
+          ∙ sym (listed (is_chunk_of (counted g c) r) all_chunks q),
+    )
   where
     come : (q : ChunkPos) → ((is_chunk_of g r q && is_recorded all_chunks q) || same_chunk c q) ≡ (is_chunk_of (counted g c) r q && is_recorded all_chunks q)
     come q = elim (cases_Bool (same_chunk c q)) [
