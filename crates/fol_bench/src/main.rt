@@ -4,11 +4,14 @@
 //! A workload is a module with a function `run`, and has one line in `run_named`.
 #![tactic(auto)]
 
+mod inbox;
 mod lock;
 mod rate;
 mod regions;
 mod report;
 mod script;
+mod view;
+mod world;
 
 use std::alloc::Global;
 use std::rt::Clock;
@@ -29,10 +32,12 @@ fn run_named<R: Threads + Wait + Sync + Clock + Print>(
     word: &str,
 ) -> io::Result<()> {
     match word {
+        "inbox" => inbox::run(rt, alloc),
         "lock" => lock::run(rt, alloc),
         "regions" => regions::run(rt, alloc),
         "report" => report::run(rt, alloc),
         "script" => script::run(rt, alloc),
+        "view" => view::run(rt, alloc),
         _ => println!(rt; "no workload is named {word}"),
     }
 }

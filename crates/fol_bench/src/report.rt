@@ -25,7 +25,7 @@ pub fn run<R: Clock + Print>(rt: &R, alloc: Global) -> io::Result<()> {
 }
 
 /// A world with no block and no entity.
-fn bare_opening(alloc: Global) -> Opening {
+pub fn bare_opening(alloc: Global) -> Opening {
     let grid = Grid {
         shift: 0,
         create: 1,

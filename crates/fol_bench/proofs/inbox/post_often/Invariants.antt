@@ -1,0 +1,6 @@
+use Rattle.std.proofs.Common.{◌≡◌}
+use Rattle.fol_live.specs.Lives.{live_id}
+use Rattle.fol_bench.proofs.inbox.post_often.Given as goal
+
+abbrev pub invariant-loop : goal.invariant-loop
+invariant-loop g l = l.seat.lock ≡ live_id l.live
