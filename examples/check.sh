@@ -169,7 +169,7 @@ for bad in examples/checks/*; do
     is "$bad" bad_report_told "$bad"
 done
 
-for picture in examples/*/picture.svg examples/rules/*/picture.svg; do
+for picture in examples/*/picture.svg; do
     folder=$(dirname "$picture")
     draw "$work/out" "$folder/world.txt" "$folder/report.txt"
     is "$picture" same "$work/out" "$picture"
