@@ -18,10 +18,10 @@ use Rattle.fol_model.specs.declared.regions.State.TheVariants.{Dead}
 use Rattle.fol_model.specs.GridState.{is_ticking}
 use Rattle.fol_laws.proofs.NumberOrder.{numbers_tell}
 use Rattle.fol_regions.specs.Added.{Gathers, IsChoice, Waits, gathered, is_drawn, is_id}
-use Rattle.fol_regions.specs.Book.{Book, Merges, SetsPair, owner_of, state_of, waits_of, is_live}
+use Rattle.fol_region_tables.specs.Book.{Book, Merges, SetsPair, owner_of, state_of, waits_of, is_live}
 use Rattle.fol_regions.specs.Changes.{Changes, into}
 use Rattle.std.proofs.lemmas.List.{map-append}
-use Rattle.fol_regions.proofs.HandSteps.{keeps_room-trans}
+use Rattle.fol_region_tables.proofs.HandSteps.{keeps_room-trans}
 
 -- one id more
 pub id_more : (ids : List ℕ) (i d q : ℕ) → i < length ids → is_id (take (i + 1) ids) q ≡ (is_id (take i ids) q || nat_eq q (get_or ids i d))

@@ -27,13 +27,13 @@ use Rattle.fol_laws.proofs.NumbersBelow.{some_below-is, some_below-gives}
 use Rattle.fol_laws.proofs.Tests.{same_answer}
 use Rattle.fol_laws.proofs.AllSections.{some_section-gives}
 use Rattle.fol_regions.specs.Added.{Grows, IsChoice, Waits, bare, calm_size, extended_change, is_calm, is_drawn, is_id}
-use Rattle.fol_regions.specs.Book.{Book, IsBook, SetsState, owner_of, state_of, waits_of, is_live, rows_of, ahead_of}
+use Rattle.fol_region_tables.specs.Book.{Book, IsBook, SetsState, owner_of, state_of, waits_of, is_live, rows_of, ahead_of}
 use Rattle.fol_regions.specs.Changes.{drawn_in, into}
 use Rattle.fol_regions.specs.Near.{is_close}
-use Rattle.fol_regions.proofs.BookFacts.{owner_live}
-use Rattle.fol_regions.proofs.Chosen.{chosen, chosen_below, chosen_numbers, filter_like, filter_twice, none_kept}
+use Rattle.fol_region_tables.proofs.BookFacts.{owner_live}
+use Rattle.fol_region_tables.proofs.Chosen.{chosen, chosen_below, chosen_numbers, filter_like, filter_twice, none_kept}
 use Rattle.fol_regions.proofs.GrowSteps.{gives_any, takes_any}
-use Rattle.fol_regions.proofs.JoinSteps.{same_swap}
+use Rattle.fol_region_tables.proofs.Chosen.{same_swap}
 
 or_swap : (x y : Bool) → (x || y) ≡ (y || x)
 or_swap true true = refl

@@ -23,14 +23,14 @@ use Rattle.fol_laws.proofs.SectionOrder.{sections_sorted}
 use Rattle.fol_sections.specs.Table.{holds_of, is_loaded_chunk_of, loaded_count}
 use Rattle.fol_sections.specs.Table as sections
 use Rattle.fol_split.proofs.Places.{same_section-swap}
-use Rattle.fol_regions.specs.Book.{Book, IsBook, owner_of, rows_of}
+use Rattle.fol_region_tables.specs.Book.{Book, IsBook, owner_of, rows_of}
 use Rattle.fol_regions.specs.Released.{grid_of}
-use Rattle.fol_regions.proofs.Among.{among_more}
-use Rattle.fol_regions.proofs.Chosen.{filter_like, none_kept}
+use Rattle.fol_region_tables.proofs.Among.{among_more}
+use Rattle.fol_region_tables.proofs.Chosen.{filter_like, none_kept}
 use Rattle.fol_regions.proofs.InOrder.{filter_either, sorted_is}
 use Rattle.fol_regions.proofs.PartNumbers.{not_both}
-use Rattle.fol_regions.proofs.PartedBooks.{row_members}
-use Rattle.fol_regions.proofs.PartingSteps.{count_parts}
+use Rattle.fol_region_tables.proofs.PartedBooks.{row_members}
+use Rattle.fol_region_tables.proofs.PartingSteps.{count_parts}
 
 -- loaded, and in one of the sections
 abbrev pub is_loaded_among : sections.Table → List SectionPos → ChunkPos → Bool

@@ -1,5 +1,5 @@
 -- What the tables say after a released region was cleaned.
-use Rattle.std.proofs.Common.{◌≡◌, ℕ, zero, suc, ◌+◌, ◌≤◌, ◌<◌, refl, sym, ◌∙◌, ap, arith, true, false, inl, inr, ◌&&◌, List, [], ◌∷◌, length, get_or}
+use Rattle.std.proofs.Common.{◌≡◌, ℕ, ◌+◌, ◌≤◌, ◌<◌, refl, sym, ◌∙◌, ap, arith, true, false, inl, inr, ◌&&◌, List, [], ◌∷◌, length, get_or}
 use Rattle.std.specs.Prelude.{nat_eq, nat_le, nat_lt, if◌then◌else◌, filter}
 use Rattle.std.proofs.Math.Path.{fun_ext}
 use Rattle.std.proofs.lemmas.Bool.{cases_Bool, cases_eq, eq-eqb, ne_eqb, true≢false, and_parts, and_from, le-leb, lt-leb, ltb-true, ltb-false}
@@ -17,19 +17,10 @@ use Rattle.fol_laws.proofs.SectionOrder.{section_members}
 use Rattle.fol_laws.proofs.Tests.{same_answer}
 use Rattle.fol_laws.proofs.Joins.{remains_in, t_pos}
 use Rattle.fol_split.specs.Parts.{ArePartsOf}
-use Rattle.fol_regions.specs.Book.{Book, owner_of, state_of, waits_of, SetsState}
-use Rattle.fol_regions.specs.Released.{Keeps, Ends, Splits, id_in}
+use Rattle.fol_region_tables.specs.Book.{Book, owner_of, state_of, waits_of, SetsState}
+use Rattle.fol_region_tables.specs.Parted.{Keeps, Ends, Splits, id_in}
 use Rattle.fol_regions.proofs.PartNumbers.{parts_found, part_found, found_by_number}
-
--- the number by which a section is found, where it is in one part alone
-pub id_found : (found : List (List SectionPos)) (n i : ℕ) (s : SectionPos) → i < length found → is_among (get_or found i []) s ≡ true
-    → ((j : ℕ) → j < length found → is_among (get_or found j []) s ≡ true → j ≡ i) → id_in found n s ≡ n + i
-id_found [] n i s l h one = absurd (omega arith)
-id_found (p ∷ ps) n zero s l h one = rw h (omega arith)
-id_found (p ∷ ps) n (suc i) s l h one =
-    let first : is_among p s ≡ false = elim (cases_Bool (is_among p s)) [ inl e ↦ absurd (let z : 0 ≡ suc i = one 0 (omega arith) e in omega arith) | inr e ↦ e ] in
-    let rest = id_found ps (n + 1) i s (omega arith) h (λ j k e. let z : suc j ≡ suc i = one (suc j) (omega arith) e in omega arith) in
-    rw first (omega (arith, rest))
+use Rattle.fol_region_tables.proofs.SplitSteps.{id_found}
 
 module _ (g : GridState) (t : ℕ) (rules : Rules g) (ticks : g.state t ≡ Ticking) (base : Book) (owner : owner_of base ≡ joined_owner g t)
     (state : state_of base ≡ (λ r. if g.waits r t then Dead else g.state r)) (waits : waits_of base ≡ joined_waits g t) (next : base.next ≡ g.next)

@@ -19,7 +19,7 @@ use Rattle.fol_regions.specs.Changes.{add_change, drawn_in, into}
 use Rattle.fol_regions.specs.declared.change.MergePair.{MergePair}
 use Rattle.fol_regions.specs.declared.dead_bounds.Known.{Known}
 use Rattle.fol_regions.specs.DeadBounds.{BoundsDead, dead_count, most_in}
-use Rattle.fol_regions.proofs.Chosen.{chosen_below}
+use Rattle.fol_region_tables.proofs.Chosen.{chosen_below}
 use Rattle.fol_regions.proofs.DyingSteps.{dead_few, dead_fewer}
 
 same_margin : (g h : GridState) → h.grid ≡ g.grid → h.holds ≡ g.holds → (s : SectionPos) → in_margin h s ≡ in_margin g s

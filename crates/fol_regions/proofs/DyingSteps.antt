@@ -21,7 +21,7 @@ use Rattle.fol_sections.specs.Table.{holds_of, in_margin_of, loaded_count, is_lo
 use Rattle.fol_sections.specs.declared.answers.Removed.TheVariants.{Gone}
 use Rattle.fol_sections.specs.Table as sections
 use Rattle.fol_sections.proofs.Margins.{any-count}
-use Rattle.fol_regions.specs.Book.{Book}
+use Rattle.fol_region_tables.specs.Book.{Book}
 use Rattle.fol_regions.specs.declared.dead_bounds.Known.{Known}
 use Rattle.fol_regions.specs.DeadBounds.{BoundsDead, dead_count, is_dead_in, most_in}
 use Rattle.fol_regions.specs.Near.{row_of}

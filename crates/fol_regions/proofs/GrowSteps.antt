@@ -12,9 +12,9 @@ use Rattle.fol_model.specs.declared.regions.State.TheVariants.{Ready, Dead}
 use Rattle.fol_model.specs.GridState.{is_ticking}
 use Rattle.fol_laws.proofs.Tests.{same_answer}
 use Rattle.fol_regions.specs.Added.{Gathers, Grows, IsChoice, calm_size, is_calm, is_drawn, is_id}
-use Rattle.fol_regions.specs.Book.{Book, IsBook, Gives, Makes, owner_of, state_of, waits_of, is_live, rows_of}
+use Rattle.fol_region_tables.specs.Book.{Book, IsBook, Gives, Makes, owner_of, state_of, waits_of, is_live, rows_of}
 use Rattle.fol_model.specs.Geometry.{is_among}
-use Rattle.fol_regions.proofs.BookFacts.{live_next, waiter_lives}
+use Rattle.fol_region_tables.proofs.BookFacts.{live_next, waiter_lives}
 
 -- a list with an id that passes a test
 pub gives_any : (p : ℕ → Bool) (xs : List ℕ) → list_any p xs ≡ true → (u : ℕ) × ((is_id xs u ≡ true) × (p u ≡ true))

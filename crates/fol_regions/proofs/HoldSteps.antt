@@ -25,11 +25,11 @@ use Rattle.fol_sections.specs.declared.answers.Added.TheVariants as answers
 use Rattle.fol_regions.specs.declared.answers.AddAnswer.TheVariants.{Counted, Changed, Full}
 use Rattle.fol_regions.specs.Added.{bare, extended_change}
 use Rattle.fol_regions.specs.Answers.{add_answer}
-use Rattle.fol_regions.specs.Book.{Book, owner_of, state_of, waits_of}
+use Rattle.fol_region_tables.specs.Book.{Book, owner_of, state_of, waits_of}
 use Rattle.fol_regions.specs.Changes.{add_change, nothing}
 use Rattle.fol_regions.specs.Released.{IsPresence, grid_of}
 use Rattle.fol_sections.proofs.Lengths.{length-square}
-use Rattle.fol_regions.proofs.Chosen.{count_like, filter_like}
+use Rattle.fol_region_tables.proofs.Chosen.{count_like, filter_like}
 
 -- ---- the answers of the table of sections
 module _ (f : Bool) (p w : ℕ) where

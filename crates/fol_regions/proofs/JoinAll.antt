@@ -14,13 +14,13 @@ use Rattle.std.proofs.lemmas.Map.Keys.{Less-from_sorted}
 use Rattle.fol_model.specs.Universe.{all_sections, count_sections, numbers_below}
 use Rattle.fol_laws.proofs.ListCounts.{count_by-mono}
 use Rattle.fol_laws.proofs.NumberOrder.{numbers_sorted}
-use Rattle.fol_regions.specs.Book.{Book, IsBook, Merges, owner_of, waits_of, is_live, ahead_of, behind_of}
+use Rattle.fol_region_tables.specs.Book.{Book, IsBook, Merges, owner_of, waits_of, is_live, ahead_of, behind_of}
 use Rattle.fol_regions.specs.Changes.{into}
 use Rattle.fol_regions.specs.Added.{is_id}
 use Rattle.fol_regions.specs.Released.{Joins}
-use Rattle.fol_regions.specs.Slots.{slot_of}
+use Rattle.fol_region_tables.specs.Slots.{slot_of}
 use Rattle.fol_regions.proofs.JoinSteps.{joins_more}
-use Rattle.fol_regions.proofs.PartingSteps.{count_parts, not_live}
+use Rattle.fol_region_tables.proofs.PartingSteps.{count_parts, not_live}
 
 -- what a filter keeps passes
 filter_passes : (p : ℕ → Bool) (xs : List ℕ) (i d : ℕ) → i < length (filter p xs) → p (get_or (filter p xs) i d) ≡ true

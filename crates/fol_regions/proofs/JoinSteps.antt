@@ -7,20 +7,14 @@ use Rattle.std.proofs.lemmas.Bool.{cases_Bool, cases_eq, eq-eqb, ne_eqb}
 use Rattle.std.proofs.lemmas.List.Folds.{list_any-append}
 use Rattle.fol_model.specs.declared.regions.State.TheVariants.{Dead}
 use Rattle.fol_model.specs.declared.places.SectionPos.{SectionPos}
-use Rattle.fol_regions.specs.Book.{Book, owner_of, state_of, waits_of, is_live, Merges}
+use Rattle.fol_region_tables.specs.Book.{Book, owner_of, state_of, waits_of, is_live, Merges}
 use Rattle.fol_regions.specs.Added.{is_id}
 use Rattle.fol_regions.specs.Released.{Joins}
-use Rattle.fol_regions.proofs.HandSteps.{keeps_room-trans}
+use Rattle.fol_region_tables.proofs.HandSteps.{keeps_room-trans}
 
 -- a test of one more
 pub one_more : (p : ℕ → Bool) (ids : List ℕ) (u : ℕ) → list_any p (ids ++ u ∷ []) ≡ (list_any p ids || p u)
 one_more p ids u = list_any-append p ids (u ∷ []) ∙ elim (cases_Bool (p u)) [ inl e ↦ rw e refl | inr e ↦ rw e refl ]
-
-pub same_swap : (a b : ℕ) → nat_eq a b ≡ nat_eq b a
-same_swap a b = elim (cases_eq a b) [
-  | inl e ↦ eq-eqb a b e ∙ sym (eq-eqb b a (sym e))
-  | inr n ↦ ne_eqb a b n ∙ sym (ne_eqb b a (λ e. n (sym e)))
-]
 
 module _ (old mid new : Book) (t u : ℕ) (ids : List ℕ) (h : Joins old mid t ids) (m : Merges mid new u t) (apart : u ≢ t) (fresh : is_id ids u ≡ false) where
   owner_more : (s : SectionPos) → owner_of new s ≡ (if is_id (ids ++ u ∷ []) (owner_of old s) then t else owner_of old s)

@@ -1,11 +1,9 @@
 -- What the tables say after the joins of a release, and the tests that a release makes then.
-use Rattle.std.proofs.Common.{◌≡◌, ℕ, zero, suc, ◌<◌, refl, sym, ◌∙◌, ap, arith, Bool, true, false, inl, inr, not, ◌&&◌, List, [], ◌∷◌, length}
+use Rattle.std.proofs.Common.{◌≡◌, ℕ, ◌<◌, refl, sym, ◌∙◌, ap, arith, Bool, true, false, inl, inr, not, ◌&&◌, List, [], ◌∷◌, length}
 use Rattle.std.specs.Prelude.{nat_eq, if◌then◌else◌, filter, count_by}
 use Rattle.std.specs.List.{list_any}
 use Rattle.std.proofs.Math.Path.{fun_ext}
 use Rattle.std.proofs.lemmas.Bool.{cases_Bool, cases_eq, eq-eqb, ne_eqb, eqb-true, true≢false, and_parts, and_from}
-use Rattle.std.proofs.lemmas.List.Elements.{filter-append}
-use Rattle.std.proofs.lemmas.List.Folds.{list_any-append}
 use Rattle.std.proofs.lemmas.List.Sums.{length-filter}
 use Rattle.fol_model.specs.declared.places.SectionPos.{SectionPos}
 use Rattle.fol_model.specs.declared.regions.State.TheVariants.{Transient, Ready, Ticking, Dead}
@@ -18,25 +16,12 @@ use Rattle.fol_laws.proofs.NumbersBelow.{some_below-is, some_below-gives}
 use Rattle.fol_laws.proofs.Tests.{same_answer}
 use Rattle.fol_laws.proofs.ListCounts.{count_by-cons}
 use Rattle.fol_laws.proofs.Joins as joins
-use Rattle.fol_regions.specs.Book.{Book, owner_of, state_of, waits_of, SetsState}
+use Rattle.fol_region_tables.specs.Book.{Book, owner_of, state_of, waits_of, SetsState}
 use Rattle.fol_regions.specs.Added.{is_id}
 use Rattle.fol_regions.specs.Released.{Joins}
+use Rattle.fol_region_tables.proofs.Chosen.{filter_some}
 
 -- ---- numbers that pass a test
-pub filter_some : (p q : ℕ → Bool) (n : ℕ) → list_any q (filter p (numbers_below n)) ≡ some_below (λ w. p w && q w) n
-unfolding numbers_below some_below
-filter_some p q zero = refl
-filter_some p q (suc n) =
-    let e = filter-append p (numbers_below n) (n ∷ []) in
-    let i = filter_some p q n in
-    rw e (elim (cases_Bool (p n)) [
-      | inl k ↦ rw k (list_any-append q (filter p (numbers_below n)) (n ∷ []) ∙ (rw i (elim (cases_Bool (q n)) [
-        | inl x ↦ rw x (elim (cases_Bool (some_below (λ w. p w && q w) n)) [ inl y ↦ rw y refl | inr y ↦ rw y refl ])
-        | inr x ↦ rw x (elim (cases_Bool (some_below (λ w. p w && q w) n)) [ inl y ↦ rw y refl | inr y ↦ rw y refl ])
-      ])))
-      | inr k ↦ rw k (list_any-append q (filter p (numbers_below n)) [] ∙ (rw i (elim (cases_Bool (some_below (λ w. p w && q w) n)) [ inl y ↦ rw y refl | inr y ↦ rw y refl ])))
-    ])
-
 -- none passes exactly where the list of those that pass is empty
 pub empty_filter : (p : ℕ → Bool) (n : ℕ) → nat_eq (length (filter p (numbers_below n))) 0 ≡ not (some_below p n)
 empty_filter p n =

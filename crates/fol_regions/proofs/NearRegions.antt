@@ -16,7 +16,7 @@ use Rattle.fol_laws.proofs.AllSections.{some_section-is, some_section-gives}
 use Rattle.fol_laws.proofs.SamePlaces.{same_section-true, same_section-self}
 use Rattle.fol_laws.proofs.SectionOrder.{square_members}
 use Rattle.fol_laws.proofs.Tests.{same_answer}
-use Rattle.fol_regions.proofs.Chosen.{chosen_below, filter_like, with_chosen}
+use Rattle.fol_region_tables.proofs.Chosen.{chosen_below, filter_like, with_chosen}
 use Rattle.fol_regions.specs.Near.{has_one, is_close, noted, regions_of, row_of, rows_of}
 
 from-more : (x : ℤ) (n : ℕ) → from x (n + 1) ≡ from x n ++ (x +ℤ pos n) ∷ []

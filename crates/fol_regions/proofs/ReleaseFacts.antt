@@ -1,6 +1,6 @@
 -- What a release needs of the tables, and what it leaves.
 use Rattle.std.proofs.Common.{◌≡◌, ℕ, ◌+◌, ◌*◌, ◌≤◌, ◌<◌, refl, sym, ◌∙◌, ap, arith, Bool, true, false, inl, inr, not, ◌&&◌, ◌||◌, List, [], ◌∷◌, ◌++◌, length, get_or}
-use Rattle.std.specs.Prelude.{◌≢◌, nat_eq, nat_lt, nat_le, if◌then◌else◌, filter, Option, Some, None, IsTrue}
+use Rattle.std.specs.Prelude.{◌≢◌, nat_eq, nat_lt, nat_le, if◌then◌else◌, filter, IsTrue}
 use Rattle.std.specs.List.{All, range_with_len, IsDistinct}
 use Rattle.std.proofs.Math.Bool.{not-not}
 use Rattle.std.proofs.Math.Nat.{mul-le-mul_right}
@@ -22,14 +22,12 @@ use Rattle.fol_laws.proofs.Joins as joins
 use Rattle.fol_sections.specs.Table.{holds_of, presence_of, in_margin_of}
 use Rattle.fol_sections.specs.Table as sections
 use Rattle.fol_split.specs.Parts.{ArePartsOf}
-use Rattle.fol_regions.specs.declared.slots.Region.{Region}
-use Rattle.fol_regions.specs.Book.{Book, IsBook, SetsState, owner_of, state_of, waits_of, is_live, rows_of, ahead_of, behind_of}
+use Rattle.fol_region_tables.specs.Book.{Book, IsBook, SetsState, owner_of, state_of, waits_of, is_live, rows_of, ahead_of, behind_of}
 use Rattle.fol_regions.specs.DeadBounds.{dead_count}
 use Rattle.fol_regions.specs.Changes.{into, release_change, waiting_for, part_ids}
 use Rattle.fol_regions.specs.Added.{is_id}
-use Rattle.fol_regions.specs.Released.{Joins, Cleans, Keeps, Ends, Splits, IsPresence, grid_of, with_parts}
-use Rattle.fol_regions.specs.Slots.{slot_state, region_at, state_in}
-use Rattle.fol_regions.proofs.BookFacts as facts
+use Rattle.fol_regions.specs.Released.{Joins, Cleans, IsPresence, grid_of, with_parts}
+use Rattle.fol_region_tables.specs.Parted.{Keeps, Ends, Splits}
 use Rattle.fol_regions.proofs.ChangeLists.{numbers_from}
 use Rattle.fol_regions.proofs.CleanSteps as clean
 use Rattle.fol_regions.proofs.JoinTest as test
@@ -37,21 +35,10 @@ use Rattle.fol_regions.proofs.SettleSteps.{row_few, living_distinct}
 use Rattle.fol_split.proofs.Search.{among_at}
 use Rattle.std.proofs.lemmas.List.Filters.{length-filter_both}
 use Rattle.fol_regions.proofs.PartNumbers.{parts_found}
-use Rattle.fol_regions.proofs.PartedBooks.{filter_both, filter_none, row_members}
-use Rattle.fol_regions.proofs.PartingSteps.{filter_same, count_same}
+use Rattle.fol_region_tables.proofs.PartedBooks.{filter_both, filter_none, row_members}
+use Rattle.fol_region_tables.proofs.PartingSteps.{filter_same, count_same}
 
 -- a region that is not Dead has a slot
-pub state_lives : (b : Book) (r : ℕ) → ((k : ℕ) (q : Region) → region_at b.slots k ≡ Some q → k < b.slots.room) → state_of b r ≢ Dead → is_live b r ≡ true
-unfolding state_of slot_state
-state_lives b r within d = elim (cases_Bool (is_live b r)) [
-  | inl e ↦ e
-  | inr e ↦ absurd (d (ap (λ k. state_in (region_at b.slots k)) (facts.not_live b r e) ∙ past (region_at b.slots b.slots.room) refl))
-]
-  where
-    past : (o : Option Region) → o ≡ region_at b.slots b.slots.room → state_in o ≡ Dead
-    past None e = refl
-    past (Some q) e = absurd (let l = within b.slots.room q (sym e) in omega arith)
-
 pub margin_is : (s : sections.Table) (b : Book) (q : SectionPos) → in_margin (grid_of s b) q ≡ in_margin_of s q
 unfolding grid_of in_margin in_margin_of
 margin_is s b q = refl

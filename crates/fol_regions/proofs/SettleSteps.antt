@@ -18,12 +18,12 @@ use Rattle.fol_split.specs.Parts.{ArePartsOf, IsPart, least_of}
 use Rattle.fol_split.proofs.Places.{rising-distinct}
 use Rattle.fol_model.proofs.PlaceKeys.{section_cmp_total}
 use Rattle.fol_split.proofs.Search.{among_at, at_index}
-use Rattle.fol_regions.specs.Book.{Book, IsBook, owner_of, is_live, rows_of}
-use Rattle.fol_regions.specs.Released.{AreRows, Keeps}
-use Rattle.fol_regions.proofs.BookFacts.{row_most}
+use Rattle.fol_region_tables.specs.Book.{Book, IsBook, owner_of, is_live, rows_of}
+use Rattle.fol_region_tables.specs.Parted.{AreRows, Keeps}
+use Rattle.fol_region_tables.proofs.BookFacts.{row_most}
 use Rattle.fol_regions.proofs.PartNumbers.{first_among, first_least, not_both}
-use Rattle.fol_regions.proofs.PartedBooks.{row_members, length-filter_le}
-use Rattle.fol_regions.proofs.SplitSteps.{placed_some}
+use Rattle.fol_region_tables.proofs.PartedBooks.{row_members, length-filter_le}
+use Rattle.fol_region_tables.proofs.SplitSteps.{placed_some}
 
 abbrev origin : SectionPos
 origin = record { x = int_pos 0; z = int_pos 0 }

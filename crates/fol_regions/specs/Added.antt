@@ -8,7 +8,7 @@ use Rattle.fol_model.specs.declared.grids.Grid.{Grid}
 use Rattle.fol_model.specs.declared.regions.State.TheVariants.{Dead}
 use Rattle.fol_model.specs.GridState.{GridState, is_ticking}
 use Rattle.fol_model.specs.Add.{target}
-use Rattle.fol_regions.specs.Book.{Book, KeepsRoom, owner_of, state_of, waits_of, is_live, rows_of}
+use Rattle.fol_region_tables.specs.Book.{Book, KeepsRoom, owner_of, state_of, waits_of, is_live, rows_of}
 use Rattle.fol_regions.specs.Changes.{Changes, drawn_in, into}
 use Rattle.fol_model.specs.Geometry.{is_among}
 

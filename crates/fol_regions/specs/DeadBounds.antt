@@ -8,7 +8,7 @@ use Rattle.fol_model.specs.Universe.{count_sections}
 use Rattle.fol_regions.specs.declared.dead_bounds.Known.{Known}
 use Rattle.fol_sections.specs.Table.{in_margin_of}
 use Rattle.fol_sections.specs.Table as sections
-use Rattle.fol_regions.specs.Book.{Book, owner_of}
+use Rattle.fol_region_tables.specs.Book.{Book, owner_of}
 
 -- the sections of a region that are in no margin
 unfoldable pub dead_count : GridState → ℕ → ℕ

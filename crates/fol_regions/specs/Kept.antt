@@ -4,7 +4,7 @@ use Rattle.fol_model.specs.declared.grids.Grid.{Grid}
 use Rattle.fol_model.specs.GridNumbers.{IsGrid}
 use Rattle.fol_model.specs.Rules.{Rules}
 use Rattle.fol_sections.specs.Table as sections
-use Rattle.fol_regions.specs.Book.{Book, HasRoomFor}
+use Rattle.fol_region_tables.specs.Book.{Book, HasRoomFor}
 use Rattle.fol_regions.specs.Released.{IsPresence, grid_of}
 
 -- the rules of regions, the sections with an owner, and the memory for so many events

@@ -1,9 +1,3 @@
-pub mod Slots
-pub mod SlotKeys
-pub mod Links
-pub mod Rows
-pub mod Owners
-pub mod Book
 pub mod Near
 pub mod Table
 pub mod Changes

@@ -4,7 +4,7 @@ use Rattle.std.specs.List.{list_any}
 use Rattle.fol_model.specs.declared.places.SectionPos.{SectionPos}
 use Rattle.fol_model.specs.Geometry.{is_within}
 use Rattle.fol_model.specs.Universe.{from, numbers_below, some_section}
-use Rattle.fol_regions.specs.Links.{with_id}
+use Rattle.fol_region_tables.specs.Links.{with_id}
 
 -- n sections in a row, that many rows behind the first one
 unfoldable pub row_of : SectionPos → ℕ → ℕ → List SectionPos

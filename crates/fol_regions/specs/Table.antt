@@ -3,7 +3,7 @@ use Rattle.std.specs.Prelude.{ℕ}
 use Rattle.fol_model.specs.GridState.{GridState}
 use Rattle.fol_sections.specs.Table.{holds_of}
 use Rattle.fol_sections.specs.Table as sections
-use Rattle.fol_regions.specs.Book.{Book, owner_of, state_of, waits_of}
+use Rattle.fol_region_tables.specs.Book.{Book, owner_of, state_of, waits_of}
 use Rattle.fol_regions.specs.Changes.{Changes}
 
 pub record Table : Type 0 where

@@ -18,13 +18,13 @@ ghost use Rattle.fol_regions.specs.Added.{IsChoice, Gathers, Grows, Waits, bare,
 ghost use Rattle.fol_regions.specs.Answers.{add_answer};
 ghost use Rattle.fol_regions.specs.Changes.{add_change, into, nothing};
 ghost use Rattle.fol_regions.specs.Released.{IsPresence, grid_of};
-ghost use Rattle.fol_regions.specs.Book.{owner_of, ahead_of, HasRoomFor, SetsState};
-ghost use Rattle.fol_regions.specs.Book.{is_live, state_of, waits_of};
+ghost use Rattle.fol_region_tables.specs.Book.{owner_of, ahead_of, HasRoomFor, SetsState};
+ghost use Rattle.fol_region_tables.specs.Book.{is_live, state_of, waits_of};
 
 use crate::near::find_near;
-use crate::tables::Tables;
 use crate::{AddAnswer, Change};
 use fol_model::{ChunkPos, Grid, MOST_SECTIONS, SectionPos, State, section_of};
+use fol_region_tables::Tables;
 use fol_sections::{Added, Sections};
 
 /// How many sections a region has that does not tick; 0 where it ticks.

@@ -12,8 +12,8 @@ ghost use Rattle.fol_regions.specs.Near.{row_of};
 ghost use Rattle.fol_regions.specs.Released.{IsPresence};
 
 use crate::dead_bounds::DeadBounds;
-use crate::tables::Tables;
 use fol_model::{ChunkPos, Grid, SectionPos, beside, corner, section_of};
+use fol_region_tables::Tables;
 use fol_sections::{Removed, Sections};
 
 /// Counts a section for its region, where it is present and dead.

@@ -15,15 +15,9 @@ mod chunks;
 mod counts;
 mod dead_bounds;
 mod dying;
-mod links;
 mod near;
-mod owners;
-mod parting;
 mod regions;
 mod release;
-mod rows;
-mod slots;
-mod tables;
 #[cfg(test)]
 mod tests;
 

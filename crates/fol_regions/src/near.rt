@@ -4,12 +4,11 @@ ghost use Rattle.std.specs.Prelude.{◌≡◌, ◌+◌, ◌<◌, ◌≤◌, ◌+
 ghost use Rattle.std.specs.Vec.{vec_capacity};
 ghost use Rattle.fol_model.specs.declared.places.SectionPos.{SectionPos};
 ghost use Rattle.fol_model.specs.Universe.{numbers_below};
-ghost use Rattle.fol_regions.specs.Book.{owner_of};
+ghost use Rattle.fol_region_tables.specs.Book.{owner_of};
 ghost use Rattle.fol_regions.specs.Near.{row_of, regions_of, is_close, noted};
 
-use crate::links::add_id;
-use crate::tables::Tables;
 use fol_model::{SectionPos, beside, corner};
+use fol_region_tables::{Tables, add_id};
 use std::mem;
 
 /// Finds the regions with a section within a radius, in order of id.

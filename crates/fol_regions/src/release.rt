@@ -11,15 +11,15 @@ ghost use Rattle.fol_model.specs.Release.{release};
 ghost use Rattle.fol_model.specs.Rules.{Rules};
 ghost use Rattle.fol_model.specs.Universe.{count_sections};
 ghost use Rattle.fol_sections.specs.Table.{holds_of, in_margin_of, presence_of};
-ghost use Rattle.fol_regions.specs.Book.{owner_of, waits_of, is_live, rows_of, ahead_of, behind_of, KeepsRoom};
+ghost use Rattle.fol_region_tables.specs.Book.{owner_of, waits_of, is_live, rows_of, ahead_of, behind_of, KeepsRoom};
 ghost use Rattle.fol_regions.specs.Changes.{into, nothing, release_change};
 ghost use Rattle.fol_regions.specs.DeadBounds.{dead_count};
 ghost use Rattle.fol_regions.specs.Released.{Cleans, Joins, with_parts};
 ghost use Rattle.fol_split.specs.Parts.{ArePartsOf};
 
 use crate::change::Change;
-use crate::tables::Tables;
 use fol_model::{Grid, MOST_SECTIONS, SectionPos, State};
+use fol_region_tables::Tables;
 use fol_sections::Sections;
 use fol_split::Splitter;
 use std::alloc::{AllocError, Global};

@@ -3,7 +3,7 @@ use Rattle.fol_model.specs.declared.regions.State.{State}
 use Rattle.fol_model.specs.declared.regions.State.TheVariants.{Transient, Ready, Ticking, Dead}
 use Rattle.fol_model.specs.GridState.{is_ticking}
 use Rattle.fol_regions.specs.Added.{calm_size}
-use Rattle.fol_regions.specs.Book.{rows_of}
+use Rattle.fol_region_tables.specs.Book.{rows_of}
 use Rattle.fol_regions.proofs.add.calm_size.Goals as goal
 
 pub returns-in-Ticking : goal.returns-in-Ticking

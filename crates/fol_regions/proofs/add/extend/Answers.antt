@@ -6,10 +6,10 @@ use Rattle.fol_model.specs.Geometry.{section_of, is_among}
 use Rattle.fol_model.specs.Universe.{all_sections, numbers_below}
 use Rattle.fol_laws.proofs.NumberOrder.{numbers_sorted}
 use Rattle.fol_regions.specs.Added.{Waits}
-use Rattle.fol_regions.specs.Book.{owner_of}
+use Rattle.fol_region_tables.specs.Book.{owner_of}
 use Rattle.fol_regions.specs.Near.{is_close}
 use Rattle.fol_regions.proofs.AddedGrid as added
-use Rattle.fol_regions.proofs.Chosen.{filter_like}
+use Rattle.fol_region_tables.proofs.Chosen.{filter_like}
 use Rattle.fol_regions.proofs.add.extend.Goals as goal
 
 pub find_near-requires-clause-home : goal.find_near-requires-clause-home

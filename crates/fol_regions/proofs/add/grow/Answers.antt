@@ -3,7 +3,7 @@ use Rattle.std.specs.Prelude.{nat_eq, filter}
 use Rattle.std.proofs.lemmas.Bool.{eq-eqb, ne_eqb, or_left, or_right}
 use Rattle.fol_model.specs.GridState.{is_ticking}
 use Rattle.fol_regions.specs.Added.{IsChoice, Grows, calm_size, is_drawn, is_id}
-use Rattle.fol_regions.specs.Book.{state_of}
+use Rattle.fol_region_tables.specs.Book.{state_of}
 use Rattle.fol_regions.specs.Changes.{Changes, into}
 use Rattle.fol_regions.proofs.GrowSteps as grow
 use Rattle.fol_regions.proofs.add.grow.Goals as goal

@@ -6,7 +6,7 @@ use Rattle.fol_regions.specs.Added.{Gathers, gathered, is_drawn}
 use Rattle.fol_regions.specs.declared.change.MergePair.{MergePair}
 use Rattle.fol_regions.specs.Changes.{Changes, into}
 use Rattle.fol_regions.proofs.AddSteps as steps
-use Rattle.fol_regions.proofs.LinkSteps.{filter_le, filter_yes, filter_no}
+use Rattle.fol_region_tables.proofs.LinkSteps.{filter_le, filter_yes, filter_no}
 use Rattle.fol_regions.proofs.add.take_in.Goals as goal
 use Rattle.fol_regions.proofs.add.take_in.Goals.{then-is_drawn, else-is_drawn}
 

@@ -2,10 +2,10 @@ use Rattle.std.proofs.Common.{◌≡◌, ◌<◌, ◌+◌, ◌*◌, sym, ◌∙�
 use borrow.Author.Differences.{ints}
 use Rattle.fol_model.specs.declared.places.SectionPos.{SectionPos}
 use Rattle.fol_model.specs.Universe.{numbers_below}
-use Rattle.fol_regions.specs.Book.{owner_of}
+use Rattle.fol_region_tables.specs.Book.{owner_of}
 use Rattle.fol_regions.specs.Near.{regions_of, rows_of}
-use Rattle.fol_regions.proofs.BookFacts.{owner_live, live_next}
-use Rattle.fol_regions.proofs.Chosen.{filter_like}
+use Rattle.fol_region_tables.proofs.BookFacts.{owner_live, live_next}
+use Rattle.fol_region_tables.proofs.Chosen.{filter_like}
 use Rattle.fol_regions.proofs.NearRegions.{regions_none, regions_square, rows-none, rows-more, rows-square}
 use Rattle.fol_regions.proofs.near.find_near.Goals as goal
 

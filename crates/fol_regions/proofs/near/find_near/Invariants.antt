@@ -1,6 +1,6 @@
 use Rattle.std.proofs.Common.{◌≡◌, ◌*◌, ◌≤◌, length}
 use Rattle.std.specs.Vec.{vec_capacity}
-use Rattle.fol_regions.specs.Book.{owner_of}
+use Rattle.fol_region_tables.specs.Book.{owner_of}
 use Rattle.fol_regions.specs.Near.{regions_of, rows_of}
 use Rattle.fol_regions.proofs.near.find_near.Given as goal
 

@@ -1,9 +1,9 @@
 use Rattle.std.proofs.Common.{◌≡◌, ◌<◌, ◌++◌, [], ◌∷◌, sym, ◌∙◌, ap, arith, append_assoc}
 use Rattle.std.specs.Prelude.{pos, ◌+ℤ◌}
 use Rattle.fol_model.specs.declared.places.SectionPos.{SectionPos}
-use Rattle.fol_regions.specs.Book.{owner_of}
+use Rattle.fol_region_tables.specs.Book.{owner_of}
 use Rattle.fol_regions.specs.Near.{noted, regions_of, row_of}
-use Rattle.fol_regions.proofs.BookFacts.{owner_live, live_next}
+use Rattle.fol_region_tables.proofs.BookFacts.{owner_live, live_next}
 use Rattle.fol_regions.proofs.NearRegions.{append-none, row-none, row-more, regions_more}
 use Rattle.fol_regions.proofs.near.find_row.Goals as goal
 

@@ -1,7 +1,7 @@
 use Rattle.std.proofs.Common.{◌≡◌, ◌+◌, ◌≤◌, ◌++◌, length, List}
 use Rattle.std.specs.Vec.{vec_capacity}
 use Rattle.fol_model.specs.declared.places.SectionPos.{SectionPos}
-use Rattle.fol_regions.specs.Book.{owner_of}
+use Rattle.fol_region_tables.specs.Book.{owner_of}
 use Rattle.fol_regions.specs.Near.{regions_of, row_of}
 use Rattle.fol_regions.proofs.near.find_row.Given as goal
 

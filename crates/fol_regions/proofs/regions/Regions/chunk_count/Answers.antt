@@ -1,8 +1,8 @@
 use Rattle.std.proofs.Common.{◌≡◌, ◌∙◌, ap, arith, length}
-use Rattle.fol_regions.specs.Book.{rows_of}
+use Rattle.fol_region_tables.specs.Book.{rows_of}
 use Rattle.fol_regions.specs.Released.{grid_of}
 use Rattle.fol_regions.specs.Table.{grid_state}
-use Rattle.fol_regions.proofs.BookFacts.{row_most}
+use Rattle.fol_region_tables.proofs.BookFacts.{row_most}
 use Rattle.fol_regions.proofs.ChunkCounts.{row_rising, counted_rows}
 use Rattle.fol_regions.proofs.ReleaseFacts.{owned_few}
 use Rattle.fol_regions.proofs.regions.Regions.chunk_count.Goals as goal

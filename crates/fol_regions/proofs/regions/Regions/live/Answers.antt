@@ -3,7 +3,7 @@ use Rattle.std.specs.Prelude.{filter}
 use Rattle.std.proofs.lemmas.Result.{IfOk-weaker}
 use Rattle.fol_model.specs.GridState.{is_dead}
 use Rattle.fol_model.specs.Universe.{numbers_below}
-use Rattle.fol_regions.specs.Book.{is_live, state_of}
+use Rattle.fol_region_tables.specs.Book.{is_live, state_of}
 use Rattle.fol_regions.specs.Released.{grid_of}
 use Rattle.fol_regions.specs.Table.{grid_state}
 use Rattle.fol_regions.proofs.LiveRegions.{live_regions}

@@ -1,5 +1,5 @@
 use Rattle.std.proofs.Common.{arith}
-use Rattle.fol_regions.proofs.Among.{among_at}
+use Rattle.fol_region_tables.proofs.Among.{among_at}
 use Rattle.fol_regions.proofs.release.Cleaner.sort_out.Goals as goal
 
 pub is_dead-requires : goal.is_dead-requires

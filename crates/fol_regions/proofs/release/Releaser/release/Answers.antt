@@ -1,7 +1,7 @@
 use Rattle.std.proofs.Common.{◌≡◌, ◌∙◌, refl, sym, ap, arith, true, false, length, ◌+◌}
 use Rattle.fol_model.specs.GridNumbers.{GridNumbers}
 use Rattle.fol_model.specs.Release.{cleans, must_wait}
-use Rattle.fol_regions.specs.Book.{behind_of}
+use Rattle.fol_region_tables.specs.Book.{behind_of}
 use Rattle.fol_regions.specs.Released.{grid_of}
 use Rattle.fol_regions.proofs.JoinAll.{ids_few}
 use Rattle.fol_regions.proofs.ReleaseFacts as facts

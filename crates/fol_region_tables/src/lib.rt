@@ -1,0 +1,19 @@
+//! The tables of the regions: which region owns each section, what each region may do, and which one waits for which.
+//!
+//! A [`Tables`] stands for a book: an owner of each present section, a state of each region, the pairs of regions of which one waits
+//! for the other, and by region the lists of these, in order. Each step changes one state, one pair, or what a list of sections or
+//! one region has, and nothing else; which steps an added hold or the end of a tick takes is for `fol_regions`, which stands on this.
+//!
+//! Regions that are not Dead lie in slots, and a vector by id says in which. No step takes memory: `new` takes it for 16,384
+//! sections, `reserve` for what is to come, `copy` for the copy, and `live` for its list.
+#![tactic(auto)]
+
+mod links;
+mod owners;
+mod parting;
+mod rows;
+mod slots;
+mod tables;
+
+pub use links::add_id;
+pub use tables::Tables;
