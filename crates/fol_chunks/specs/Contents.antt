@@ -8,7 +8,7 @@ use Rattle.fol_model.specs.declared.entities.Entity.{Entity}
 use Rattle.fol_model.specs.Geometry.{chunk_of}
 use Rattle.fol_model.specs.ActionStep.{Standing, Flat, Recorded}
 pub use Rattle.fol_keyed.specs.Options.{option_filter}
-pub use Rattle.fol_keyed.specs.Members.{is_in, is_listed}
+pub use Rattle.fol_keyed.specs.Members.{is_listed}
 use Rattle.fol_model.specs.World.{block_in, standing_in}
 
 -- what contracts see

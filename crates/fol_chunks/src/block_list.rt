@@ -9,10 +9,10 @@ ghost use Rattle.std.specs.declared.cmp.Ordering.TheVariants.{Less, Greater};
 ghost use Rattle.fol_model.specs.Geometry.{chunk_of as chunk_around, same_block};
 ghost use Rattle.fol_model.specs.Universe.{block_cmp};
 ghost use Rattle.fol_model.specs.World.{block_in};
-ghost use Rattle.fol_keyed.specs.Areas.{covers};
+ghost use Rattle.fol_keyed.specs.Members.{is_listed};
 ghost use Rattle.fol_chunks.specs.Rows.{by_place, filled, IsBlocks};
 
-use fol_keyed::{Area, compare_blocks, join, move_covered};
+use fol_keyed::{ChunkList, compare_blocks};
 use fol_model::{BlockAt, BlockPos, chunk_of};
 use std::alloc::AllocError;
 
@@ -73,13 +73,13 @@ pub fn keep_filled(blocks: &mut Vec<BlockAt>)
     blocks.retain(|block| block.id > 0);
 }
 
-/// How many of the blocks with a number lie in the area.
-pub fn count(blocks: &[BlockAt], area: &Area) -> usize
-    ensures { result ≡ count_by (λ (b : BlockAt). nat_lt 0 b.id && covers area.now (chunk_around b.at)) blocks.now }
+/// How many of the blocks with a number lie in the chunks of the list.
+pub fn count_listed(blocks: &[BlockAt], list: &ChunkList) -> usize
+    ensures { result ≡ count_by (λ (b : BlockAt). nat_lt 0 b.id && is_listed list.now.chunks.now (chunk_around b.at)) blocks.now }
 {
     blocks
         .iter()
-        .filter(|block| block.id > 0 && area.covers(chunk_of(block.at)))
+        .filter(|block| block.id > 0 && list.has(chunk_of(block.at)))
         .count()
 }
 
@@ -95,34 +95,20 @@ pub fn add_filled(blocks: &[BlockAt], list: &mut Vec<BlockAt>) -> Result<(), All
     Ok(())
 }
 
-/// Moves the blocks that lie in the area into another list.
-pub fn move_area(blocks: &mut Vec<BlockAt>, area: &Area, into: &mut Vec<BlockAt>)
+/// Moves the blocks that lie in the chunks of the list into another list.
+pub fn move_listed(blocks: &mut Vec<BlockAt>, list: &ChunkList, into: &mut Vec<BlockAt>)
     requires kept { IsBlocks blocks.old.items }
     requires into_kept { IsBlocks into.old.items }
-    requires apart { (b : BlockPos) → IsTrue (nat_eq (block_in into.old.items b) 0 || nat_eq (if covers area.now (chunk_around b) then block_in blocks.old.items b else 0) 0) }
-    requires room { vec_len into.old + count_by (λ (b : BlockAt). covers area.now (chunk_around b.at)) blocks.old.items ≤ vec_capacity into.old }
-    ensures left { block_in blocks.new.items ≡ λ b. if not (covers area.now (chunk_around b)) then block_in blocks.old.items b else 0 }
-    ensures moved { block_in into.new.items ≡ λ b. if nat_eq (block_in into.old.items b) 0 then (if covers area.now (chunk_around b) then block_in blocks.old.items b else 0) else block_in into.old.items b }
+    requires apart { (b : BlockPos) → IsTrue (nat_eq (block_in into.old.items b) 0 || nat_eq (if is_listed list.now.chunks.now (chunk_around b) then block_in blocks.old.items b else 0) 0) }
+    requires room { vec_len into.old + count_by (λ (b : BlockAt). is_listed list.now.chunks.now (chunk_around b.at)) blocks.old.items ≤ vec_capacity into.old }
+    ensures left { block_in blocks.new.items ≡ λ b. if not (is_listed list.now.chunks.now (chunk_around b)) then block_in blocks.old.items b else 0 }
+    ensures moved { block_in into.new.items ≡ λ b. if nat_eq (block_in into.old.items b) 0 then (if is_listed list.now.chunks.now (chunk_around b) then block_in blocks.old.items b else 0) else block_in into.old.items b }
     ensures kept { IsBlocks blocks.new.items }
     ensures into_kept { IsBlocks into.new.items }
-    ensures len { vec_len blocks.new + count_by (λ (b : BlockAt). covers area.now (chunk_around b.at)) blocks.old.items ≡ vec_len blocks.old }
-    ensures into_len { vec_len into.new ≡ vec_len into.old + count_by (λ (b : BlockAt). covers area.now (chunk_around b.at)) blocks.old.items }
+    ensures len { vec_len blocks.new + count_by (λ (b : BlockAt). is_listed list.now.chunks.now (chunk_around b.at)) blocks.old.items ≡ vec_len blocks.old }
+    ensures into_len { vec_len into.new ≡ vec_len into.old + count_by (λ (b : BlockAt). is_listed list.now.chunks.now (chunk_around b.at)) blocks.old.items }
     ensures capacity { vec_capacity blocks.old ≤ vec_capacity blocks.new }
     ensures into_capacity { vec_capacity into.old ≤ vec_capacity into.new }
 {
-    move_covered(blocks, area, into);
-}
-
-/// Takes the blocks of another list in.
-pub fn merge(blocks: &mut Vec<BlockAt>, other: Vec<BlockAt>)
-    requires kept { IsBlocks blocks.old.items }
-    requires other_kept { IsBlocks other.items }
-    requires apart { (b : BlockPos) → IsTrue (nat_eq (block_in blocks.old.items b) 0 || nat_eq (block_in other.items b) 0) }
-    requires room { vec_len blocks.old + vec_len other ≤ vec_capacity blocks.old }
-    ensures joined { block_in blocks.new.items ≡ λ b. if nat_eq (block_in blocks.old.items b) 0 then block_in other.items b else block_in blocks.old.items b }
-    ensures kept { IsBlocks blocks.new.items }
-    ensures len { vec_len blocks.new ≡ vec_len blocks.old + vec_len other }
-    ensures capacity { vec_capacity blocks.old ≤ vec_capacity blocks.new }
-{
-    join(blocks, &other);
+    fol_keyed::move_listed(blocks, list, into);
 }

@@ -10,12 +10,12 @@ ghost use Rattle.fol_model.specs.Geometry.{chunk_of as chunk_around};
 ghost use Rattle.fol_model.specs.Universe.{block_cmp};
 ghost use Rattle.fol_model.specs.ActionStep.{at_block};
 ghost use Rattle.fol_model.specs.World.{block_in};
-ghost use Rattle.fol_keyed.specs.Areas.{covers};
+ghost use Rattle.fol_keyed.specs.Members.{is_listed};
 ghost use Rattle.fol_chunks.specs.Rows.{filled, IsBlocks};
 ghost use Rattle.fol_chunks.specs.Kept.{blocks_of, room_of, one_if_filled, IsKept};
 
 use crate::block_list::{self, number_in, number_of, place_of};
-use fol_keyed::{Area, join};
+use fol_keyed::{ChunkList, join};
 use fol_model::{BlockAt, BlockPos};
 use std::alloc::{AllocError, Global};
 
@@ -82,19 +82,11 @@ impl Blocks {
     }
 
     /// How many more blocks it can take without taking memory.
-    pub fn spare(&self) -> usize
+    fn spare(&self) -> usize
         requires { IsKept self.now }
         ensures { result ≡ room_of self.now }
     {
         self.settled.capacity() - self.settled.len() - self.fresh.len()
-    }
-
-    /// How many blocks have a number.
-    pub fn len(&self) -> usize
-        requires { IsKept self.now }
-        ensures { result ≡ length (blocks_of self.now) }
-    {
-        self.settled.len() + self.fresh.len() - self.empty
     }
 
     /// The number of a block, and 0 where it has none.
@@ -108,12 +100,12 @@ impl Blocks {
         }
     }
 
-    /// How many blocks with a number lie in the area.
-    pub fn count(&self, area: &Area) -> usize
+    /// How many blocks with a number lie in the chunks of the list.
+    pub fn count_listed(&self, list: &ChunkList) -> usize
         requires { IsKept self.now }
-        ensures { result ≡ count_by (λ (b : BlockAt). covers area.now (chunk_around b.at)) (blocks_of self.now) }
+        ensures { result ≡ count_by (λ (b : BlockAt). is_listed list.now.chunks.now (chunk_around b.at)) (blocks_of self.now) }
     {
-        block_list::count(&self.settled, area) + block_list::count(&self.fresh, area)
+        block_list::count_listed(&self.settled, list) + block_list::count_listed(&self.fresh, list)
     }
 
     /// Adds the blocks with a number to a list, in no stated order.
@@ -258,40 +250,24 @@ impl Blocks {
         }
     }
 
-    /// Moves the blocks that lie in the area.
-    pub fn move_area(&mut self, area: &Area, into: &mut Blocks)
+    /// Moves the blocks that lie in the chunks of the list.
+    pub fn move_listed(&mut self, list: &ChunkList, into: &mut Blocks)
         requires kept { IsKept self.old }
         requires into_kept { IsKept into.old }
-        requires apart { (b : BlockPos) → IsTrue (nat_eq (block_in (blocks_of into.old) b) 0 || nat_eq (if covers area.now (chunk_around b) then block_in (blocks_of self.old) b else 0) 0) }
-        requires room { count_by (λ (b : BlockAt). covers area.now (chunk_around b.at)) (blocks_of self.old) ≤ room_of into.old }
+        requires apart { (b : BlockPos) → IsTrue (nat_eq (block_in (blocks_of into.old) b) 0 || nat_eq (if is_listed list.now.chunks.now (chunk_around b) then block_in (blocks_of self.old) b else 0) 0) }
+        requires room { count_by (λ (b : BlockAt). is_listed list.now.chunks.now (chunk_around b.at)) (blocks_of self.old) ≤ room_of into.old }
         ensures kept { IsKept self.new }
         ensures into_kept { IsKept into.new }
-        ensures left { block_in (blocks_of self.new) ≡ λ b. if not (covers area.now (chunk_around b)) then block_in (blocks_of self.old) b else 0 }
-        ensures moved { block_in (blocks_of into.new) ≡ λ b. if nat_eq (block_in (blocks_of into.old) b) 0 then (if covers area.now (chunk_around b) then block_in (blocks_of self.old) b else 0) else block_in (blocks_of into.old) b }
-        ensures len { length (blocks_of self.new) + count_by (λ (b : BlockAt). covers area.now (chunk_around b.at)) (blocks_of self.old) ≡ length (blocks_of self.old) }
-        ensures into_len { length (blocks_of into.new) ≡ length (blocks_of into.old) + count_by (λ (b : BlockAt). covers area.now (chunk_around b.at)) (blocks_of self.old) }
+        ensures left { block_in (blocks_of self.new) ≡ λ b. if not (is_listed list.now.chunks.now (chunk_around b)) then block_in (blocks_of self.old) b else 0 }
+        ensures moved { block_in (blocks_of into.new) ≡ λ b. if nat_eq (block_in (blocks_of into.old) b) 0 then (if is_listed list.now.chunks.now (chunk_around b) then block_in (blocks_of self.old) b else 0) else block_in (blocks_of into.old) b }
+        ensures len { length (blocks_of self.new) + count_by (λ (b : BlockAt). is_listed list.now.chunks.now (chunk_around b.at)) (blocks_of self.old) ≡ length (blocks_of self.old) }
+        ensures into_len { length (blocks_of into.new) ≡ length (blocks_of into.old) + count_by (λ (b : BlockAt). is_listed list.now.chunks.now (chunk_around b.at)) (blocks_of self.old) }
         ensures room { room_of self.old ≤ room_of self.new }
-        ensures into_room { room_of into.old ≤ room_of into.new + count_by (λ (b : BlockAt). covers area.now (chunk_around b.at)) (blocks_of self.old) }
+        ensures into_room { room_of into.old ≤ room_of into.new + count_by (λ (b : BlockAt). is_listed list.now.chunks.now (chunk_around b.at)) (blocks_of self.old) }
     {
         self.settle();
         into.settle();
-        block_list::move_area(&mut self.settled, area, &mut into.settled);
-    }
-
-    /// Takes the blocks of another value in.
-    pub fn merge(&mut self, mut other: Blocks)
-        requires kept { IsKept self.old }
-        requires other_kept { IsKept other }
-        requires apart { (b : BlockPos) → IsTrue (nat_eq (block_in (blocks_of self.old) b) 0 || nat_eq (block_in (blocks_of other) b) 0) }
-        requires room { length (blocks_of other) ≤ room_of self.old }
-        ensures kept { IsKept self.new }
-        ensures joined { block_in (blocks_of self.new) ≡ λ b. if nat_eq (block_in (blocks_of self.old) b) 0 then block_in (blocks_of other) b else block_in (blocks_of self.old) b }
-        ensures len { length (blocks_of self.new) ≡ length (blocks_of self.old) + length (blocks_of other) }
-        ensures room { room_of self.old ≤ room_of self.new + length (blocks_of other) }
-    {
-        self.settle();
-        other.settle();
-        block_list::merge(&mut self.settled, other.settled);
+        block_list::move_listed(&mut self.settled, list, &mut into.settled);
     }
 }
 

@@ -9,13 +9,12 @@ ghost use Rattle.fol_model.specs.ActionStep.{Flat, at_block, at_id, standing_of}
 ghost use Rattle.fol_model.specs.FlatTick.{moved};
 ghost use Rattle.fol_model.specs.World.{standing_in};
 ghost use Rattle.fol_keyed.specs.Order.{chunk_cmp};
-ghost use Rattle.fol_keyed.specs.Areas.{covers};
 ghost use Rattle.fol_chunks.specs.Rows.{by_id};
 
 use crate::blocks::Blocks;
 use crate::{entities, steps};
-use fol_keyed::{Area, count_covered};
-use fol_model::{BlockAt, BlockPos, ChunkPos, Entity, Grid, SectionPos};
+use fol_keyed::{ChunkList, count_listed};
+use fol_model::{BlockAt, BlockPos, ChunkPos, Entity};
 use std::alloc::{AllocError, Global};
 use std::marker::Model;
 
@@ -41,7 +40,7 @@ impl Model for Chunks {
 }
 
 impl Chunks {
-    ghost use Rattle.fol_chunks.specs.Contents.{Contents, flat_of, nothing, size_of, within, outside, joined, Apart, is_recorded, is_in, is_listed, size_within, entity_of};
+    ghost use Rattle.fol_chunks.specs.Contents.{Contents, flat_of, nothing, size_of, within, outside, joined, Apart, is_recorded, is_listed, size_within, entity_of};
 
     /// Nothing. Takes no memory.
     pub fn new(alloc: Global) -> Chunks
@@ -63,22 +62,6 @@ impl Chunks {
     {
         self.blocks.reserve(n as usize)?;
         self.entities.reserve(n as usize)
-    }
-
-    /// How many more blocks or entities it can take without taking memory.
-    pub fn spare(&self) -> u64
-        ensures { result ≡ self.now.spare }
-    {
-        let blocks = self.blocks.spare();
-        let entities = self.entities.capacity() - self.entities.len();
-        blocks.min(entities) as u64
-    }
-
-    /// How many blocks with a number and entities there are.
-    pub fn size(&self) -> u64
-        ensures { result ≡ size_of self.now }
-    {
-        (self.blocks.len() + self.entities.len()) as u64
     }
 
     /// The number of a block, and 0 where it has none.
@@ -155,49 +138,13 @@ impl Chunks {
         steps::step_all(&mut self.entities, chunks);
     }
 
-    /// How many blocks and entities lie in the part.
-    pub fn size_in(&self, grid: &Grid, part: &[SectionPos]) -> u64
-        ensures { result ≡ size_within (is_in grid.now part.now) self.now }
-    {
-        self.size_of_area(&Area::part(grid, part))
-    }
-
-    /// Takes the contents of another value in. Takes no memory.
-    pub fn merge_from(&mut self, other: Chunks)
-        requires apart { Apart (flat_of self.old) (flat_of other) }
-        requires room { size_of other ≤ self.old.spare }
-        ensures joined { flat_of self.new ≡ joined (flat_of self.old) (flat_of other) }
-        ensures size { size_of self.new ≡ size_of self.old + size_of other }
-        ensures spare { self.old.spare ≤ self.new.spare + size_of other }
-    {
-        let Chunks {
-            blocks: other_blocks,
-            entities: other_entities,
-        } = other;
-        self.blocks.merge(other_blocks);
-        entities::merge(&mut self.entities, other_entities);
-    }
-
-    /// Moves what lies in the part into a value that holds nothing. Takes no memory.
-    pub fn move_part(&mut self, grid: &Grid, part: &[SectionPos], into: &mut Chunks)
-        requires empty { size_of into.old ≡ 0 }
-        requires room { size_within (is_in grid.now part.now) self.old ≤ into.old.spare }
-        ensures stayed { flat_of self.new ≡ outside (is_in grid.now part.now) (flat_of self.old) }
-        ensures moved { flat_of into.new ≡ within (is_in grid.now part.now) (flat_of self.old) }
-        ensures size { size_of self.new + size_within (is_in grid.now part.now) self.old ≡ size_of self.old }
-        ensures into_size { size_of into.new ≡ size_within (is_in grid.now part.now) self.old }
-        ensures spare { self.old.spare ≤ self.new.spare }
-        ensures into_spare { into.old.spare ≤ into.new.spare + size_within (is_in grid.now part.now) self.old }
-    {
-        self.move_area(&Area::part(grid, part), into);
-    }
-
     /// How many blocks and entities lie in the chunks, which stand by z, and then by x.
     pub fn size_listed(&self, chunks: &[ChunkPos]) -> u64
         requires { IsStrictlySortedBy chunk_cmp chunks.now }
         ensures { result ≡ size_within (is_listed chunks.now) self.now }
     {
-        self.size_of_area(&Area::listed(chunks))
+        let list = ChunkList::of(chunks);
+        (self.blocks.count_listed(&list) + count_listed(&self.entities, &list)) as u64
     }
 
     /// Moves what lies in the chunks, which stand by z, and then by x. Takes no memory.
@@ -212,28 +159,8 @@ impl Chunks {
         ensures spare { self.old.spare ≤ self.new.spare }
         ensures into_spare { into.old.spare ≤ into.new.spare + size_within (is_listed chunks.now) self.old }
     {
-        self.move_area(&Area::listed(chunks), into);
-    }
-
-    /// How many blocks and entities lie in the area.
-    fn size_of_area(&self, area: &Area) -> u64
-        ensures { result ≡ size_within (covers area.now) self.now }
-    {
-        (self.blocks.count(area) + count_covered(&self.entities, area)) as u64
-    }
-
-    /// Moves what lies in the area.
-    fn move_area(&mut self, area: &Area, into: &mut Chunks)
-        requires apart { Apart (flat_of into.old) (within (covers area.now) (flat_of self.old)) }
-        requires room { size_within (covers area.now) self.old ≤ into.old.spare }
-        ensures stayed { flat_of self.new ≡ outside (covers area.now) (flat_of self.old) }
-        ensures moved { flat_of into.new ≡ joined (flat_of into.old) (within (covers area.now) (flat_of self.old)) }
-        ensures size { size_of self.new + size_within (covers area.now) self.old ≡ size_of self.old }
-        ensures into_size { size_of into.new ≡ size_of into.old + size_within (covers area.now) self.old }
-        ensures spare { self.old.spare ≤ self.new.spare }
-        ensures into_spare { into.old.spare ≤ into.new.spare + size_within (covers area.now) self.old }
-    {
-        self.blocks.move_area(area, &mut into.blocks);
-        entities::move_area(&mut self.entities, area, &mut into.entities);
+        let list = ChunkList::of(chunks);
+        self.blocks.move_listed(&list, &mut into.blocks);
+        entities::move_listed(&mut self.entities, &list, &mut into.entities);
     }
 }

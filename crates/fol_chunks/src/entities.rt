@@ -9,12 +9,12 @@ ghost use Rattle.std.specs.declared.cmp.Ordering.TheVariants.{Less, Greater};
 ghost use Rattle.fol_model.specs.Geometry.{chunk_of as chunk_around};
 ghost use Rattle.fol_model.specs.ActionStep.{at_id, standing_of};
 ghost use Rattle.fol_model.specs.World.{standing_in};
-ghost use Rattle.fol_keyed.specs.Areas.{covers};
+ghost use Rattle.fol_keyed.specs.Members.{is_listed};
 ghost use Rattle.fol_keyed.specs.Options.{option_filter};
 ghost use Rattle.fol_chunks.specs.Contents.{entity_of};
 ghost use Rattle.fol_chunks.specs.Rows.{by_id};
 
-use fol_keyed::{Area, join, move_covered};
+use fol_keyed::ChunkList;
 use fol_model::{BlockPos, Entity};
 
 /// Where the entity stands in the list, or where it would stand.
@@ -70,34 +70,20 @@ pub fn put(entities: &mut Vec<Entity>, entity: Entity)
     }
 }
 
-/// Moves the entities that lie in the area into another list.
-pub fn move_area(entities: &mut Vec<Entity>, area: &Area, into: &mut Vec<Entity>)
+/// Moves the entities that lie in the chunks of the list into another list.
+pub fn move_listed(entities: &mut Vec<Entity>, list: &ChunkList, into: &mut Vec<Entity>)
     requires order { IsStrictlySortedBy by_id entities.old.items }
     requires into_order { IsStrictlySortedBy by_id into.old.items }
-    requires apart { (id : ℕ) → IsTrue (is_none (standing_in into.old.items id) || is_none (option_filter (λ s. covers area.now (chunk_around s.at)) (standing_in entities.old.items id))) }
-    requires room { vec_len into.old + count_by (λ (e : Entity). covers area.now (chunk_around e.at)) entities.old.items ≤ vec_capacity into.old }
-    ensures left { standing_in entities.new.items ≡ λ id. option_filter (λ s. not (covers area.now (chunk_around s.at))) (standing_in entities.old.items id) }
-    ensures moved { standing_in into.new.items ≡ λ id. option_or (standing_in into.old.items id) (option_filter (λ s. covers area.now (chunk_around s.at)) (standing_in entities.old.items id)) }
+    requires apart { (id : ℕ) → IsTrue (is_none (standing_in into.old.items id) || is_none (option_filter (λ s. is_listed list.now.chunks.now (chunk_around s.at)) (standing_in entities.old.items id))) }
+    requires room { vec_len into.old + count_by (λ (e : Entity). is_listed list.now.chunks.now (chunk_around e.at)) entities.old.items ≤ vec_capacity into.old }
+    ensures left { standing_in entities.new.items ≡ λ id. option_filter (λ s. not (is_listed list.now.chunks.now (chunk_around s.at))) (standing_in entities.old.items id) }
+    ensures moved { standing_in into.new.items ≡ λ id. option_or (standing_in into.old.items id) (option_filter (λ s. is_listed list.now.chunks.now (chunk_around s.at)) (standing_in entities.old.items id)) }
     ensures order { IsStrictlySortedBy by_id entities.new.items }
     ensures into_order { IsStrictlySortedBy by_id into.new.items }
-    ensures len { vec_len entities.new + count_by (λ (e : Entity). covers area.now (chunk_around e.at)) entities.old.items ≡ vec_len entities.old }
-    ensures into_len { vec_len into.new ≡ vec_len into.old + count_by (λ (e : Entity). covers area.now (chunk_around e.at)) entities.old.items }
+    ensures len { vec_len entities.new + count_by (λ (e : Entity). is_listed list.now.chunks.now (chunk_around e.at)) entities.old.items ≡ vec_len entities.old }
+    ensures into_len { vec_len into.new ≡ vec_len into.old + count_by (λ (e : Entity). is_listed list.now.chunks.now (chunk_around e.at)) entities.old.items }
     ensures capacity { vec_capacity entities.old ≤ vec_capacity entities.new }
     ensures into_capacity { vec_capacity into.old ≤ vec_capacity into.new }
 {
-    move_covered(entities, area, into);
-}
-
-/// Takes the entities of another list in.
-pub fn merge(entities: &mut Vec<Entity>, other: Vec<Entity>)
-    requires order { IsStrictlySortedBy by_id entities.old.items }
-    requires other_order { IsStrictlySortedBy by_id other.items }
-    requires apart { (id : ℕ) → IsTrue (is_none (standing_in entities.old.items id) || is_none (standing_in other.items id)) }
-    requires room { vec_len entities.old + vec_len other ≤ vec_capacity entities.old }
-    ensures joined { standing_in entities.new.items ≡ λ id. option_or (standing_in entities.old.items id) (standing_in other.items id) }
-    ensures order { IsStrictlySortedBy by_id entities.new.items }
-    ensures len { vec_len entities.new ≡ vec_len entities.old + vec_len other }
-    ensures capacity { vec_capacity entities.old ≤ vec_capacity entities.new }
-{
-    join(entities, &other);
+    fol_keyed::move_listed(entities, list, into);
 }

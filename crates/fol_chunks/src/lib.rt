@@ -4,8 +4,8 @@
 //! differ. Contracts say what each call does to these two functions, and nothing of how they are kept.
 //!
 //! The crate promises that `get`, `set`, `find`, `take_entity` and `put_entity` read and change just what they name, that
-//! `step_entities` is the movement at the end of a tick, and that what is moved to another value or taken in from it is exactly what
-//! lies in the chunks, in the part or in the other value. Only `reserve` and `add_blocks_to` take memory. It serves the data of a region.
+//! `step_entities` is the movement at the end of a tick, and that what is moved to another value is exactly what lies in the chunks of
+//! a list. Only `reserve` and `add_blocks_to` take memory. It serves the data of a region.
 #![tactic(auto)]
 
 mod block_list;

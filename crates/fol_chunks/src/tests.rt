@@ -4,7 +4,7 @@ ghost use Rattle.std.specs.Prelude.{◌≡◌, ◌≤◌, None, IfOk};
 ghost use Rattle.fol_chunks.specs.Contents.{flat_of};
 
 use crate::Chunks;
-use fol_model::{BlockPos, ChunkPos, Entity, Grid, SectionPos};
+use fol_model::{BlockPos, ChunkPos, Entity};
 use std::alloc::{AllocError, Global};
 use std::test::Fail;
 
@@ -34,7 +34,6 @@ fn step(chunks: &mut Chunks) {
 fn entities_walk_within_recorded_chunks(rt: HostRuntime) -> Result<(), Fail> {
     let mut chunks = Chunks::new(rt.alloc());
     chunks.reserve(1)?;
-    assert!(rt; chunks.spare() >= 1);
     assert_eq!(rt; chunks.take_entity(1), None);
     chunks.put_entity(walker(1, 15, 16));
     step(&mut chunks);
@@ -43,7 +42,7 @@ fn entities_walk_within_recorded_chunks(rt: HostRuntime) -> Result<(), Fail> {
     assert_eq!(rt; chunks.find(1), Some(block(31, 0)));
     assert_eq!(rt; chunks.take_entity(1), Some(walker(1, 31, 16)));
     assert_eq!(rt; chunks.take_entity(1), None);
-    assert_eq!(rt; chunks.size(), 0);
+    assert_eq!(rt; chunks.entity_list().len(), 0);
     Ok(())
 }
 
@@ -74,11 +73,8 @@ fn entities_walk_within_any_chunks(rt: HostRuntime) -> Result<(), Fail> {
 fn blocks_are_set_and_listed(rt: HostRuntime) -> Result<(), Fail> {
     let mut chunks = Chunks::new(rt.alloc());
     chunks.reserve(8)?;
-    assert!(rt; chunks.spare() >= 1);
     chunks.set(block(5, 0), 7);
-    assert!(rt; chunks.spare() >= 1);
     chunks.set(block(-20, 3), 9);
-    assert!(rt; chunks.spare() >= 1);
     chunks.set(block(5, 0), 8);
     assert_eq!(rt; chunks.get(block(5, 0)), 8);
     assert_eq!(rt; chunks.get(block(5, 1)), 0);
@@ -95,11 +91,17 @@ fn blocks_are_set_and_listed(rt: HostRuntime) -> Result<(), Fail> {
             .iter()
             .any(|row| row.at == block(5, 0) && row.id == 8)
     );
-    assert!(rt; chunks.spare() >= 1);
     chunks.set(block(5, 0), 0);
     assert_eq!(rt; chunks.get(block(5, 0)), 0);
-    assert_eq!(rt; chunks.size(), 1);
+    assert_eq!(rt; count_blocks(rt.alloc(), &chunks)?, 1);
     Ok(())
+}
+
+/// How many blocks have a number.
+fn count_blocks(alloc: Global, chunks: &Chunks) -> Result<usize, AllocError> {
+    let mut listed = Vec::new(alloc);
+    chunks.add_blocks_to(&mut listed)?;
+    Ok(listed.len())
 }
 
 /// Gives 3,000 blocks in a row the number 9, here and there, so that some stand apart, and are settled more than once on the way.
@@ -116,41 +118,15 @@ fn set_many(chunks: &mut Chunks) -> Result<(), AllocError> {
 fn many_blocks_are_kept(rt: HostRuntime) -> Result<(), Fail> {
     let mut chunks = Chunks::new(rt.alloc());
     set_many(&mut chunks)?;
-    assert_eq!(rt; chunks.size(), 3000);
+    assert_eq!(rt; count_blocks(rt.alloc(), &chunks)?, 3000);
     assert_eq!(rt; chunks.get(block(5, 0)), 9);
     assert_eq!(rt; chunks.get(block(2964, 0)), 0);
     chunks.reserve(2)?;
     chunks.set(block(5, 0), 0);
     assert_eq!(rt; chunks.get(block(5, 0)), 0);
-    assert_eq!(rt; chunks.size(), 2999);
-    let mut listed = Vec::new(rt.alloc());
-    chunks.add_blocks_to(&mut listed)?;
-    assert_eq!(rt; listed.len(), 2999);
+    assert_eq!(rt; count_blocks(rt.alloc(), &chunks)?, 2999);
     set_many(&mut chunks)?;
-    assert_eq!(rt; chunks.size(), 3000);
-    Ok(())
-}
-
-/// A part is moved out, and taken in again.
-#[test]
-fn a_part_moves_with_its_section(rt: HostRuntime) -> Result<(), Fail> {
-    let grid = Grid::of(0, 1, 1, 2, 1, 6).ok_or("the grid is within the limits")?;
-    let part = [SectionPos { x: -2, z: 0 }];
-    let mut chunks = Chunks::new(rt.alloc());
-    chunks.reserve(8)?;
-    assert!(rt; chunks.spare() >= 1);
-    chunks.set(block(5, 0), 7);
-    assert!(rt; chunks.spare() >= 1);
-    chunks.set(block(-20, 3), 9);
-    let mut parted = Chunks::new(rt.alloc());
-    parted.reserve(8)?;
-    let size = chunks.size_in(&grid, &part);
-    assert_eq!(rt; size, 1);
-    assert!(rt; parted.size() == 0 && chunks.size_in(&grid, &part) <= parted.spare());
-    chunks.move_part(&grid, &part, &mut parted);
-    assert_eq!(rt; parted.get(block(-20, 3)), 9);
-    assert_eq!(rt; chunks.get(block(-20, 3)), 0);
-    assert_eq!(rt; chunks.get(block(5, 0)), 7);
+    assert_eq!(rt; count_blocks(rt.alloc(), &chunks)?, 3000);
     Ok(())
 }
 
@@ -164,13 +140,12 @@ fn with_block(alloc: Global, at: BlockPos, id: u16) -> Result<Chunks, AllocError
     Ok(chunks)
 }
 
-/// One entity, no block, and room for one.
+/// One entity, and no block.
 fn with_walker(alloc: Global) -> Result<Chunks, AllocError>
-    ensures blocks { IfOk result (λ c. (flat_of c).blocks ≡ λ b. 0) }
-    ensures spare { IfOk result (λ c. 1 ≤ c.spare) }
+    ensures { IfOk result (λ c. (flat_of c).blocks ≡ λ b. 0) }
 {
     let mut chunks = Chunks::new(alloc);
-    chunks.reserve(2)?;
+    chunks.reserve(1)?;
     chunks.put_entity(walker(1, 15, 16));
     Ok(chunks)
 }
@@ -180,23 +155,10 @@ fn with_walker(alloc: Global) -> Result<Chunks, AllocError>
 fn a_list_moves_with_its_chunks(rt: HostRuntime) -> Result<(), Fail> {
     let mut chunks = with_block(rt.alloc(), block(20, 0), 9)?;
     let mut into = with_walker(rt.alloc())?;
-    assert!(rt; chunks.size_listed(&CHUNKS) <= into.spare());
+    into.reserve(chunks.size_listed(&CHUNKS))?;
     chunks.move_listed(&CHUNKS, &mut into);
-    assert_eq!(rt; chunks.size(), 0);
-    assert_eq!(rt; into.size(), 2);
+    assert_eq!(rt; count_blocks(rt.alloc(), &chunks)?, 0);
     assert_eq!(rt; into.get(block(20, 0)), 9);
     assert_eq!(rt; into.entity_list().len(), 1);
-    Ok(())
-}
-
-/// What joins is added to what is there.
-#[test]
-fn a_merge_takes_all_in(rt: HostRuntime) -> Result<(), Fail> {
-    let chunks = with_block(rt.alloc(), block(20, 0), 9)?;
-    let mut into = with_walker(rt.alloc())?;
-    assert!(rt; chunks.size() <= into.spare());
-    into.merge_from(chunks);
-    assert_eq!(rt; into.get(block(20, 0)), 9);
-    assert_eq!(rt; into.find(1), Some(block(15, 0)));
     Ok(())
 }

@@ -1,13 +1,8 @@
--- The data of a region and a tick may go to another thread.
+-- The data of a region may go to another thread.
 use denote.Param.Send.{IsSend, sendable}
 use Rattle.fol_chunks.proofs.chunks.Chunks.TheSendSync as chunks
 use Rattle.fol_data.specs.contracts.region_data.RegionData as body
-use Rattle.fol_data.specs.contracts.tick.Tick as tick
-use Rattle.fol_model.proofs.Crossing.{ChunkPos-send, Sequence-send, Task-send, TickLog-send}
 use Rattle.fol_queues.proofs.Crossing.{Queues-send}
 
 pub RegionData-send : IsSend (body.the_field).row
 RegionData-send = search (sendable, Queues-send, chunks.the_send) depth 14
-
-pub Tick-send : IsSend (tick.the_field).row
-Tick-send = search (sendable, RegionData-send, ChunkPos-send, Task-send, TickLog-send, Sequence-send) depth 14

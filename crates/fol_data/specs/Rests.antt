@@ -1,20 +1,14 @@
 -- The tasks of a region with their rests, and how deadlines follow a region's counter.
 use Rattle.std.specs.Prelude.{ℕ, ◌+◌, ◌≤◌, ℤ, pos, ◌-ℤ◌, Bool, List, Option}
 use Rattle.fol_model.specs.declared.places.ChunkPos.{ChunkPos}
-use Rattle.fol_model.specs.declared.places.SectionPos.{SectionPos}
-use Rattle.fol_model.specs.declared.grids.Grid.{Grid}
 use Rattle.fol_model.specs.Job.{Job}
 use Rattle.fol_queues.specs.declared.dated.Dated.{Dated}
-use Rattle.fol_queues.specs.Waiting.{jobs_of, is_in, is_listed}
+use Rattle.fol_queues.specs.Waiting.{jobs_of, is_listed}
 use Rattle.fol_data.specs.declared.region_data.RegionData.{RegionData}
 
 -- the queued tasks by number, each with its rest: its deadline without the counter
 abbrev pub rests_of : RegionData → ℕ → Option Job
 rests_of r n = jobs_of r.queues r.tick n
-
--- the task is on a chunk of the part
-abbrev pub is_job_in : Grid → List SectionPos → Job → Bool
-is_job_in grid part j = is_in grid part j.chunk
 
 -- the task is on one of the chunks
 abbrev pub is_job_listed : List ChunkPos → Job → Bool

@@ -1,18 +1,18 @@
 //! The data of a region.
 
-ghost use Rattle.std.specs.Prelude.{◌≡◌, ◌+◌, ◌≤◌, ◌^◌, ◌||◌, max, not, ℕ, [], IsTrue, ◌↔◌, OnOk};
+ghost use Rattle.std.specs.Prelude.{◌≡◌, ◌+◌, ◌≤◌, ◌^◌, ◌||◌, not, ℕ, [], IsTrue, OnOk};
 ghost use Rattle.std.specs.Option.{option_or, option_map, is_none, ForSome};
 ghost use Rattle.std.specs.List.Sorted.{IsStrictlySortedBy};
 ghost use Rattle.fol_keyed.specs.Order.{chunk_cmp};
-ghost use Rattle.fol_queues.specs.Waiting.{dated, len_of, count_within, count_listed, lies_in, lies_listed, is_in, is_listed, raised, option_filter};
+ghost use Rattle.fol_queues.specs.Waiting.{dated, len_of, count_listed, lies_listed, is_listed, raised, option_filter};
 ghost use Rattle.fol_chunks.specs.Contents.{flat_of, nothing, size_of as size_of_contents, size_within, within, outside, joined, Apart};
-ghost use Rattle.fol_data.specs.Rests.{rests_of, is_job_in, is_job_listed, offset as offset_between, IsInTime};
-ghost use Rattle.fol_data.specs.Sizes.{size_of, size_in_part, size_listed, spare_of};
+ghost use Rattle.fol_data.specs.Rests.{rests_of, is_job_listed, offset as offset_between, IsInTime};
+ghost use Rattle.fol_data.specs.Sizes.{size_listed};
 
 use crate::Size;
 use crate::offset::offset;
 use fol_chunks::Chunks;
-use fol_model::{ChunkPos, Grid, SectionPos};
+use fol_model::ChunkPos;
 use fol_queues::Queues;
 use std::alloc::{AllocError, Global};
 
@@ -46,26 +46,6 @@ impl RegionData {
         }
     }
 
-    /// How many tasks there are, and how many blocks and entities.
-    pub fn size(&self) -> Size
-        ensures { result ≡ size_of self.now }
-    {
-        Size {
-            tasks: self.queues.len(),
-            things: self.chunks.size(),
-        }
-    }
-
-    /// How many tasks lie in the part, and how many blocks and entities.
-    pub fn size_in(&self, grid: &Grid, part: &[SectionPos]) -> Size
-        ensures { result ≡ size_in_part grid.now part.now self.now }
-    {
-        Size {
-            tasks: self.queues.count_in(grid, part),
-            things: self.chunks.size_in(grid, part),
-        }
-    }
-
     /// How many tasks are on the chunks, which stand by z, and then by x, and how many blocks and entities lie in them.
     pub fn size_listed(&self, chunks: &[ChunkPos]) -> Size
         requires { IsStrictlySortedBy chunk_cmp chunks.now }
@@ -77,24 +57,7 @@ impl RegionData {
         }
     }
 
-    /// Whether there is no task, no block and no entity.
-    pub fn is_empty(&self) -> bool
-        ensures { IsTrue result ↔ ((self.now.queues.tasks ≡ []) × (size_of_contents self.now.chunks ≡ 0)) }
-    {
-        self.queues.is_empty() && self.chunks.size() == 0
-    }
-
-    /// How many more tasks, and how many more blocks or entities, it can take in without taking memory.
-    pub fn spare(&self) -> Size
-        ensures { result ≡ spare_of self.now }
-    {
-        Size {
-            tasks: self.queues.spare(),
-            things: self.chunks.spare(),
-        }
-    }
-
-    /// Makes `spare` at least `n` in both numbers. All else stays either way.
+    /// Makes room for so many more tasks, and so many more blocks or entities. All else stays either way.
     pub fn reserve(&mut self, n: Size) -> Result<(), AllocError>
         ensures tick { self.new.tick ≡ self.old.tick }
         ensures owed { self.new.owed ≡ self.old.owed }
@@ -108,69 +71,6 @@ impl RegionData {
     {
         self.queues.reserve(n.tasks)?;
         self.chunks.reserve(n.things)
-    }
-
-    /// Takes the data of another region in, which ends by it. This counter stays, the greater owed number stays, and the deadlines
-    /// of the other region move by the difference of the counters, so that each task keeps its rest. Takes no memory.
-    pub fn merge_from(&mut self, other: RegionData)
-        requires tick { self.old.tick ≤ 2 ^ 62 }
-        requires other_tick { other.tick ≤ 2 ^ 62 }
-        requires in_time { (n : ℕ) → ForSome (dated self.old.queues n) (IsInTime self.old.tick) }
-        requires other_in_time { (n : ℕ) → ForSome (dated other.queues n) (IsInTime other.tick) }
-        requires tasks_apart { (n : ℕ) → IsTrue (is_none (dated self.old.queues n) || is_none (dated other.queues n)) }
-        requires contents_apart { Apart (flat_of self.old.chunks) (flat_of other.chunks) }
-        requires room_for_tasks { len_of other.queues ≤ self.old.queues.spare }
-        requires room_for_things { size_of_contents other.chunks ≤ self.old.chunks.spare }
-        ensures tick { self.new.tick ≡ self.old.tick }
-        ensures owed { self.new.owed ≡ max self.old.owed other.owed }
-        ensures deadlines { dated self.new.queues ≡ λ n. option_or (dated self.old.queues n) (option_map (raised (offset_between other.tick self.old.tick)) (dated other.queues n)) }
-        ensures rests { rests_of self.new ≡ λ n. option_or (rests_of self.old n) (rests_of other n) }
-        ensures in_time { (n : ℕ) → ForSome (dated self.new.queues n) (IsInTime self.new.tick) }
-        ensures contents { flat_of self.new.chunks ≡ joined (flat_of self.old.chunks) (flat_of other.chunks) }
-        ensures tasks_len { len_of self.new.queues ≡ len_of self.old.queues + len_of other.queues }
-        ensures things_len { size_of_contents self.new.chunks ≡ size_of_contents self.old.chunks + size_of_contents other.chunks }
-        ensures spare_for_tasks { self.old.queues.spare ≤ self.new.queues.spare + len_of other.queues }
-        ensures spare_for_things { self.old.chunks.spare ≤ self.new.chunks.spare + size_of_contents other.chunks }
-    {
-        let RegionData {
-            tick,
-            owed,
-            queues,
-            chunks,
-        } = other;
-        self.owed = self.owed.max(owed);
-        self.queues.merge_from(queues, offset(tick, self.tick));
-        self.chunks.merge_from(chunks);
-    }
-
-    /// Moves the tasks, blocks and entities in the part into data that holds none, which gets the counter and the owed number too.
-    /// Takes no memory.
-    pub fn move_part(&mut self, grid: &Grid, part: &[SectionPos], into: &mut RegionData)
-        requires no_task { into.old.queues.tasks ≡ [] }
-        requires no_thing { size_of_contents into.old.chunks ≡ 0 }
-        requires room_for_tasks { count_within grid.now part.now self.old.queues ≤ into.old.queues.spare }
-        requires room_for_things { size_within (is_in grid.now part.now) self.old.chunks ≤ into.old.chunks.spare }
-        ensures tick { self.new.tick ≡ self.old.tick }
-        ensures owed { self.new.owed ≡ self.old.owed }
-        ensures part_tick { into.new.tick ≡ self.old.tick }
-        ensures part_owed { into.new.owed ≡ self.old.owed }
-        ensures stayed_tasks { dated self.new.queues ≡ λ n. option_filter (λ d. not (lies_in grid.now part.now d)) (dated self.old.queues n) }
-        ensures moved_tasks { dated into.new.queues ≡ λ n. option_filter (lies_in grid.now part.now) (dated self.old.queues n) }
-        ensures stayed_rests { rests_of self.new ≡ λ n. option_filter (λ j. not (is_job_in grid.now part.now j)) (rests_of self.old n) }
-        ensures moved_rests { rests_of into.new ≡ λ n. option_filter (is_job_in grid.now part.now) (rests_of self.old n) }
-        ensures stayed_contents { flat_of self.new.chunks ≡ outside (is_in grid.now part.now) (flat_of self.old.chunks) }
-        ensures moved_contents { flat_of into.new.chunks ≡ within (is_in grid.now part.now) (flat_of self.old.chunks) }
-        ensures tasks_len { len_of self.new.queues + len_of into.new.queues ≡ len_of self.old.queues }
-        ensures part_tasks_len { len_of into.new.queues ≡ count_within grid.now part.now self.old.queues }
-        ensures things_len { size_of_contents self.new.chunks + size_of_contents into.new.chunks ≡ size_of_contents self.old.chunks }
-        ensures part_things_len { size_of_contents into.new.chunks ≡ size_within (is_in grid.now part.now) self.old.chunks }
-        ensures spare_for_tasks { self.old.queues.spare ≤ self.new.queues.spare }
-        ensures spare_for_things { self.old.chunks.spare ≤ self.new.chunks.spare }
-    {
-        into.tick = self.tick;
-        into.owed = self.owed;
-        self.queues.move_part(grid, part, &mut into.queues);
-        self.chunks.move_part(grid, part, &mut into.chunks);
     }
 
     /// Moves the tasks, blocks and entities on the chunks into the data of another region. The chunks stand by z, and then by x. Both

@@ -1,7 +1,5 @@
 //! A tick in the hands of a worker.
 
-ghost use Rattle.std.specs.Prelude.{◌≡◌};
-
 use crate::RegionData;
 use fol_model::{ChunkPos, Sequence, Task, TickLog};
 
@@ -24,15 +22,6 @@ pub struct Tick {
     pub log: TickLog,
     /// How many of the due tasks ran.
     pub next: u64,
-    /// Whether the entities moved, which is the last thing that a tick does.
+    /// Whether the entities moved, which is the last thing that a tick does: then it is finished.
     pub moved: bool,
-}
-
-impl Tick {
-    /// Whether the tick is finished: all due tasks ran and then the entities moved.
-    pub fn is_finished(&self) -> bool
-        ensures { result ≡ self.now.moved }
-    {
-        self.moved
-    }
 }

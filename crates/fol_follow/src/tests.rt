@@ -184,7 +184,7 @@ fn visit<R: Abort + Wait>(
     ensures own { IsIdle (book_id book.now) seat.new }
     ensures number { seat.new.number ≡ seat.old.number }
 {
-    assert!(rt; tick.is_finished());
+    assert!(rt; tick.moved);
     match book.visit(rt, alloc, seat, tick) {
         Ok(answer) => answer,
         Err(_) => panic!(rt; "memory"),

@@ -1,14 +1,14 @@
 -- Lists whose elements have keys that differ: what a look-up by key finds.
-use Rattle.std.proofs.Common.{◌≡◌, ℕ, zero, suc, ◌+◌, ◌<◌, ◌||◌, Bool, true, false, not, cond, List, [], ◌∷◌, ◌++◌, length, get_or, take, drop, map, refl, sym, ◌∙◌, length-append, ap, subst, ◌⊎◌, inl, inr, arith, Option, Some, None}
+use Rattle.std.proofs.Common.{◌≡◌, ℕ, zero, suc, ◌+◌, ◌<◌, ◌||◌, Bool, true, false, not, cond, List, [], ◌∷◌, ◌++◌, length, get_or, map, refl, sym, ◌∙◌, length-append, ap, subst, ◌⊎◌, inl, inr, arith, Option, Some, None}
 use Rattle.std.specs.Prelude.{All, Contains, slice_set}
-use Rattle.std.specs.List.{find, filter, count_by, list_any, IsDistinct, AllByRecursion, insert, remove}
+use Rattle.std.specs.List.{find, filter, count_by, IsDistinct, AllByRecursion, insert, remove}
 use Rattle.std.specs.List.Sorted.{IsPermutation}
-use Rattle.std.specs.Option.{option_or, option_map, is_some, is_none}
+use Rattle.std.specs.Option.{option_or, option_map, is_none}
 use Rattle.std.proofs.lemmas.Bool.{cases_Bool}
-use Rattle.std.proofs.lemmas.List.Elements.{All-from_recursion, All-contains, All-head, All-tail, All-append, All-take, All-drop, All-cons, Contains-get_or, Contains-append_left, Contains-append_right, Contains-append_cases}
+use Rattle.std.proofs.lemmas.List.Elements.{All-from_recursion, All-contains, All-head, All-tail, Contains-get_or, Contains-append_left, Contains-append_right, Contains-append_cases}
 use Rattle.std.proofs.lemmas.List.Sorted.{Contains-permutation, IsPermutation-sym, IsPermutation-remove, IsPermutation-insert, IsPermutation-to_front, IsPermutation-trans, sum_by-IsPermutation, length_permutation}
 use Rattle.std.proofs.lemmas.List.Sums.{sum_by-append, sum_by-cons}
-use Rattle.std.proofs.lemmas.List.Folds.{find-append, Any-from_list_any, list_any-from_Any}
+use Rattle.std.proofs.lemmas.List.Folds.{find-append}
 use Rattle.std.proofs.lemmas.Map.Keys.{IsDistinct-IsPermutation, IsDistinct-tail}
 use Rattle.fol_keyed.specs.Options.{option_filter}
 use Rattle.fol_keyed.specs.Parted.{Parted}
@@ -49,12 +49,6 @@ module _ {X : Type 0} where
   at_own [] i d l = absurd (omega arith)
   at_own (x ∷ xs) zero d l = refl
   at_own (x ∷ xs) (suc i) d l = at_own xs i d (omega arith)
-
-  pub All-removed : (P : X → Type 0) (xs : List X) (i : ℕ) → All P xs → All P (remove xs i)
-  All-removed P xs i h = All-append P (take i xs) (drop (suc i) xs) (All-take P i xs h) (All-drop P (suc i) xs h)
-
-  pub All-inserted : (P : X → Type 0) (xs : List X) (i : ℕ) (y : X) → P y → All P xs → All P (insert xs i y)
-  All-inserted P xs i y p h = All-append P (take i xs) (y ∷ drop i xs) (All-take P i xs h) (All-cons P y (drop i xs) p (All-drop P i xs h))
 
 -- elements with keys, a test that tells keys apart, and the element of a key
 module _ {X K : Type 0} (same : K → K → Bool) (same_is : (a b : K) → same a b ≡ true → a ≡ b) (same_self : (a : K) → same a a ≡ true) (key : X → K) where
@@ -358,23 +352,6 @@ module _ {X K : Type 0} (same : K → K → Bool) (same_is : (a b : K) → same 
       either_part : (x : X) → Contains moved x ⊎ Contains left x → Contains moved x ⊎ (p x ≡ false)
       either_part x (inl m) = inl m
       either_part x (inr m) = inr (All-contains (λ z. p z ≡ false) left x h.no m)
-
-  -- some element passes exactly where some look-up finds one that passes
-  pub any_found : (p : X → Bool) (xs : List X) → Differ xs → list_any p xs ≡ true → (k : K) × (is_some (option_filter p (find (has_key k) xs)) ≡ true)
-  any_found p xs d h =
-      let (k, x, l, e, t) = Any-from_list_any p xs h in
-      (key x, rw (find_own xs x d (k, l, e), t) refl)
-
-  pub found_any : (p : X → Bool) (xs : List X) → (k : K) × (is_some (option_filter p (find (has_key k) xs)) ≡ true) → list_any p xs ≡ true
-  found_any p xs (k, h) = at_look (find (has_key k) xs) refl h
-    where
-      at_look : (o : Option X) → find (has_key k) xs ≡ o → is_some (option_filter p o) ≡ true → list_any p xs ≡ true
-      at_look None e t = cc
-      at_look (Some x) e t =
-          elim (cases_Bool (p x)) [
-            | inl f ↦ let m : Contains xs x = (find_key xs k x e).0 in list_any-from_Any p xs (m.0, x, m.1, m.2, f)
-            | inr f ↦ let w : is_some (cond false (Some x) None) ≡ true = rw f at t in cc
-          ]
 
 module _ {X : Type 0} where
   pub count_all : (p : X → Bool) (xs : List X) → All (λ x. p x ≡ true) xs → count_by p xs ≡ length xs

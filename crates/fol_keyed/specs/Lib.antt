@@ -2,6 +2,5 @@ pub mod Options
 pub mod Parted
 pub mod Order
 pub mod Members
-pub mod Areas
 pub mod Apart
 pub mod Rectangles

@@ -1,2 +1,2 @@
--- The orders of chunks and of sections.
-unfoldable pub use Rattle.fol_model.specs.Universe.{chunk_cmp, section_cmp}
+-- The order of chunks.
+unfoldable pub use Rattle.fol_model.specs.Universe.{chunk_cmp}

@@ -4,16 +4,16 @@ ghost use Rattle.std.specs.Prelude.{◌≡◌, ◌+◌, ◌≤◌, not, length, 
 ghost use Rattle.std.specs.Vec.{vec_capacity};
 ghost use Rattle.std.specs.List.Sorted.{IsStrictlySortedBy, IsPermutation};
 ghost use Rattle.std.specs.Ordering.{is_gt};
-ghost use Rattle.fol_keyed.specs.Areas.{covers};
 ghost use Rattle.fol_keyed.specs.Apart.{Untied};
+ghost use Rattle.fol_keyed.specs.Members.{is_listed};
 
-use crate::{Area, Row};
+use crate::{ChunkList, Row};
 
-/// How many of the rows lie in the area.
-pub fn count_covered<T: Row>(rows: &[T], area: &Area) -> usize
-    ensures { result ≡ count_by (λ r. covers area.now (T.place r)) rows.now }
+/// How many of the rows lie in the chunks of the list.
+pub fn count_listed<T: Row>(rows: &[T], list: &ChunkList) -> usize
+    ensures { result ≡ count_by (λ r. is_listed list.now.chunks.now (T.place r)) rows.now }
 {
-    rows.iter().filter(|row| area.covers(row.chunk())).count()
+    rows.iter().filter(|row| list.has(row.chunk())).count()
 }
 
 /// Takes the rows of another list in, of which none ties with one that is there.
@@ -63,21 +63,21 @@ fn is_after<T: Row>(row: &T, other: &T) -> bool
     row.compare(other).is_gt()
 }
 
-/// Moves the rows that lie in the area into another list, in which none ties with them.
-pub fn move_covered<T: Row>(rows: &mut Vec<T>, area: &Area, into: &mut Vec<T>)
-    requires room { vec_len into.old + count_by (λ r. covers area.now (T.place r)) rows.old.items ≤ vec_capacity into.old }
+/// Moves the rows that lie in the chunks of the list into another list, in which none ties with them.
+pub fn move_listed<T: Row>(rows: &mut Vec<T>, list: &ChunkList, into: &mut Vec<T>)
+    requires room { vec_len into.old + count_by (λ r. is_listed list.now.chunks.now (T.place r)) rows.old.items ≤ vec_capacity into.old }
     requires order { IsStrictlySortedBy T.order rows.old.items }
     requires into_order { IsStrictlySortedBy T.order into.old.items }
-    requires apart { Untied T.order into.old.items (filter (λ r. covers area.now (T.place r)) rows.old.items) }
-    ensures left { rows.new.items ≡ filter (λ r. not (covers area.now (T.place r))) rows.old.items }
-    ensures moved { IsPermutation (into.old.items ++ filter (λ r. covers area.now (T.place r)) rows.old.items) into.new.items }
+    requires apart { Untied T.order into.old.items (filter (λ r. is_listed list.now.chunks.now (T.place r)) rows.old.items) }
+    ensures left { rows.new.items ≡ filter (λ r. not (is_listed list.now.chunks.now (T.place r))) rows.old.items }
+    ensures moved { IsPermutation (into.old.items ++ filter (λ r. is_listed list.now.chunks.now (T.place r)) rows.old.items) into.new.items }
     ensures into_order { IsStrictlySortedBy T.order into.new.items }
     ensures capacity { vec_capacity rows.old ≤ vec_capacity rows.new }
     ensures into_capacity { vec_capacity into.old ≤ vec_capacity into.new }
 {
     let kept = into.len();
-    copy_covered(rows, area, into);
-    rows.retain(|row| !area.covers(row.chunk()));
+    copy_listed(rows, list, into);
+    rows.retain(|row| !list.has(row.chunk()));
     let left = rows.len();
     match rows.extend_from_slice(&into[kept..]) {
         Ok(()) => {}
@@ -87,14 +87,14 @@ pub fn move_covered<T: Row>(rows: &mut Vec<T>, area: &Area, into: &mut Vec<T>)
     rows.truncate(left);
 }
 
-/// Copies the rows that lie in the area behind those of another list.
-fn copy_covered<T: Row>(rows: &[T], area: &Area, into: &mut Vec<T>)
-    requires { vec_len into.old + count_by (λ r. covers area.now (T.place r)) rows.now ≤ vec_capacity into.old }
-    ensures items { into.new.items ≡ into.old.items ++ filter (λ r. covers area.now (T.place r)) rows.now }
+/// Copies the rows that lie in the chunks of the list behind those of another list.
+fn copy_listed<T: Row>(rows: &[T], list: &ChunkList, into: &mut Vec<T>)
+    requires { vec_len into.old + count_by (λ r. is_listed list.now.chunks.now (T.place r)) rows.now ≤ vec_capacity into.old }
+    ensures items { into.new.items ≡ into.old.items ++ filter (λ r. is_listed list.now.chunks.now (T.place r)) rows.now }
     ensures capacity { vec_capacity into.new ≡ vec_capacity into.old }
 {
     for row in rows.iter() {
-        if area.covers(row.chunk()) {
+        if list.has(row.chunk()) {
             into.push_reserved(*row);
         }
     }

@@ -3,6 +3,5 @@ pub mod Turns
 pub mod Below
 pub mod Parting
 pub mod Queued
-pub mod Raised
 pub mod OneTask
 pub mod Crossing

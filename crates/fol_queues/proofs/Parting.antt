@@ -4,7 +4,7 @@ use Rattle.std.specs.Prelude.{All, Contains, count_by}
 use Rattle.std.specs.List.{AllWithin, swap_remove}
 use Rattle.std.specs.List.Sorted.{IsPermutation}
 use Rattle.std.proofs.lemmas.List.Elements.{AllWithin-none, AllWithin-more, AllWithin-upto, All-from_all_within, All-push, All-nil, Contains-get_or, Contains-append_right}
-use Rattle.std.proofs.lemmas.List.Sorted.{IsPermutation-refl, IsPermutation-sym, IsPermutation-trans, IsPermutation-to_front, IsPermutation-append_left, IsPermutation-append_right, IsPermutation-pop_more, IsPermutation-swap_remove, All-permutation, Contains-permutation, length_permutation, sum_by-IsPermutation}
+use Rattle.std.proofs.lemmas.List.Sorted.{IsPermutation-refl, IsPermutation-sym, IsPermutation-trans, IsPermutation-append_left, IsPermutation-append_right, IsPermutation-pop_more, IsPermutation-swap_remove, All-permutation, Contains-permutation, length_permutation, sum_by-IsPermutation}
 use Rattle.std.proofs.lemmas.List.Sums.{sum_by-append, get_or-le-sum_by}
 use Rattle.std.proofs.lemmas.List.{map-append, length-map, append-nil}
 use Rattle.fol_model.specs.declared.tasks.Task.{Task}
@@ -61,12 +61,6 @@ parted_again p xs left rest moved h m = record {
   yes = h.yes;
   no = All-permutation (λ x. p x ≡ false) left rest m h.no;
 }
-
--- the last of the others went into a list
-pub join_step : {X : Type 0} (xs ys others : List X) (x : X) → IsPermutation (xs ++ x ∷ []) ys → IsPermutation (xs ++ (others ++ x ∷ [])) (ys ++ others)
-join_step {X} xs ys others x m =
-    IsPermutation-trans (xs ++ (others ++ x ∷ [])) (xs ++ x ∷ others) (ys ++ others) (IsPermutation-append_right xs (others ++ x ∷ []) (x ∷ others) (IsPermutation-to_front others x))
-    (let P : List X → Type 0 = λ l. IsPermutation l (ys ++ others) in subst P (append_assoc xs (x ∷ []) others) (IsPermutation-append_left others (xs ++ x ∷ []) ys m))
 
 -- so far taken from a heap: due tasks, without their deadlines
 pub record IsTakingDue (now : ℕ) (xs left : List Dated) (out : List Task) : Type 0 where

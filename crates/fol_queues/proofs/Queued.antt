@@ -1,9 +1,9 @@
 -- What the calls of a queue do to its look-up by number.
-use Rattle.std.proofs.Common.{◌≡◌, ℕ, ◌+◌, ◌||◌, ℤ, Bool, true, false, not, List, [], ◌∷◌, ◌++◌, length, get_or, map, inl, inr, refl, ◌∙◌, ap, arith, Option, Some, None, IsNone, IsTrue, length-append}
+use Rattle.std.proofs.Common.{◌≡◌, ℕ, ◌+◌, ◌||◌, ℤ, Bool, false, not, List, [], ◌∷◌, ◌++◌, length, get_or, map, inl, inr, refl, ◌∙◌, ap, arith, Option, Some, None, IsNone, IsTrue, length-append}
 use Rattle.std.proofs.lemmas.List.{length-map}
 use Rattle.std.specs.Prelude.{nat_eq, count_by, All}
-use Rattle.std.specs.Option.{option_map, option_or, is_some, is_none, ForSome}
-use Rattle.std.specs.List.{find, list_any, IsDistinct, AllByRecursion}
+use Rattle.std.specs.Option.{option_map, option_or, is_none, ForSome}
+use Rattle.std.specs.List.{find, IsDistinct, AllByRecursion}
 use Rattle.std.specs.List.Sorted.{IsPermutation, IsNonDecreasingBy}
 use Rattle.std.proofs.lemmas.Bool.{eqb-true, cases_Bool}
 use Rattle.std.proofs.lemmas.List.Elements.{Contains-get_or}
@@ -13,11 +13,11 @@ use Rattle.fol_model.specs.ActionStep.{at_id}
 use Rattle.fol_model.specs.FlatTick.{Rising}
 use Rattle.fol_model.specs.declared.tasks.Task.{Task}
 use Rattle.fol_queues.specs.declared.dated.Dated.{Dated}
-use Rattle.fol_queues.specs.Waiting.{dated_in, task_in, is_due, shifted, IsRaisable, option_filter}
+use Rattle.fol_queues.specs.Waiting.{dated_in, task_in, is_due, IsRaisable, option_filter}
 use Rattle.fol_queues.specs.Distinct.{Distinct}
 use Rattle.fol_queues.specs.Parted.{Parted, DueParted, MovedInto}
 use Rattle.fol_queues.proofs.Numbers.{nat_self, Apart, rising_from_sorted}
-use Rattle.fol_keyed.proofs.Keyed.{differ_push, differ_left, differ_right, differ_joined, Differ_parted, find_push, find_left, find_moved, find_joined, find_own, find_permuted, differ_permuted, any_found, found_any, count_moved, length_parted}
+use Rattle.fol_keyed.proofs.Keyed.{differ_push, differ_left, differ_right, differ_joined, Differ_parted, find_push, find_left, find_moved, find_joined, find_own, find_permuted, differ_permuted, count_moved, length_parted}
 
 abbrev number_of : Dated → ℕ
 number_of d = d.task.number
@@ -54,12 +54,6 @@ module _ (tasks : List Dated) where
       let none = none_is (dated_in tasks d.task.number) fresh in
       fun_ext (λ n. find_permuted nat_eq eqb-true nat_self number_of (tasks ++ d ∷ []) xs (differ_push nat_eq eqb-true nat_self number_of tasks d h none) m n ∙ find_push nat_eq eqb-true nat_self number_of tasks d none n)
 
-  pub has_on : (p : Dated → Bool) → Distinct tasks → list_any p tasks ≡ true → (n : ℕ) × (is_some (option_filter p (dated_in tasks n)) ≡ true)
-  has_on p h t = any_found nat_eq eqb-true nat_self number_of p tasks h t
-
-  pub on_has : (p : Dated → Bool) → (n : ℕ) × (is_some (option_filter p (dated_in tasks n)) ≡ true) → list_any p tasks ≡ true
-  on_has p h = found_any nat_eq eqb-true nat_self number_of p tasks h
-
   -- what a parted queue keeps, and what it gives
   pub left_of : (p : Dated → Bool) (left moved : List Dated) → Parted p tasks left moved → Distinct tasks → dated_in left ≡ λ n. option_filter (λ d. not (p d)) (dated_in tasks n)
   left_of p left moved h d = fun_ext (λ n. find_left nat_eq eqb-true nat_self number_of p tasks left moved h d n)
@@ -82,10 +76,7 @@ module _ (tasks : List Dated) where
       → ((n : ℕ) → IsTrue (is_none (dated_in tasks n) || is_none (dated_in others n))) → IsPermutation (tasks ++ map f others) xs → Distinct xs
   joins_distinct f keeps others xs d o none m = differ_permuted nat_eq eqb-true nat_self number_of (tasks ++ map f others) xs m (differ_joined nat_eq eqb-true nat_self number_of f keeps tasks others d o none)
 
-  pub all_raisable : (offset : ℤ) → Distinct tasks → ((n : ℕ) → ForSome (dated_in tasks n) (IsRaisable offset)) → All (IsRaisable offset) tasks
-  all_raisable offset d h = λ k e l. h (number_of (get_or tasks k e)) (get_or tasks k e) (find_own nat_eq eqb-true nat_self number_of tasks (get_or tasks k e) d (Contains-get_or tasks k e l))
-
-  -- so can those that pass
+  -- the deadlines of those that pass can be moved
   pub passing_raisable : (p : Dated → Bool) (offset : ℤ) → Distinct tasks → ((n : ℕ) → ForSome (option_filter p (dated_in tasks n)) (IsRaisable offset)) → All (λ d. IsTrue (p d) → IsRaisable offset d) tasks
   passing_raisable p offset d h = λ k e l t.
       let own : dated_in tasks (number_of (get_or tasks k e)) ≡ Some (get_or tasks k e) = find_own nat_eq eqb-true nat_self number_of tasks (get_or tasks k e) d (Contains-get_or tasks k e l) in
@@ -117,11 +108,6 @@ module _ (tasks : List Dated) where
   takes_len now left out ts h m =
       let e : length ts ≡ length h.due = length_permutation out ts m ∙ ap (λ (l : List Task). length l) h.tasks ∙ length-map h.due (λ (e : Dated). e.task) in
       omega (arith, length_parted (is_due now) tasks left h.due h.parted)
-
--- the number stays when the deadline moves
-pub shifted_keeps : (offset : Option ℤ) (d : Dated) → (shifted offset d).task.number ≡ d.task.number
-shifted_keeps None d = refl
-shifted_keeps (Some offset) d = refl
 
 -- what passes joined others
 module _ (p : Dated → Bool) (f : Dated → Dated) (keeps : (d : Dated) → (f d).task.number ≡ d.task.number) (xs left others joined : List Dated) (h : MovedInto p f xs left others joined) (d : Distinct xs) (o : Distinct others) (none : (n : ℕ) → IsTrue (is_none (dated_in others n) || is_none (option_filter p (dated_in xs n)))) where

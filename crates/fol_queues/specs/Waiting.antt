@@ -1,15 +1,12 @@
 -- What a queue stands for: waiting tasks by number, each with the count of begun ticks at which it is due.
-use Rattle.std.specs.Prelude.{ℕ, ◌-◌, ℤ, pos, nat_abs, ◌+ℤ◌, ◌≤ℤ◌, ◌^◌, Bool, nat_eq, nat_le, List, length, count_by, Option, Some, None, All, IsTrue}
+use Rattle.std.specs.Prelude.{ℕ, ◌-◌, ℤ, pos, nat_abs, ◌+ℤ◌, ◌≤ℤ◌, ◌^◌, Bool, nat_eq, nat_le, List, length, count_by, Option}
 use Rattle.std.specs.List.{find}
-use Rattle.std.specs.Option.{option_map, ForSome}
+use Rattle.std.specs.Option.{option_map}
 use Rattle.fol_model.specs.declared.places.ChunkPos.{ChunkPos}
-use Rattle.fol_model.specs.declared.places.SectionPos.{SectionPos}
-use Rattle.fol_model.specs.declared.grids.Grid.{Grid}
 use Rattle.fol_model.specs.declared.tasks.Task.{Task}
-use Rattle.fol_model.specs.Geometry.{same_chunk}
 use Rattle.fol_model.specs.Job.{Job, queued}
 pub use Rattle.fol_keyed.specs.Options.{option_filter}
-pub use Rattle.fol_keyed.specs.Members.{is_in, is_listed}
+pub use Rattle.fol_keyed.specs.Members.{is_listed}
 use Rattle.fol_queues.specs.declared.dated.Dated.{Dated}
 
 -- what contracts see of a queue
@@ -42,13 +39,6 @@ is_due now d = nat_le d.deadline now
 abbrev pub due_count : ℕ → Waiting → ℕ
 due_count now q = count_by (is_due now) q.tasks
 
--- the task's chunk is in the part
-abbrev pub lies_in : Grid → List SectionPos → Dated → Bool
-lies_in grid part d = is_in grid part d.task.chunk
-
-abbrev pub count_within : Grid → List SectionPos → Waiting → ℕ
-count_within grid part q = count_by (lies_in grid part) q.tasks
-
 -- the task's chunk is one of these
 abbrev pub lies_listed : List ChunkPos → Dated → Bool
 lies_listed chunks d = is_listed chunks d.task.chunk
@@ -56,31 +46,14 @@ lies_listed chunks d = is_listed chunks d.task.chunk
 abbrev pub count_listed : List ChunkPos → Waiting → ℕ
 count_listed chunks q = count_by (lies_listed chunks) q.tasks
 
--- the task's chunk passes
-abbrev pub is_covered : (ChunkPos → Bool) → Dated → Bool
-is_covered p d = p d.task.chunk
-
--- the task is on the chunk
-abbrev pub lies_on : ChunkPos → Dated → Bool
-lies_on c d = same_chunk d.task.chunk c
-
 -- the same task with its deadline moved
 abbrev pub raised : ℤ → Dated → Dated
 raised offset d = record d { deadline = nat_abs (pos d.deadline +ℤ offset) }
-
--- the same where there is an offset, and else the task as it is
-abbrev pub shifted : Option ℤ → Dated → Dated
-shifted (Some offset) d = raised offset d
-shifted None d = d
 
 -- the moved deadline is 1 to 2^63
 pub record IsRaisable (offset : ℤ) (d : Dated) : Type 0 where
   pub low : pos 1 ≤ℤ (pos d.deadline +ℤ offset)
   pub high : (pos d.deadline +ℤ offset) ≤ℤ pos (2 ^ 63)
-
--- where there is an offset, the deadlines of the tasks that pass can be moved by it
-abbrev pub CanShift : (Dated → Bool) → Option ℤ → List Dated → Type 0
-CanShift p offset ds = ForSome offset (λ o. All (λ d. IsTrue (p d) → IsRaisable o d) ds)
 
 -- the task as the world has it queued: its rest is its deadline without the ticks begun so far
 abbrev pub job_of : ℕ → Dated → Job

@@ -7,11 +7,10 @@ ghost use Rattle.std.specs.Vec.{vec_capacity};
 ghost use Rattle.fol_model.specs.ActionStep.{at_id};
 ghost use Rattle.fol_model.specs.FlatTick.{Rising};
 ghost use Rattle.fol_keyed.specs.Order.{chunk_cmp};
-ghost use Rattle.fol_keyed.specs.Areas.{covers};
 
 use crate::{Dated, due, heap, walks};
-use fol_keyed::Area;
-use fol_model::{ChunkPos, Grid, SectionPos, Task};
+use fol_keyed::ChunkList;
+use fol_model::{ChunkPos, Task};
 use std::alloc::{AllocError, Global};
 use std::marker::Model;
 
@@ -35,7 +34,7 @@ impl Model for Queues {
 }
 
 impl Queues {
-    ghost use Rattle.fol_queues.specs.Waiting.{Waiting, dated, task_in, len_of, is_due, due_count, lies_in, count_within, lies_listed, count_listed, lies_on, is_covered, raised, shifted, IsRaisable, option_filter};
+    ghost use Rattle.fol_queues.specs.Waiting.{Waiting, dated, task_in, len_of, is_due, due_count, lies_listed, count_listed, raised, IsRaisable, option_filter};
     ghost use Rattle.fol_queues.specs.Distinct.{Distinct};
 
     /// No task. Takes no memory.
@@ -55,27 +54,6 @@ impl Queues {
         ensures spare { self.old.spare ≤ self.new.spare }
     {
         self.tasks.reserve(n as usize)
-    }
-
-    /// How many more tasks it can accept without taking memory.
-    pub fn spare(&self) -> u64
-        ensures { result ≡ self.now.spare }
-    {
-        (self.tasks.capacity() - self.tasks.len()) as u64
-    }
-
-    /// How many tasks wait.
-    pub fn len(&self) -> u64
-        ensures { result ≡ len_of self.now }
-    {
-        self.tasks.len() as u64
-    }
-
-    /// Whether no task waits.
-    pub fn is_empty(&self) -> bool
-        ensures { IsTrue result ↔ (self.now.tasks ≡ []) }
-    {
-        self.tasks.is_empty()
     }
 
     /// Adds a task that is due in the `delay`-th tick begun from now on, where the region has begun `begun` ticks so far.
@@ -114,33 +92,6 @@ impl Queues {
         out.sort_unstable_by_key(|task| task.number);
     }
 
-    /// Takes the tasks of another queue in, each with its deadline moved by the offset. Takes no memory.
-    pub fn merge_from(&mut self, other: Queues, offset: i64)
-        requires apart { (n : ℕ) → IsTrue (is_none (dated self.old n) || is_none (dated other n)) }
-        requires room { len_of other ≤ self.old.spare }
-        requires deadlines { (n : ℕ) → ForSome (dated other n) (IsRaisable offset) }
-        ensures tasks { dated self.new ≡ λ n. option_or (dated self.old n) (option_map (raised offset) (dated other n)) }
-        ensures len { len_of self.new ≡ len_of self.old + len_of other }
-        ensures spare { self.old.spare ≤ self.new.spare + len_of other }
-    {
-        let Queues { mut tasks } = other;
-        walks::raise_all(&mut tasks, offset);
-        walks::join(&mut self.tasks, tasks);
-    }
-
-    /// Moves the tasks whose section is in the part into an empty queue, with their deadlines. Takes no memory.
-    pub fn move_part(&mut self, grid: &Grid, part: &[SectionPos], into: &mut Queues)
-        requires empty { into.old.tasks ≡ [] }
-        requires room { count_within grid.now part.now self.old ≤ into.old.spare }
-        ensures stayed { dated self.new ≡ λ n. option_filter (λ d. not (lies_in grid.now part.now d)) (dated self.old n) }
-        ensures moved { dated into.new ≡ λ n. option_filter (lies_in grid.now part.now) (dated self.old n) }
-        ensures len { len_of self.new + len_of into.new ≡ len_of self.old }
-        ensures count { len_of into.new ≡ count_within grid.now part.now self.old }
-        ensures spare { self.old.spare ≤ self.new.spare }
-    {
-        self.move_area(&Area::part(grid, part), None, into);
-    }
-
     /// Moves the tasks on the chunks into another queue, each with its deadline moved by the offset. The chunks stand by z, and then
     /// by x. Takes no memory.
     pub fn move_listed(&mut self, chunks: &[ChunkPos], into: &mut Queues, offset: i64)
@@ -155,21 +106,9 @@ impl Queues {
         ensures spare { self.old.spare ≤ self.new.spare }
         ensures into_spare { into.old.spare ≤ into.new.spare + count_listed chunks.now self.old }
     {
-        self.move_area(&Area::listed(chunks), Some(offset), into);
-    }
-
-    /// Whether a task waits on the chunk.
-    pub fn has(&self, c: ChunkPos) -> bool
-        ensures { IsTrue result ↔ ((n : ℕ) × IsTrue (is_some (option_filter (lies_on c) (dated self.now n)))) }
-    {
-        walks::any_on(&self.tasks, c)
-    }
-
-    /// How many tasks lie in the part.
-    pub fn count_in(&self, grid: &Grid, part: &[SectionPos]) -> u64
-        ensures { result ≡ count_within grid.now part.now self.now }
-    {
-        walks::count_in(&self.tasks, &Area::part(grid, part))
+        let list = ChunkList::of(chunks);
+        walks::move_listed(&mut self.tasks, &list, &mut into.tasks, offset);
+        heap::build(&mut self.tasks);
     }
 
     /// How many tasks are on the chunks, which stand by z, and then by x.
@@ -177,7 +116,7 @@ impl Queues {
         requires { IsStrictlySortedBy chunk_cmp chunks.now }
         ensures { result ≡ count_listed chunks.now self.now }
     {
-        walks::count_in(&self.tasks, &Area::listed(chunks))
+        walks::count_listed(&self.tasks, &ChunkList::of(chunks))
     }
 
     /// All tasks with their deadlines, in no stated order.
@@ -186,21 +125,5 @@ impl Queues {
         ensures distinct { Distinct result.items }
     {
         self.tasks
-    }
-
-    /// Moves the tasks in the area into another queue, each with its deadline moved where there is an offset.
-    fn move_area(&mut self, area: &Area, offset: Option<i64>, into: &mut Queues)
-        requires apart { (n : ℕ) → IsTrue (is_none (dated into.old n) || is_none (option_filter (is_covered (covers area.now)) (dated self.old n))) }
-        requires room { count_by (is_covered (covers area.now)) self.old.tasks ≤ into.old.spare }
-        requires deadlines { ForSome offset (λ o. (n : ℕ) → ForSome (option_filter (is_covered (covers area.now)) (dated self.old n)) (IsRaisable o)) }
-        ensures stayed { dated self.new ≡ λ n. option_filter (λ d. not (is_covered (covers area.now) d)) (dated self.old n) }
-        ensures moved { dated into.new ≡ λ n. option_or (dated into.old n) (option_map (shifted offset) (option_filter (is_covered (covers area.now)) (dated self.old n))) }
-        ensures len { len_of self.new + count_by (is_covered (covers area.now)) self.old.tasks ≡ len_of self.old }
-        ensures into_len { len_of into.new ≡ len_of into.old + count_by (is_covered (covers area.now)) self.old.tasks }
-        ensures spare { self.old.spare ≤ self.new.spare }
-        ensures into_spare { into.old.spare ≤ into.new.spare + count_by (is_covered (covers area.now)) self.old.tasks }
-    {
-        walks::move_area(&mut self.tasks, area, offset, &mut into.tasks);
-        heap::build(&mut self.tasks);
     }
 }

@@ -3,7 +3,7 @@
 ghost use Rattle.std.specs.Prelude.{◌≡◌};
 
 use crate::Queues;
-use fol_model::{Action, BlockPos, ChunkPos, Grid, SectionPos, Task};
+use fol_model::{Action, BlockPos, ChunkPos, Task};
 use std::alloc::{AllocError, Global};
 use std::test::Fail;
 
@@ -23,11 +23,9 @@ fn task(number: u64, x: i32) -> Task
 /// Tasks with these delays, numbered from 1, where no tick has begun.
 fn queue_of(alloc: Global, delays: &[u8]) -> Result<Queues, AllocError> {
     let mut queues = Queues::new(alloc);
-    queues.reserve(delays.len() as u64)?;
     for i in 0..delays.len() {
-        if queues.spare() > 0 {
-            queues.accept(task(i as u64 + 1, 0), u32::from(delays[i]), 0);
-        }
+        queues.reserve(1)?;
+        queues.accept(task(i as u64 + 1, 0), u32::from(delays[i]), 0);
     }
     Ok(queues)
 }
@@ -61,7 +59,7 @@ fn takes_what_is_due(rt: HostRuntime) -> Result<(), Fail> {
         taken(rt.alloc(), &mut queues, 9)?.as_slice(),
         [1, 3, 6].as_slice()
     );
-    assert!(rt; queues.is_empty());
+    assert_eq!(rt; queues.into_tasks().len(), 0);
     Ok(())
 }
 
@@ -78,58 +76,18 @@ fn gives_all_tasks(rt: HostRuntime) -> Result<(), Fail> {
     Ok(())
 }
 
-/// A merge moves the deadline by the offset: due at 3 becomes due at 9.
-#[test]
-fn merge_moves_deadlines(rt: HostRuntime) -> Result<(), Fail> {
-    let mut queues = Queues::new(rt.alloc());
-    queues.reserve(1)?;
-    assert!(rt; queues.spare() >= 1);
-    queues.accept(task(1, 0), 3, 0);
-    let mut other = Queues::new(rt.alloc());
-    other.reserve(1)?;
-    assert!(rt; queues.len() <= other.spare());
-    other.merge_from(queues, 6);
-    assert_eq!(rt; taken(rt.alloc(), &mut other, 8)?.len(), 0);
-    assert_eq!(rt;
-        taken(rt.alloc(), &mut other, 9)?.as_slice(),
-        [1].as_slice()
-    );
-    assert_eq!(rt; other.len(), 0);
-    Ok(())
-}
-
 /// A task goes with its chunk, and its deadline moves by the offset: due at 3 becomes due at 9.
 #[test]
 fn moves_a_list(rt: HostRuntime) -> Result<(), Fail> {
     let chunks = [ChunkPos { x: 4, z: 0 }];
     let mut queues = Queues::new(rt.alloc());
     queues.reserve(1)?;
-    assert!(rt; queues.spare() >= 1);
     queues.accept(task(1, 4), 3, 0);
     let mut into = Queues::new(rt.alloc());
-    into.reserve(1)?;
-    assert!(rt; queues.count_listed(&chunks) <= into.spare());
+    into.reserve(queues.count_listed(&chunks))?;
     queues.move_listed(&chunks, &mut into, 6);
-    assert!(rt; queues.is_empty());
+    assert_eq!(rt; queues.into_tasks().len(), 0);
     assert_eq!(rt; taken(rt.alloc(), &mut into, 8)?.len(), 0);
     assert_eq!(rt; taken(rt.alloc(), &mut into, 9)?.as_slice(), [1].as_slice());
-    Ok(())
-}
-
-/// A task goes with its section.
-#[test]
-fn moves_a_part(rt: HostRuntime) -> Result<(), Fail> {
-    let grid = Grid::of(0, 1, 1, 2, 1, 6).ok_or("the grid is within the limits")?;
-    let part = [SectionPos { x: 4, z: 0 }];
-    let mut queues = Queues::new(rt.alloc());
-    queues.reserve(1)?;
-    assert!(rt; queues.spare() >= 1);
-    queues.accept(task(1, 4), 3, 0);
-    let mut into = Queues::new(rt.alloc());
-    into.reserve(1)?;
-    assert!(rt; queues.count_in(&grid, &part) <= into.spare());
-    queues.move_part(&grid, &part, &mut into);
-    assert!(rt; queues.is_empty());
-    assert!(rt; into.has(ChunkPos { x: 4, z: 0 }));
     Ok(())
 }

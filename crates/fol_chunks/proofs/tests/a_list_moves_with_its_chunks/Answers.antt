@@ -23,5 +23,5 @@ move_listed-requires-clause-order g c = ((refl, tt), (tt, tt))
 pub move_listed-requires-clause-apart : goal.move_listed-requires-clause-apart
 unfolding chunks
 move_listed-requires-clause-apart g c =
-    apart_kinds (flat_of c.in_ok-into.into) (within (is_listed chunks) (flat_of c.in_ok-chunks.chunks)) c.in_ok-into.ensures.blocks
+    apart_kinds (flat_of c.reserve.new.self) (within (is_listed chunks) (flat_of c.in_ok-chunks.chunks)) (rw c.in_ok-reserve.ensures.same c.in_ok-into.ensures)
     (ap (λ (f : ℕ → Option Standing). λ (id : ℕ). option_filter (λ (s : Standing). is_listed chunks (chunk_of s.at)) (f id)) c.in_ok-chunks.ensures)

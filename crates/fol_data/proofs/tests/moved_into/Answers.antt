@@ -5,9 +5,9 @@ use Rattle.fol_chunks.specs.Contents.{flat_of, within, is_listed}
 use Rattle.fol_data.proofs.OneTask.{one_in_time, apart_from_nothing}
 use Rattle.fol_data.proofs.tests.moved_into.Goals as goal
 
-pub size_listed-size-requires : goal.size_listed-size-requires
+pub size_listed-requires : goal.size_listed-requires
 unfolding IsStrictlySortedBy
-size_listed-size-requires c = (tt, tt)
+size_listed-requires c = (tt, tt)
 
 pub move_listed-requires-clause-order : goal.move_listed-requires-clause-order
 unfolding IsStrictlySortedBy
@@ -20,4 +20,4 @@ move_listed-requires-clause-in_time c =
     one_in_time c.in_ok-other.other.tick _ _ (dated c.accept.new.self) accepted (record { low = omega arith; high = omega arith })
 
 pub move_listed-requires-clause-contents_apart : goal.move_listed-requires-clause-contents_apart
-move_listed-requires-clause-contents_apart c = apart_from_nothing (flat_of c.args.region.chunks) (within (is_listed (record { x = pos 0; z = pos 0 } ∷ [])) (flat_of c.set.new.self)) c.requires.contents
+move_listed-requires-clause-contents_apart c = apart_from_nothing (flat_of c.reserve.new.self.chunks) (within (is_listed (record { x = pos 0; z = pos 0 } ∷ [])) (flat_of c.set.new.self)) (rw c.in_ok-reserve.ensures.contents c.requires.contents)

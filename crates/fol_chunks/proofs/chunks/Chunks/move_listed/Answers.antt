@@ -1,13 +1,8 @@
+use Rattle.fol_chunks.proofs.Flats.{flat_is}
 use Rattle.fol_chunks.proofs.chunks.Chunks.move_listed.Goals as goal
 
-pub move_area-requires-clause-room : goal.move_area-requires-clause-room
-move_area-requires-clause-room c = rw c.listed.ensures c.requires.room
+pub returns-clause-stayed : goal.returns-clause-stayed
+returns-clause-stayed c = rw (← c.self.view_is) (flat_is _ _ (rw c.of-list.ensures at c.move_listed.ensures.left) (rw c.of-list.ensures at c.move_listed-2.ensures.left))
 
-pub returns-clause-size : goal.returns-clause-size
-returns-clause-size c = rw c.listed.ensures at c.move_area.ensures.size
-
-pub returns-clause-into_size : goal.returns-clause-into_size
-returns-clause-into_size c = rw c.listed.ensures at c.move_area.ensures.into_size
-
-pub returns-clause-into_spare : goal.returns-clause-into_spare
-returns-clause-into_spare c = rw c.listed.ensures at c.move_area.ensures.into_spare
+pub returns-clause-moved : goal.returns-clause-moved
+returns-clause-moved c = rw (← c.self.view_is, ← c.into.view_is) (flat_is _ _ (rw c.of-list.ensures at c.move_listed.ensures.moved) (rw c.of-list.ensures at c.move_listed-2.ensures.moved))

@@ -5,5 +5,5 @@ use Rattle.fol_queues.proofs.queues.Queues.count_listed.Goals as goal
 
 pub returns : goal.returns
 returns c =
-    let counted : c.count_in.result ≡ count_by (lies_listed c.args.chunks.now) c.self.inside.tasks.items = rw (c.listed.ensures, c.deref.ensures.value) at c.count_in.ensures in
+    let counted : c.count_listed.result ≡ count_by (lies_listed c.args.chunks.now) c.self.inside.tasks.items = rw (c.of.ensures, c.deref.ensures.value) at c.count_listed.ensures in
     rw (← c.self.view_is) counted

@@ -1,32 +1,73 @@
-use Rattle.std.proofs.Common.{◌≡◌, ℕ, ℤ, Some, subst, w64}
-use Rattle.std.specs.Option.{ForSome}
+use Rattle.std.proofs.Common.{◌≡◌, ◌++◌, take, drop, length, refl, arith, w64}
 use Rattle.std.proofs.lemmas.Int.{to_z-of_z}
-use Rattle.fol_queues.specs.Waiting.{dated, lies_listed, option_filter, IsRaisable}
+use Rattle.fol_keyed.specs.Parted.{Parted}
+use Rattle.fol_keyed.proofs.Written.{written}
+use Rattle.fol_queues.specs.Waiting.{lies_listed, raised}
+use Rattle.fol_queues.specs.Parted.{MovedInto}
+use Rattle.fol_queues.proofs.Parting.{parted_again}
+use Rattle.fol_queues.proofs.Queued.{left_of, left_distinct, passing_raisable, moves_into, moves_distinct, moves_len}
 use Rattle.fol_queues.proofs.queues.Queues.move_listed.Goals as goal
 
-pub move_area-requires-clause-deadlines : goal.move_area-requires-clause-deadlines
-move_area-requires-clause-deadlines c = λ offset is.
-    let exact : Some c.args.offset ≡ Some offset = rw (to_z-of_z w64 c.args.offset c.ranges.offset) at is in
-    let same : c.args.offset ≡ offset = cc in
-    rw c.listed.ensures (let P : ℤ → Type 0 = λ o. (n : ℕ) → ForSome (option_filter (lies_listed c.args.chunks.now) (dated c.args.self.now n)) (IsRaisable o) in subst P same c.requires.deadlines)
+pub move_listed-requires-clause-room : goal.move_listed-requires-clause-room
+move_listed-requires-clause-room c =
+    let room = rw (← c.self.view_is, ← c.into.view_is) at c.requires.room in
+    rw c.of-list.ensures (omega (arith, room, c.into.inside.tasks.ok.1))
 
-pub move_area-requires-clause-apart : goal.move_area-requires-clause-apart
-move_area-requires-clause-apart c = rw c.listed.ensures c.requires.apart
+pub move_listed-requires-clause-deadlines : goal.move_listed-requires-clause-deadlines
+move_listed-requires-clause-deadlines c =
+    rw (c.of-list.ensures, to_z-of_z w64 c.args.offset c.ranges.offset)
+    (passing_raisable c.self.inside.tasks.items (lies_listed c.args.chunks.now) c.args.offset c.self.invariant.distinct (rw (← c.self.view_is) at c.requires.deadlines))
 
-pub move_area-requires-clause-room : goal.move_area-requires-clause-room
-move_area-requires-clause-room c = rw c.listed.ensures c.requires.room
+-- the tasks on the chunks went into the other heap
+moved : (c : goal.After-self-1) → MovedInto (lies_listed c.args.chunks.now) (raised c.args.offset) c.self.inside.tasks.items c.move_listed.new.tasks.items c.into.inside.tasks.items c.move_listed.new.into.items
+moved c = rw (c.of-list.ensures, to_z-of_z w64 c.args.offset c.ranges.offset) at c.move_listed.ensures.moved
+
+-- the tasks that stay, once they are a heap again
+kept : (c : goal.After-self-1) → take c.move_listed.new.tasks.len (c.build.new.tasks ++ drop (length c.build.new.tasks) c.move_listed.new.tasks.items) ≡ c.build.new.tasks
+kept c = written c.move_listed.new.tasks.len c.build.new.tasks c.move_listed.new.tasks.items (omega arith) (omega arith)
+
+parted : (c : goal.After-self-1) → Parted (lies_listed c.args.chunks.now) c.self.inside.tasks.items c.build.new.tasks (moved c).moved
+parted c = parted_again _ _ _ _ _ (moved c).parted (rw c.deref_mut.ensures.value at c.build.ensures.same)
+
+pub invariant_of-self : goal.invariant_of-self
+invariant_of-self c = record {
+  distinct = rw (kept c) (left_distinct _ (lies_listed c.args.chunks.now) _ _ (parted c) c.self.invariant.distinct);
+  order = rw (kept c) c.build.ensures.order;
+}
+
+pub invariant_of-into : goal.invariant_of-into
+invariant_of-into c = record {
+  distinct =
+      moves_distinct (lies_listed c.args.chunks.now) (raised c.args.offset) (λ d. refl) _ _ _ _ (moved c) c.self.invariant.distinct c.into.invariant.distinct
+      (rw (← c.self.view_is, ← c.into.view_is) at c.requires.apart);
+  order = c.move_listed.ensures.order;
+}
 
 pub returns-clause-stayed : goal.returns-clause-stayed
-returns-clause-stayed c = rw c.listed.ensures at c.move_area.ensures.stayed
+returns-clause-stayed c = rw (← c.self.view_is, kept c) (left_of _ (lies_listed c.args.chunks.now) _ _ (parted c) c.self.invariant.distinct)
 
 pub returns-clause-moved : goal.returns-clause-moved
-returns-clause-moved c = rw (to_z-of_z w64 c.args.offset c.ranges.offset, c.listed.ensures) at c.move_area.ensures.moved
+returns-clause-moved c =
+    rw (← c.self.view_is, ← c.into.view_is)
+    (moves_into (lies_listed c.args.chunks.now) (raised c.args.offset) (λ d. refl) _ _ _ _ (moved c) c.self.invariant.distinct c.into.invariant.distinct
+    (rw (← c.self.view_is, ← c.into.view_is) at c.requires.apart))
 
 pub returns-clause-len : goal.returns-clause-len
-returns-clause-len c = rw c.listed.ensures at c.move_area.ensures.len
+returns-clause-len c =
+    let len = moves_len (lies_listed c.args.chunks.now) (raised c.args.offset) _ _ _ _ (moved c) in
+    rw (← c.self.view_is, kept c) (omega (arith, len))
 
 pub returns-clause-into_len : goal.returns-clause-into_len
-returns-clause-into_len c = rw c.listed.ensures at c.move_area.ensures.into_len
+returns-clause-into_len c =
+    let len = moves_len (lies_listed c.args.chunks.now) (raised c.args.offset) _ _ _ _ (moved c) in
+    rw (← c.self.view_is, ← c.into.view_is) (omega (arith, len))
+
+pub returns-clause-spare : goal.returns-clause-spare
+returns-clause-spare c =
+    let len = moves_len (lies_listed c.args.chunks.now) (raised c.args.offset) _ _ _ _ (moved c) in
+    rw (← c.self.view_is) (omega (arith, len, c.move_listed.ensures.capacity))
 
 pub returns-clause-into_spare : goal.returns-clause-into_spare
-returns-clause-into_spare c = rw c.listed.ensures at c.move_area.ensures.into_spare
+returns-clause-into_spare c =
+    let len = moves_len (lies_listed c.args.chunks.now) (raised c.args.offset) _ _ _ _ (moved c) in
+    rw (← c.self.view_is, ← c.into.view_is) (omega (arith, len, c.move_listed.ensures.into_capacity))
