@@ -1,8 +1,8 @@
-use Rattle.std.proofs.Common.{ℕ, ap, refl, Option, [], ◌∷◌, pos, List}
+use Rattle.std.proofs.Common.{ℕ, ap, refl, ◌∙◌, Option, [], ◌∷◌, pos, List}
 use Rattle.std.specs.List.Sorted.{IsStrictlySortedBy}
 use Rattle.fol_model.specs.declared.places.ChunkPos.{ChunkPos}
 use Rattle.fol_model.specs.Geometry.{chunk_of}
-use Rattle.fol_model.specs.ActionStep.{Standing}
+use Rattle.fol_model.specs.ActionStep.{Flat, Standing}
 use Rattle.fol_chunks.specs.Contents.{flat_of, within, is_listed, option_filter}
 use Rattle.fol_chunks.proofs.Flats.{apart_kinds}
 use Rattle.fol_model.specs.Universe.{chunk_cmp}
@@ -23,5 +23,5 @@ move_listed-requires-clause-order g c = ((refl, tt), (tt, tt))
 pub move_listed-requires-clause-apart : goal.move_listed-requires-clause-apart
 unfolding chunks
 move_listed-requires-clause-apart g c =
-    apart_kinds (flat_of c.reserve.new.self) (within (is_listed chunks) (flat_of c.in_ok-chunks.chunks)) (rw c.in_ok-reserve.ensures.same c.in_ok-into.ensures)
+    apart_kinds (flat_of c.reserve.new.self) (within (is_listed chunks) (flat_of c.in_ok-chunks.chunks)) (ap (λ (f : Flat). f.blocks) c.in_ok-reserve.ensures.same ∙ c.in_ok-into.ensures)
     (ap (λ (f : ℕ → Option Standing). λ (id : ℕ). option_filter (λ (s : Standing). is_listed chunks (chunk_of s.at)) (f id)) c.in_ok-chunks.ensures)
