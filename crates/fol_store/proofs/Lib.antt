@@ -29,3 +29,5 @@ pub mod OneMore
 pub mod Coming
 pub mod Outward
 pub mod Leaving
+pub mod Joining
+pub mod Worlds

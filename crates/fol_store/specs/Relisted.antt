@@ -1,11 +1,11 @@
 -- What becomes of the bag of a region that has a chunk more or a chunk less.
-use Rattle.std.specs.Prelude.{◌≡◌, Bool, true, not, ◌&&◌, ◌||◌}
+use Rattle.std.specs.Prelude.{ℕ, ◌≡◌, ◌≢◌, Bool, true, not, ◌&&◌, ◌||◌, max, List}
 use Rattle.std.specs.List.Sorted.{IsStrictlySortedBy}
 use Rattle.fol_model.specs.declared.places.ChunkPos.{ChunkPos}
 use Rattle.fol_model.specs.Geometry.{same_chunk}
 use Rattle.fol_chunks.specs.Contents.{is_recorded}
 use Rattle.fol_chunks.specs.Order.{chunk_cmp}
-use Rattle.fol_store.specs.Bag.{Bag}
+use Rattle.fol_store.specs.Bag.{Bag, no_bag}
 
 -- the bag is listed for the chunks that pass, in their order, or has to be gathered anew
 pub record Relisted (p : ChunkPos → Bool) (old new : Bag) : Type 0 where
@@ -26,3 +26,24 @@ Narrowed c old new = Relisted (λ q. is_recorded old.chunks q && not (same_chunk
 -- where the bag is listed, its chunks stand in their order
 abbrev pub IsInOrder : Bag → Type 0
 IsInOrder b = b.listed ≡ true → IsStrictlySortedBy chunk_cmp b.chunks
+
+-- of a region that another one joins: it owes the greater number; where both bags were listed, it may be listed for the chunks of both
+pub record United («from» into new : Bag) : Type 0 where
+  pub relisted : Relisted (λ q. is_recorded into.chunks q || is_recorded «from».chunks q) (record into { owed = max into.owed «from».owed }) new
+  pub both : new.listed ≡ true → «from».listed ≡ true
+
+-- the bag is where it was and has the same numbers
+abbrev pub Stays : Bag → Bag → Type 0
+Stays old new = new ≡ record old { listed = new.listed; calm = new.calm; chunks = new.chunks }
+
+-- the chunks of two lists, in their order
+pub record IsUnion (xs ys zs : List ChunkPos) : Type 0 where
+  pub order : IsStrictlySortedBy chunk_cmp zs
+  pub has : (q : ChunkPos) → is_recorded zs q ≡ (is_recorded xs q || is_recorded ys q)
+
+-- the bag of a region that joins another one is closed; where both were listed, the other may be listed for the chunks of both
+pub record Joined («from» into : ℕ) (old new : ℕ → Bag) : Type 0 where
+  pub gone : new «from» ≡ no_bag
+  pub own : Relisted (λ q. is_recorded (old into).chunks q || is_recorded (old «from»).chunks q) (old into) (new into)
+  pub both : (new into).listed ≡ true → (old «from»).listed ≡ true
+  pub others : (u : ℕ) → u ≢ «from» → u ≢ into → new u ≡ old u

@@ -4,13 +4,21 @@ use Rattle.fol_model.specs.declared.places.ChunkPos.{ChunkPos}
 use Rattle.fol_model.specs.Geometry.{same_chunk}
 use Rattle.fol_chunks.specs.Contents.{is_recorded}
 use Rattle.fol_store.specs.Things.{Key, Thing, chunk_at}
-use Rattle.fol_store.specs.Stock.{Stock, Where, in_bag, slot, place, column, found, bag_of}
+use Rattle.fol_store.specs.Stock.{Stock, Where, in_bag, slot, place, column, found, flat_of, jobs_of, bag_of, next_of}
 use Rattle.fol_store.specs.Gathered.{OthersSpared, AreFree, IsClear}
 
 -- nothing comes and nothing goes
 pub record SameMeaning (old new : Stock) : Type 0 where
   pub found : (k : Key) → found new k ≡ found old k
   pub bags : length new.bags ≡ length old.bags
+  pub spare : old.spare ≤ new.spare
+  pub slots : old.slots ≤ new.slots
+
+-- contents and tasks stay, and no room is lost
+pub record SameWorld (old new : Stock) : Type 0 where
+  pub contents : flat_of new ≡ flat_of old
+  pub tasks : jobs_of new ≡ jobs_of old
+  pub next : next_of new ≡ next_of old
   pub spare : old.spare ≤ new.spare
   pub slots : old.slots ≤ new.slots
 

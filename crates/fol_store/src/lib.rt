@@ -6,9 +6,9 @@
 //! moves nothing, and running out of memory in the middle of a gathering does no harm.
 //!
 //! The crate promises that `accept` queues exactly the task, that `gather` makes a bag hold exactly what lies on its chunks and loses
-//! nothing elsewhere, that `gain` and `lose` give a bag just the chunks that it has then, or have it gathered anew, that `take` and `put`
+//! nothing elsewhere, that `gain`, `lose` and `unite` give a bag just the chunks that it has then, or have it gathered anew, that `take` and `put`
 //! hand out and take back exactly what lies in a bag, and that `into_rows` lists all that the store holds. Only `new`, `reserve`, `gather`,
-//! `settle`, `gain`, `lose` and `into_rows` take memory. It serves the core.
+//! `settle`, `gain`, `lose`, `unite` and `into_rows` take memory. It serves the core.
 #![tactic(auto)]
 
 mod members;

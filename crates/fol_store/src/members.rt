@@ -1,10 +1,13 @@
 //! A chunk comes to a list of chunks, which stand by z and then by x, or leaves it.
 
-ghost use Rattle.std.specs.Prelude.{◌≡◌, ◌≤◌, ◌<◌, length, slice_index_or, MatchResult, OnOk, OnErr};
+ghost use Rattle.std.specs.Prelude.{◌≡◌, ◌≤◌, ◌<◌, true, false, length, slice_index_or, MatchResult, IfOk, OnOk, OnErr};
 ghost use Rattle.std.specs.List.{insert, remove as without};
 ghost use Rattle.std.specs.List.Sorted.{IsStrictlySortedBy, IsPartitionPoint};
 ghost use Rattle.std.specs.declared.cmp.Ordering.TheVariants.{Less, Greater};
+ghost use Rattle.fol_model.specs.declared.places.ChunkPos.{ChunkPos};
+ghost use Rattle.fol_chunks.specs.Contents.{is_recorded};
 ghost use Rattle.fol_chunks.specs.Order.{chunk_cmp};
+ghost use Rattle.fol_store.specs.Relisted.{IsUnion};
 
 use fol_keyed::compare_chunks;
 use fol_model::{ChunkPos, Sequence};
@@ -56,4 +59,23 @@ pub fn remove(alloc: Global, chunks: &mut Sequence<ChunkPos>, i: usize)
     let mut list = mem::replace(chunks, Sequence::new(alloc)).into_vec();
     list.remove(i);
     *chunks = Sequence::of(list);
+}
+
+/// The chunks of two lists that share none, in order.
+pub fn union(
+    alloc: Global,
+    chunks: &[ChunkPos],
+    others: &[ChunkPos],
+) -> Result<Vec<ChunkPos>, AllocError>
+    requires order { IsStrictlySortedBy chunk_cmp chunks.now }
+    requires others_order { IsStrictlySortedBy chunk_cmp others.now }
+    requires apart { (q : ChunkPos) → is_recorded others.now q ≡ true → is_recorded chunks.now q ≡ false }
+    ensures { IfOk result (λ list. IsUnion chunks.now others.now list.items) }
+{
+    let mut list = Vec::with_capacity(alloc, chunks.len() + others.len())?;
+    list.extend_from_slice(chunks)?;
+    list.extend_from_slice(others)?;
+    // Both lists are in order: the sort only merges two runs.
+    list.sort_by(|a, b| compare_chunks(*a, *b))?;
+    Ok(list)
 }

@@ -330,6 +330,58 @@ pub fn shift_bags(
     result
 }
 
+/// Closes a bag, and moves what lies on its chunks into another one, which gets these lists and is whole; it gives the chunks that moved.
+/// If memory runs out, nothing has moved, and the other bag has to be gathered anew.
+pub fn merge(
+    alloc: Global,
+    bags: &mut Vec<Slot>,
+    from: usize,
+    into: usize,
+    chunks: Vec<ChunkPos>,
+    handed: Vec<ChunkPos>,
+) -> Result<Vec<ChunkPos>, AllocError>
+    requires order { IsStrictlySortedBy chunk_cmp (slot_in bags.old.items from).handed }
+    requires from_there { from < vec_len bags.old }
+    requires into_there { into < vec_len bags.old }
+    requires differ { from ≢ into }
+    requires timely { IsTimely (slot_in bags.old.items from).body }
+    requires into_timely { IsTimely (slot_in bags.old.items into).body }
+    requires apart { AreApart (slot_in bags.old.items from).body (slot_in bags.old.items into).body }
+    ensures moved { IfOk result (λ list. list.items ≡ (slot_in bags.old.items from).handed) }
+    ensures timely { IsTimely (slot_in bags.new.items from).body }
+    ensures into_timely { IsTimely (slot_in bags.new.items into).body }
+    ensures loses { OnOk result (Loses (slot_in bags.old.items from).handed (slot_in bags.old.items from).body (slot_in bags.new.items from).body) }
+    ensures gains { OnOk result (Gains (slot_in bags.old.items from).handed (slot_in bags.old.items from).body (slot_in bags.old.items into).body (slot_in bags.new.items into).body) }
+    ensures err { OnErr result (SameThings (slot_in bags.old.items from).body (slot_in bags.new.items from).body) }
+    ensures into_err { OnErr result (SameThings (slot_in bags.old.items into).body (slot_in bags.new.items into).body) }
+    ensures slots { OnOk result ((u : ℕ) → slot_in bags.new.items u ≡ (if nat_eq from u then record no_slot { body = (slot_in bags.new.items from).body } else (if nat_eq into u then record (slot_in bags.old.items into) { body = (slot_in bags.new.items into).body; listed = true; calm = true; chunks = chunks.items; handed = handed.items; touched = [] } else slot_in bags.old.items u))) }
+    ensures slots_err { OnErr result ((u : ℕ) → slot_in bags.new.items u ≡ (if nat_eq from u then record no_slot { body = (slot_in bags.new.items from).body } else (if nat_eq into u then record (slot_in bags.old.items into) { body = (slot_in bags.new.items into).body; listed = false; chunks = chunks.items } else slot_in bags.old.items u))) }
+    ensures len { vec_len bags.new ≡ vec_len bags.old }
+    ensures capacity { vec_capacity bags.new ≡ vec_capacity bags.old }
+{
+    let moved = dissolve(alloc, bags, from);
+    relist(bags, into, chunks);
+    match shift_bags(alloc, bags, from, &moved, into) {
+        Ok(()) => {}
+        Err(_) => return Err(AllocError),
+    }
+    finish(alloc, bags, into, handed);
+    Ok(moved)
+}
+
+/// Closes a bag, and takes its chunks as they are to be handed out; what lies in it stays in it.
+fn dissolve(alloc: Global, bags: &mut Vec<Slot>, id: usize) -> Vec<ChunkPos>
+    requires { id < vec_len bags.old }
+    ensures handed { result.items ≡ (slot_in bags.old.items id).handed }
+    ensures slots { (u : ℕ) → slot_in bags.new.items u ≡ (if nat_eq id u then record no_slot { body = (slot_in bags.old.items id).body } else slot_in bags.old.items u) }
+    ensures len { vec_len bags.new ≡ vec_len bags.old }
+    ensures capacity { vec_capacity bags.new ≡ vec_capacity bags.old }
+{
+    let Reopened { chunks, touched: _ } = reopen(alloc, bags, id);
+    close(alloc, bags, id);
+    chunks
+}
+
 /// Takes out what lies in a bag, which has to be gathered anew.
 fn take_body(alloc: Global, bags: &mut Vec<Slot>, id: usize) -> RegionData
     requires { id < vec_len bags.old }

@@ -23,6 +23,7 @@ mod draw;
 mod gather;
 mod lay;
 mod settle;
+mod unite;
 
 use crate::places::Places;
 use crate::slot::Slot;

@@ -139,3 +139,23 @@ fn follows_the_chunks_of_a_region(rt: HostRuntime) -> Result<(), Fail> {
     assert_eq!(rt; rests(rt.alloc(), &rows)?.as_slice(), [(2, 5)].as_slice());
     Ok(())
 }
+
+/// What lies on the chunks of two regions goes out with one bag once they are united.
+#[test]
+fn unites_two_regions(rt: HostRuntime) -> Result<(), Fail> {
+    let mut store = Store::new(rt.alloc(), &opening(rt.alloc())?)?;
+    store.reserve(2, 2)?;
+    store.open(1, 40, 2);
+    store.gain(1, CHUNKS[1]);
+    store.open(2, 41, 3);
+    store.gain(2, CHUNKS[0]);
+    store.accept(task(2, CHUNKS[0]), 5);
+    store.accept(task(3, CHUNKS[1]), 7);
+    store.unite(2, 1);
+    assert!(rt; store.is_whole(1));
+    let taken = store.take(1);
+    assert_eq!(rt; taken.chunks.as_slice(), CHUNKS.as_slice());
+    let rows = store.into_rows(rt.alloc())?;
+    assert!(rt; rows.blocks.is_empty() && rows.entities.is_empty() && rows.tasks.is_empty());
+    Ok(())
+}

@@ -29,19 +29,21 @@ moved c =
     let here : (slot (the_view c.self.inside) c.args.id).here ≡ true = target_here c.args.id c.args.chunks.now (the_view c.self.inside) target in
     drawn_bag (the_view c.self.inside) c.shift_bags.new.bags.items c.rehome.new.self _ _ c.args.from c.args.id c.args.chunks.now (slot_in c.shift_bags.new.bags.items c.args.from).body (slot_in c.shift_bags.new.bags.items c.args.id).body
     (record {
-      each = c.shift_bags.ensures.slots;
-      loses = c.in-Ok.ensures.loses;
-      gains = c.in-Ok.ensures.gains;
-      homes = c.rehome.ensures;
-      apart = c.requires.apart;
-      long = omega arith;
-      there = here_range c.self.inside.bags.items c.args.id here;
+      pours = record {
+        each = c.shift_bags.ensures.slots;
+        loses = c.in-Ok.ensures.loses;
+        gains = c.in-Ok.ensures.gains;
+        homes = c.rehome.ensures;
+        apart = c.requires.apart;
+        long = omega arith;
+        there = here_range c.self.inside.bags.items c.args.id here;
+        timely = c.shift_bags.ensures.timely;
+        to_timely = c.shift_bags.ensures.to_timely;
+      };
       here = here;
       not_listed = target_not_listed c.args.id c.args.chunks.now (the_view c.self.inside) target;
       listed = target_listed c.args.id c.args.chunks.now (the_view c.self.inside) target;
       not_taken = source_not_taken c.args.id c.args.from c.args.chunks.now (the_view c.self.inside) target c.self.invariant c.args.c c.requires.listed named;
-      timely = c.shift_bags.ensures.timely;
-      to_timely = c.shift_bags.ensures.to_timely;
       more_spare = omega arith;
       more_slots = omega (arith, c.shift_bags.ensures.len, c.shift_bags.ensures.capacity);
     })
@@ -54,19 +56,21 @@ stayed c =
     let here : (slot (the_view c.self.inside) c.args.id).here ≡ true = target_here c.args.id c.args.chunks.now (the_view c.self.inside) target in
     drawn_bag (the_view c.self.inside) c.shift_bags.new.bags.items c.self.inside.places _ _ c.args.from c.args.id [] (slot_in c.shift_bags.new.bags.items c.args.from).body (slot_in c.shift_bags.new.bags.items c.args.id).body
     (record {
-      each = c.shift_bags.ensures.slots;
-      loses = loses_none _ _ c.in-Err.ensures.err;
-      gains = gains_none _ _ _ c.in-Err.ensures.to_err;
-      homes = λ q. refl;
-      apart = c.requires.apart;
-      long = omega arith;
-      there = here_range c.self.inside.bags.items c.args.id here;
+      pours = record {
+        each = c.shift_bags.ensures.slots;
+        loses = loses_none _ _ c.in-Err.ensures.err;
+        gains = gains_none _ _ _ c.in-Err.ensures.to_err;
+        homes = λ q. refl;
+        apart = c.requires.apart;
+        long = omega arith;
+        there = here_range c.self.inside.bags.items c.args.id here;
+        timely = c.shift_bags.ensures.timely;
+        to_timely = c.shift_bags.ensures.to_timely;
+      };
       here = here;
       not_listed = target_not_listed c.args.id c.args.chunks.now (the_view c.self.inside) target;
       listed = λ q z. (let f : false ≡ true = z in cc);
       not_taken = source_not_taken c.args.id c.args.from c.args.chunks.now (the_view c.self.inside) target c.self.invariant c.args.c c.requires.listed named;
-      timely = c.shift_bags.ensures.timely;
-      to_timely = c.shift_bags.ensures.to_timely;
       more_spare = omega arith;
       more_slots = omega (arith, c.shift_bags.ensures.len, c.shift_bags.ensures.capacity);
     })

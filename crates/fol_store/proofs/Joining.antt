@@ -1,0 +1,221 @@
+-- What lies in a whole bag goes into another whole one, with its chunks.
+use Rattle.std.proofs.Common.{◌≡◌, ◌≢◌, ℕ, ◌<◌, ◌≤◌, Bool, true, false, ◌||◌, ◌&&◌, List, [], length, refl, sym, ◌∙◌, ap, subst, ◌⊎◌, inl, inr, Some}
+use Rattle.std.proofs.lemmas.Bool.{cases_Bool}
+use Rattle.fol_model.specs.declared.places.ChunkPos.{ChunkPos}
+use Rattle.fol_chunks.specs.Contents.{is_recorded}
+use Rattle.fol_data.specs.declared.region_data.RegionData.{RegionData}
+use Rattle.fol_store.specs.declared.slot.Slot.{Slot}
+use Rattle.fol_store.specs.declared.places.Place.{Place}
+use Rattle.fol_store.specs.Bag.{Bag, is_whole}
+use Rattle.fol_store.specs.Places.{PlaceRows}
+use Rattle.fol_store.specs.Relisted.{Relisted, IsUnion, Joined, Stays}
+use Rattle.fol_store.specs.Things.{Key, Thing, chunk_at}
+use Rattle.fol_store.specs.Stock.{Stock, Where, in_bag, slot, place, column, bag_of, shown, no_slot}
+use Rattle.fol_store.specs.Sound.{Near, IsBag, IsSound}
+use Rattle.fol_store.specs.Steps.{SameMeaning}
+use Rattle.fol_store.proofs.Columns.{Moves, moves_back}
+use Rattle.fol_store.proofs.Totals.{where_cases}
+use Rattle.fol_store.proofs.Resound.{kept_self, whole_alone, moved_unique, moved_found, moved_lies, moved_bag}
+use Rattle.fol_store.proofs.BagSteps.{closed_bag}
+use Rattle.fol_store.proofs.Drawing.{with_parts, Pours, at_source, at_target, at_other, apart_bags, moves_over, by_bag, home_keeps, home_moves, home_cases, comes_over, stays_over, spots_within, bags_within, times_over}
+use Rattle.fol_store.proofs.Stepping.{here_not_taken}
+
+pub record Merged (u id : ℕ) (s t : Stock) : Type 0 where
+  pub sound : IsSound t
+  pub joined : Joined u id (bag_of s) (bag_of t)
+  pub same : SameMeaning s t
+
+no : {P : Type 0} → false ≡ true → P
+no e = absurd (let z : ⊥ = cc in z)
+
+either : (a b : Bool) {P : Type 0} → (a || b) ≡ true → (a ≡ true → P) → (b ≡ true → P) → P
+either true b e f g = f refl
+either false b e f g = g e
+
+-- one that is not listed afterwards
+pub not_relisted : (p : ChunkPos → Bool) (a b d : Bag) → Stays a b → d ≡ (let r : Bag = record b { listed = false } in r) → a.taken ≡ false → Relisted p a d
+not_relisted p a b d stays e free =
+    let off : d.listed ≡ false = ap (λ (x : Bag). x.listed) e in
+    record {
+      same = rw (e, stays) refl;
+      before = λ o. no (sym off ∙ o);
+      order = λ o. no (sym off ∙ o);
+      chunks = λ o. no (sym off ∙ o);
+      out = λ o. no (sym free ∙ o);
+    }
+
+-- two whole bags, and the chunks of both
+pub record BothWhole (s : Stock) (u id : ℕ) (chunks : List ChunkPos) : Type 0 where
+  pub here : (slot s u).here ≡ true
+  pub id_here : (slot s id).here ≡ true
+  pub listed : (slot s u).listed ≡ true
+  pub calm : (slot s u).calm ≡ true
+  pub id_listed : (slot s id).listed ≡ true
+  pub id_calm : (slot s id).calm ≡ true
+  pub union : IsUnion (slot s id).chunks (slot s u).chunks chunks
+
+-- from what contracts see
+pub both_whole : (s v : Stock) (u id : ℕ) (chunks : List ChunkPos) → s ≡ v → (bag_of v u).here ≡ true → (bag_of v id).here ≡ true → is_whole (bag_of v u) ≡ true → is_whole (bag_of v id) ≡ true → IsUnion (bag_of v id).chunks (bag_of v u).chunks chunks → BothWhole s u id chunks
+unfolding bag_of
+both_whole s v u id chunks e here id_here whole id_whole union = subst (λ w. BothWhole w u id chunks) (sym e) (record {
+  here = here;
+  id_here = id_here;
+  listed = first (slot v u).listed (slot v u).calm whole;
+  calm = second (slot v u).listed (slot v u).calm whole;
+  id_listed = first (slot v id).listed (slot v id).calm id_whole;
+  id_calm = second (slot v id).listed (slot v id).calm id_whole;
+  union = union;
+})
+  where
+    first : (a b : Bool) → (a && b) ≡ true → a ≡ true
+    first true b e = refl
+    first false b e = no e
+
+    second : (a b : Bool) → (a && b) ≡ true → b ≡ true
+    second true b e = e
+    second false b e = no e
+
+-- two listed bags share no chunk
+pub none_shared : (s v : Stock) (u id : ℕ) → s ≡ v → IsSound s → u ≢ id → (bag_of v u).listed ≡ true → (bag_of v id).listed ≡ true → (q : ChunkPos) → is_recorded (bag_of v u).chunks q ≡ true → is_recorded (bag_of v id).chunks q ≡ false
+unfolding bag_of
+none_shared s v u id e h differ listed id_listed q r = elim (cases_Bool (is_recorded (slot v id).chunks q)) [
+  | inl a ↦
+      let sound : IsSound v = subst IsSound e h in
+      let one : (place v q).bag ≡ Some u = (sound.bags u).held (rw listed refl) q r in
+      let other : (place v q).bag ≡ Some id = (sound.bags id).held (rw id_listed refl) q a in
+      let z : Some u ≡ Some id = sym one ∙ other in
+      let y : u ≡ id = cc in absurd (differ y)
+  | inr a ↦ a
+]
+
+-- the chunks of a listed bag that is here are those to be handed out
+pub handed_listed : (s : Stock) (u : ℕ) → IsSound s → (slot s u).here ≡ true → (slot s u).listed ≡ true → (slot s u).handed ≡ (slot s u).chunks
+handed_listed s u h here listed = (h.bags u).handed (rw (here, listed) refl)
+
+module _ (s : Stock) (bags : List Slot) (places : PlaceRows) (spare slots u id : ℕ) (moved : List ChunkPos) (left come : RegionData) (listed calm : Bool) (chunks handed touched : List ChunkPos) where
+  abbrev t : Stock
+  t = with_parts s s.spots bags places spare slots
+
+  abbrev source : Slot
+  source = let b : Slot = record no_slot { body = left } in b
+
+  abbrev target : Slot
+  target = record (slot s id) { body = come; listed = listed; calm = calm; chunks = chunks; handed = handed; touched = touched }
+
+  pub record MergesBags : Type 0 where
+    pub pours : Pours s bags places spare slots u id moved source target
+    pub both : BothWhole s u id chunks
+    -- what moves is among its chunks, and is all of them where the other is listed
+    pub mine : (q : ChunkPos) → is_recorded moved q ≡ true → is_recorded (slot s u).chunks q ≡ true
+    pub all : listed ≡ true → moved ≡ (slot s u).chunks
+    pub twice : listed ≡ true → handed ≡ chunks
+    pub none_noted : listed ≡ true → touched ≡ []
+    pub more_spare : s.spare ≤ spare
+    pub more_slots : s.slots ≤ slots
+
+  module _ (d : MergesBags) (h : IsSound s) where
+    apart : in_bag u ≢ in_bag id
+    apart = apart_bags s bags places spare slots u id moved source target d.pours
+
+    moves : (k : Key) → Moves where_cases (column s k) (column t k) (in_bag u) (in_bag id) (λ x. is_recorded moved (chunk_at k x))
+    moves = moves_over s bags places spare slots u id moved source target d.pours
+
+    keeps : (c : ChunkPos) (n : ℕ) → (place s c).bag ≡ Some n → (n ≡ u → is_recorded moved c ≡ false) → (place t c).bag ≡ Some n
+    keeps = home_keeps s bags places spare slots u id moved source target d.pours
+
+    not_taken : (slot s id).taken ≡ false
+    not_taken = here_not_taken id s h d.both.id_here
+
+    wider : (q : ChunkPos) → is_recorded (slot s id).chunks q ≡ true → is_recorded chunks q ≡ true
+    wider q r = d.both.union.has q ∙ rw r refl
+
+    wider_too : (q : ChunkPos) → is_recorded (slot s u).chunks q ≡ true → is_recorded chunks q ≡ true
+    wider_too q r = d.both.union.has q ∙ last (is_recorded (slot s id).chunks q) (is_recorded (slot s u).chunks q) r
+      where
+        last : (a b : Bool) → b ≡ true → (a || b) ≡ true
+        last true b e = refl
+        last false b e = e
+
+    -- a chunk of the union is one of either
+    of_either : (q : ChunkPos) {P : Type 0} → is_recorded chunks q ≡ true → (is_recorded (slot s id).chunks q ≡ true → P) → (is_recorded (slot s u).chunks q ≡ true → P) → P
+    of_either q r f g = either (is_recorded (slot s id).chunks q) (is_recorded (slot s u).chunks q) (sym (d.both.union.has q) ∙ r) f g
+
+    all_move : listed ≡ true → (q : ChunkPos) → is_recorded (slot s u).chunks q ≡ true → is_recorded moved q ≡ true
+    all_move o q r = ap (λ l. is_recorded l q) (d.all o) ∙ r
+
+    is_listed : (listed || (slot s id).taken) ≡ true → listed ≡ true
+    is_listed o = either listed (slot s id).taken o (λ e. e) (λ e. no (sym not_taken ∙ e))
+
+    own_bag : IsBag t id target
+    own_bag = record {
+      claims = λ o c q. elim (home_cases s bags places spare slots u id moved source target d.pours c id q) [
+        | inl z ↦ wider_too c (d.mine c z.listed)
+        | inr z ↦ wider c ((h.bags id).claims o c z)
+      ];
+      held = λ o c r. of_either c r
+          (λ e. keeps c id ((h.bags id).held (rw d.both.id_listed refl) c e) (λ f. absurd (d.pours.apart (sym f))))
+          (λ e. home_moves s bags places spare slots u id moved source target d.pours c (all_move (is_listed o) c e) ((h.bags u).held (rw d.both.listed refl) c e));
+      near = λ o k w x q r. subst (Near id target (chunk_at k x)) (sym (near_it o k w x q r)) refl;
+      untouched = λ o p. d.none_noted o;
+      opened = λ o. rw d.both.id_here refl;
+      one = (h.bags id).one;
+      out = λ o k x q. no (sym not_taken ∙ o);
+      handed = λ o. d.twice (rw d.both.id_here at o);
+    }
+      where
+        near_it : listed ≡ true → (k : Key) (w : Where) (x : Thing k) → column t k w ≡ Some x → is_recorded chunks (chunk_at k x) ≡ true → w ≡ in_bag id
+        near_it o k w x q r =
+            elim (moves_back where_cases (column s k) (column t k) (in_bag u) (in_bag id) (λ y. is_recorded moved (chunk_at k y)) apart (moves k) w x q) [
+              | inl z ↦ z.there
+              | inr z ↦ of_either (chunk_at k x) r
+                  (λ e. whole_alone s id (slot s id) (h.bags id) d.both.id_listed d.both.id_calm k w x z.had e)
+                  (λ e.
+                  let lay : w ≡ in_bag u = whole_alone s u (slot s u) (h.bags u) d.both.listed d.both.calm k w x z.had e in
+                  no (sym (z.fails lay) ∙ all_move o (chunk_at k x) e))
+            ]
+
+    other_bag : (n : ℕ) → u ≢ n → id ≢ n → IsBag t n (slot s n)
+    other_bag n a b =
+        moved_bag s t (in_bag u) (in_bag id) (λ k x. is_recorded moved (chunk_at k x)) apart moves n (slot s n) (slot s n) (kept_self (slot s n))
+        (λ c q. elim (home_cases s bags places spare slots u id moved source target d.pours c n q) [
+          | inl z ↦ absurd (b (sym z.here))
+          | inr z ↦ inl z
+        ])
+        (λ o c q. keeps c n q (λ e. absurd (a (sym e))))
+        (λ o k x q p r. absurd (a ((h.bags n).near o k (in_bag u) x q r)))
+        (λ o e. let f : id ≡ n = cc in b f)
+        (h.bags n)
+
+    pub merged_bags : Merged u id s t
+    unfolding bag_of
+    merged_bags = record {
+      sound = record {
+        unique = moved_unique s t (in_bag u) (in_bag id) (λ k x. is_recorded moved (chunk_at k x)) apart moves h.unique;
+        lies = moved_lies s t (in_bag u) (in_bag id) (λ k x. is_recorded moved (chunk_at k x)) apart moves (comes_over s bags places spare slots u id moved source target d.pours h) (stays_over s bags places spare slots u id moved source target d.pours h);
+        spot_range = spots_within s bags places spare slots u id moved source target d.pours h;
+        bag_range = bags_within s bags places spare slots u id moved source target d.pours h;
+        bags = by_bag s bags places spare slots u id moved source target d.pours (λ n b. IsBag t n b) (closed_bag t u source refl refl refl) own_bag other_bag;
+        spot_times = h.spot_times;
+        bag_times = times_over s bags places spare slots u id moved source target d.pours h;
+        arrival_times = h.arrival_times;
+        arrivals_differ = h.arrivals_differ;
+      };
+      joined = record {
+        gone = ap shown (at_source s bags places spare slots u id moved source target d.pours);
+        own = let P : Slot → Type 0 = λ b. Relisted (λ q. is_recorded (slot s id).chunks q || is_recorded (slot s u).chunks q) (shown (slot s id)) (shown b) in subst P (sym (at_target s bags places spare slots u id moved source target d.pours)) (record {
+          same = rw (d.both.id_here, d.pours.gains.tick, d.pours.gains.owed) refl;
+          before = λ o. d.both.id_listed;
+          order = λ o. d.both.union.order;
+          chunks = λ o. d.both.union.has;
+          out = λ o. no (sym not_taken ∙ o);
+        });
+        both = λ o. d.both.listed;
+        others = λ n a b. ap shown (at_other s bags places spare slots u id moved source target d.pours n (λ e. a (sym e)) (λ e. b (sym e)));
+      };
+      same = record {
+        found = moved_found s t (in_bag u) (in_bag id) (λ k x. is_recorded moved (chunk_at k x)) apart moves h.unique;
+        bags = d.pours.long;
+        spare = d.more_spare;
+        slots = d.more_slots;
+      };
+    }

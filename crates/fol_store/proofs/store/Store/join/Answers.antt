@@ -1,0 +1,19 @@
+use Rattle.std.proofs.Common.{◌≡◌, true, false, sym, ◌∙◌, ap}
+use Rattle.fol_store.specs.contracts.store.Store.{the_view}
+use Rattle.fol_store.specs.Bag.{Bag}
+use Rattle.fol_store.specs.Stock.{slot, bag_of}
+use Rattle.fol_store.proofs.BagSteps.{bag_slot}
+use Rattle.fol_store.proofs.Joining.{not_relisted}
+use Rattle.fol_store.proofs.Stepping.{here_not_taken}
+use Rattle.fol_store.proofs.store.Store.join.Goals as goal
+
+pub returns-in-Err-clause-joined : goal.returns-in-Err-clause-joined
+returns-in-Err-clause-joined c =
+    let here : (slot (the_view c.self.inside) c.args.into).here ≡ true = sym (ap (λ (b : Bag). b.here) (bag_slot (the_view c.self.inside) c.args.into)) ∙ (rw (← c.self.view_is) at c.requires.into) in
+    let free : (bag_of (the_view c.self.inside) c.args.into).taken ≡ false = ap (λ (b : Bag). b.taken) (bag_slot (the_view c.self.inside) c.args.into) ∙ here_not_taken c.args.into (the_view c.self.inside) c.self.invariant here in
+    record {
+      gone = c.dissolve.ensures.gone;
+      own = not_relisted _ _ _ _ c.prepare_both.ensures.into_stays c.dissolve.ensures.own (rw c.self.view_is at free);
+      both = λ o. c.requires.from_listed;
+      others = λ u a b. c.dissolve.ensures.others u a b ∙ c.prepare_both.ensures.others u a b;
+    }
