@@ -1,5 +1,5 @@
 -- A listed bag gets a chunk that no bag has.
-use Rattle.std.proofs.Common.{◌≡◌, ◌≢◌, ℕ, ◌<◌, ◌≤◌, Bool, true, false, ◌||◌, ◌&&◌, List, [], ◌∷◌, ◌++◌, length, get_or, refl, sym, ◌∙◌, ap, subst, ◌⊎◌, inl, inr, arith, Some, None}
+use Rattle.std.proofs.Common.{◌≡◌, ◌≢◌, ℕ, ◌<◌, ◌≤◌, Bool, true, false, ◌||◌, ◌&&◌, List, [], ◌∷◌, ◌++◌, length, refl, sym, ◌∙◌, ap, subst, ◌⊎◌, inl, inr, arith, Some, None}
 use Rattle.std.specs.Prelude.{nat_eq, if◌then◌else◌}
 use Rattle.std.specs.List.Sorted.{IsStrictlySortedBy}
 use Rattle.std.proofs.lemmas.Bool.{cases_Bool, cases_eq}
@@ -9,14 +9,12 @@ use Rattle.fol_chunks.specs.Contents.{is_recorded}
 use Rattle.fol_chunks.specs.Order.{chunk_cmp}
 use Rattle.fol_keyed.proofs.Places.{same_chunk-true, same_chunk-self}
 use Rattle.fol_queues.proofs.Numbers.{nat_self}
-use Rattle.fol_data.specs.declared.region_data.RegionData.{RegionData}
 use Rattle.fol_store.specs.declared.slot.Slot.{Slot}
 use Rattle.fol_store.specs.declared.places.Place.{Place}
-use Rattle.fol_store.specs.Bag.{Bag}
 use Rattle.fol_store.specs.Places.{PlaceRows}
-use Rattle.fol_store.specs.Relisted.{Relisted, Widened}
-use Rattle.fol_store.specs.Things.{Key, Thing, things, chunk_at, IsTimely}
-use Rattle.fol_store.specs.Stock.{Stock, Where, arriving, in_spot, in_bag, slot, place, column, found, bag_of, shown, no_slot}
+use Rattle.fol_store.specs.Relisted.{Relisted}
+use Rattle.fol_store.specs.Things.{Key, Thing, chunk_at, IsTimely}
+use Rattle.fol_store.specs.Stock.{Stock, Where, arriving, in_spot, in_bag, slot, place, column, bag_of, shown}
 use Rattle.fol_store.specs.Sound.{Allows, Near, IsBag, IsSound}
 use Rattle.fol_store.specs.Steps.{SameMeaning}
 use Rattle.fol_store.proofs.Resound.{SameColumns, same_unique, same_found, same_bag, kept_self}

@@ -1,10 +1,7 @@
-use Rattle.std.proofs.Common.{◌≡◌, ◌<◌, ◌≤◌, ◌||◌, true, length, get_or, refl, sym, ◌∙◌, ap, inl, inr}
-use Rattle.std.specs.List.{insert}
-use Rattle.std.specs.List.Sorted.{IsStrictlySortedBy, IsPartitionPoint}
+use Rattle.std.proofs.Common.{◌≡◌, ◌<◌, ◌≤◌, length, get_or, inl, inr}
+use Rattle.std.specs.List.Sorted.{IsPartitionPoint}
 use Rattle.std.specs.declared.cmp.Ordering.TheVariants.{Less, Greater}
 use Rattle.fol_model.specs.declared.places.ChunkPos.{ChunkPos}
-use Rattle.fol_model.specs.Geometry.{same_chunk}
-use Rattle.fol_chunks.specs.Contents.{is_recorded}
 use Rattle.fol_chunks.specs.Order.{chunk_cmp}
 use Rattle.fol_store.proofs.OneMore.{order_insert, recorded_insert, recorded_kept, recorded_there, recorded_where}
 use Rattle.fol_store.proofs.PlaceSteps.{on_ok}

@@ -1,10 +1,9 @@
-use Rattle.std.proofs.Common.{◌≡◌, ◌<◌, ◌-◌, ℕ, true, false, length, refl, sym, ◌∙◌, ap, arith, vec_len}
+use Rattle.std.proofs.Common.{◌≡◌, ◌<◌, ◌-◌, true, false, length, refl, arith, vec_len}
 use Rattle.std.specs.Vec.{vec_capacity}
 use Rattle.fol_store.specs.contracts.store.Store.{the_view}
 use Rattle.fol_store.specs.declared.slot.Slot.{Slot}
-use Rattle.fol_store.specs.declared.places.Place.{Place}
 use Rattle.fol_store.specs.Slots.{slot_in}
-use Rattle.fol_store.specs.Stock.{Stock, slot, bag_of, place}
+use Rattle.fol_store.specs.Stock.{slot, bag_of, place}
 use Rattle.fol_store.proofs.BagSteps.{here_range}
 use Rattle.fol_store.proofs.Coming.{Followed, came, unlisted, set_twice, wider}
 use Rattle.fol_store.proofs.Drawing.{with_parts}

@@ -1,7 +1,5 @@
-use Rattle.std.proofs.Common.{◌≡◌, ◌<◌, ◌&&◌, ◌||◌, true, length, sym, ◌∙◌}
+use Rattle.std.proofs.Common.{◌≡◌, ◌<◌, ◌||◌, true, length, sym, ◌∙◌}
 use Rattle.std.proofs.lemmas.Bool.{and_parts}
-use Rattle.std.specs.List.Sorted.{IsStrictlySortedBy}
-use Rattle.fol_chunks.specs.Order.{chunk_cmp}
 use Rattle.fol_store.specs.contracts.store.Store.{the_view}
 use Rattle.fol_store.specs.Stock.{slot, bag_of, next_of}
 use Rattle.fol_store.proofs.BagSteps.{open_range}

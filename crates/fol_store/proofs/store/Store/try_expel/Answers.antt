@@ -1,9 +1,8 @@
-use Rattle.std.proofs.Common.{◌≡◌, ℕ, true, sym, ◌∙◌, ap, subst}
+use Rattle.std.proofs.Common.{ℕ, sym, ◌∙◌, ap, subst}
 use Rattle.std.specs.List.Sorted.{IsStrictlySortedBy}
 use Rattle.fol_chunks.specs.Order.{chunk_cmp}
 use Rattle.fol_store.specs.Bag.{Bag}
 use Rattle.fol_store.specs.Relisted.{Narrowed}
-use Rattle.fol_store.specs.Steps.{SameMeaning}
 use Rattle.fol_store.specs.Stock.{bag_of}
 use Rattle.fol_store.proofs.Arriving.{bags_same}
 use Rattle.fol_store.proofs.PlaceSteps.{on_ok, on_err}
