@@ -1,20 +1,19 @@
 -- What lies in a whole bag goes into another whole one, with its chunks.
-use Rattle.std.proofs.Common.{◌≡◌, ◌≢◌, ℕ, ◌<◌, ◌≤◌, Bool, true, false, ◌||◌, ◌&&◌, List, [], length, refl, sym, ◌∙◌, ap, subst, ◌⊎◌, inl, inr, Some}
+use Rattle.std.proofs.Common.{◌≡◌, ◌≢◌, ℕ, ◌≤◌, Bool, true, false, ◌||◌, ◌&&◌, List, [], refl, sym, ◌∙◌, ap, subst, inl, inr, Some}
 use Rattle.std.proofs.lemmas.Bool.{cases_Bool}
 use Rattle.fol_model.specs.declared.places.ChunkPos.{ChunkPos}
 use Rattle.fol_chunks.specs.Contents.{is_recorded}
 use Rattle.fol_data.specs.declared.region_data.RegionData.{RegionData}
 use Rattle.fol_store.specs.declared.slot.Slot.{Slot}
-use Rattle.fol_store.specs.declared.places.Place.{Place}
 use Rattle.fol_store.specs.Bag.{Bag, is_whole}
 use Rattle.fol_store.specs.Places.{PlaceRows}
 use Rattle.fol_store.specs.Relisted.{Relisted, IsUnion, Joined, Stays}
 use Rattle.fol_store.specs.Things.{Key, Thing, chunk_at}
-use Rattle.fol_store.specs.Stock.{Stock, Where, in_bag, slot, place, column, bag_of, shown, no_slot}
+use Rattle.fol_store.specs.Stock.{Stock, Where, in_bag, slot, place, column, found, next_of, bag_of, shown, no_slot}
 use Rattle.fol_store.specs.Sound.{Near, IsBag, IsSound}
-use Rattle.fol_store.specs.Steps.{SameMeaning}
+use Rattle.fol_store.specs.Steps.{SameWorld}
 use Rattle.fol_store.proofs.Columns.{Moves, moves_back}
-use Rattle.fol_store.proofs.Totals.{where_cases}
+use Rattle.fol_store.proofs.Totals.{where_cases, same_flat, same_jobs}
 use Rattle.fol_store.proofs.Resound.{kept_self, whole_alone, moved_unique, moved_found, moved_lies, moved_bag}
 use Rattle.fol_store.proofs.BagSteps.{closed_bag}
 use Rattle.fol_store.proofs.Drawing.{with_parts, Pours, at_source, at_target, at_other, apart_bags, moves_over, by_bag, home_keeps, home_moves, home_cases, comes_over, stays_over, spots_within, bags_within, times_over}
@@ -23,7 +22,7 @@ use Rattle.fol_store.proofs.Stepping.{here_not_taken}
 pub record Merged (u id : ℕ) (s t : Stock) : Type 0 where
   pub sound : IsSound t
   pub joined : Joined u id (bag_of s) (bag_of t)
-  pub same : SameMeaning s t
+  pub same : SameWorld s t
 
 no : {P : Type 0} → false ≡ true → P
 no e = absurd (let z : ⊥ = cc in z)
@@ -186,8 +185,11 @@ module _ (s : Stock) (bags : List Slot) (places : PlaceRows) (spare slots u id :
         (λ o e. let f : id ≡ n = cc in b f)
         (h.bags n)
 
+    found_all : (k : Key) → found t k ≡ found s k
+    found_all = moved_found s t (in_bag u) (in_bag id) (λ k x. is_recorded moved (chunk_at k x)) apart moves h.unique
+
     pub merged_bags : Merged u id s t
-    unfolding bag_of
+    unfolding bag_of next_of
     merged_bags = record {
       sound = record {
         unique = moved_unique s t (in_bag u) (in_bag id) (λ k x. is_recorded moved (chunk_at k x)) apart moves h.unique;
@@ -213,8 +215,9 @@ module _ (s : Stock) (bags : List Slot) (places : PlaceRows) (spare slots u id :
         others = λ n a b. ap shown (at_other s bags places spare slots u id moved source target d.pours n (λ e. a (sym e)) (λ e. b (sym e)));
       };
       same = record {
-        found = moved_found s t (in_bag u) (in_bag id) (λ k x. is_recorded moved (chunk_at k x)) apart moves h.unique;
-        bags = d.pours.long;
+        contents = same_flat s t found_all;
+        tasks = same_jobs s t found_all;
+        next = d.pours.long;
         spare = d.more_spare;
         slots = d.more_slots;
       };

@@ -30,4 +30,3 @@ pub mod Coming
 pub mod Outward
 pub mod Leaving
 pub mod Joining
-pub mod Worlds

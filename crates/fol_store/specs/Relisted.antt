@@ -1,4 +1,4 @@
--- What becomes of the bag of a region that has a chunk more or a chunk less.
+-- What becomes of the bag of a region that has a chunk more or a chunk less, or that another region joins.
 use Rattle.std.specs.Prelude.{ℕ, ◌≡◌, ◌≢◌, Bool, true, not, ◌&&◌, ◌||◌, max, List}
 use Rattle.std.specs.List.Sorted.{IsStrictlySortedBy}
 use Rattle.fol_model.specs.declared.places.ChunkPos.{ChunkPos}

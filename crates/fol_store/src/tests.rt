@@ -64,7 +64,9 @@ fn opening(alloc: Global) -> Result<Opening, AllocError> {
     })
 }
 
-fn task(number: u64, chunk: ChunkPos) -> Task {
+fn task(number: u64, chunk: ChunkPos) -> Task
+    ensures { result.number ≡ number }
+{
     Task {
         number,
         chunk,

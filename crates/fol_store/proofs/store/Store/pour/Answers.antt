@@ -10,26 +10,25 @@ use Rattle.fol_store.specs.Slots.{slot_in}
 use Rattle.fol_store.specs.Stock.{slot, place, in_bag, bag_of}
 use Rattle.fol_store.proofs.BagSteps.{here_range}
 use Rattle.fol_store.proofs.Drawing.{with_parts, loses_none, gains_none}
-use Rattle.fol_store.proofs.Joining.{Merged, BothWhole, both_whole, handed_listed, merged_bags}
-use Rattle.fol_store.proofs.Worlds.{same_world}
+use Rattle.fol_store.proofs.Joining.{Merged, both_whole, handed_listed, merged_bags}
 use Rattle.fol_store.proofs.store.Store.pour.Goals as goal
 
 pub merge-requires-clause-order : goal.merge-requires-clause-order
 unfolding bag_of
 merge-requires-clause-order c =
-    let k = both_whole (the_view c.self.inside) c.args.self.now c.args.from c.args.into c.args.lists.chunks.items c.self.view_is c.requires.from c.requires.into c.requires.from_whole c.requires.into_whole c.requires.chunks in
+    let k = both_whole _ _ _ _ _ c.self.view_is c.requires.from c.requires.into c.requires.from_whole c.requires.into_whole c.requires.chunks in
     let order : IsStrictlySortedBy chunk_cmp (slot (the_view c.self.inside) c.args.from).chunks = (rw (← c.self.view_is) at c.requires.from_order) k.listed in
     rw (handed_listed (the_view c.self.inside) c.args.from c.self.invariant k.here k.listed) order
 
 pub merge-requires-clause-from_there : goal.merge-requires-clause-from_there
 merge-requires-clause-from_there c =
-    let k = both_whole (the_view c.self.inside) c.args.self.now c.args.from c.args.into c.args.lists.chunks.items c.self.view_is c.requires.from c.requires.into c.requires.from_whole c.requires.into_whole c.requires.chunks in
+    let k = both_whole _ _ _ _ _ c.self.view_is c.requires.from c.requires.into c.requires.from_whole c.requires.into_whole c.requires.chunks in
     let l : c.args.from < length c.self.inside.bags.items = here_range c.self.inside.bags.items c.args.from k.here in
     omega arith
 
 pub merge-requires-clause-into_there : goal.merge-requires-clause-into_there
 merge-requires-clause-into_there c =
-    let k = both_whole (the_view c.self.inside) c.args.self.now c.args.from c.args.into c.args.lists.chunks.items c.self.view_is c.requires.from c.requires.into c.requires.from_whole c.requires.into_whole c.requires.chunks in
+    let k = both_whole _ _ _ _ _ c.self.view_is c.requires.from c.requires.into c.requires.from_whole c.requires.into_whole c.requires.chunks in
     let l : c.args.into < length c.self.inside.bags.items = here_range c.self.inside.bags.items c.args.into k.id_here in
     omega arith
 
@@ -40,7 +39,7 @@ merge-requires-clause-apart c = λ k x y p q.
 
 moved : (c : goal.After-drop-moved) → Merged c.args.from c.args.into (the_view c.self.inside) (with_parts (the_view c.self.inside) c.self.inside.spots.items c.merge.new.bags.items c.rehome.new.self (vec_capacity c.self.inside.arrivals - vec_len c.self.inside.arrivals) (vec_capacity c.merge.new.bags - vec_len c.merge.new.bags))
 moved c =
-    let k = both_whole (the_view c.self.inside) c.args.self.now c.args.from c.args.into c.args.lists.chunks.items c.self.view_is c.requires.from c.requires.into c.requires.from_whole c.requires.into_whole c.requires.chunks in
+    let k = both_whole _ _ _ _ _ c.self.view_is c.requires.from c.requires.into c.requires.from_whole c.requires.into_whole c.requires.chunks in
     let all : (slot (the_view c.self.inside) c.args.from).handed ≡ (slot (the_view c.self.inside) c.args.from).chunks = handed_listed (the_view c.self.inside) c.args.from c.self.invariant k.here k.listed in
     merged_bags (the_view c.self.inside) c.merge.new.bags.items c.rehome.new.self _ _ c.args.from c.args.into (slot (the_view c.self.inside) c.args.from).handed
     (slot_in c.merge.new.bags.items c.args.from).body (slot_in c.merge.new.bags.items c.args.into).body true true c.args.lists.chunks.items c.args.lists.handed.items []
@@ -68,7 +67,7 @@ moved c =
 
 stayed : (c : goal.In-Err) → Merged c.args.from c.args.into (the_view c.self.inside) (with_parts (the_view c.self.inside) c.self.inside.spots.items c.merge.new.bags.items c.self.inside.places (vec_capacity c.self.inside.arrivals - vec_len c.self.inside.arrivals) (vec_capacity c.merge.new.bags - vec_len c.merge.new.bags))
 stayed c =
-    let k = both_whole (the_view c.self.inside) c.args.self.now c.args.from c.args.into c.args.lists.chunks.items c.self.view_is c.requires.from c.requires.into c.requires.from_whole c.requires.into_whole c.requires.chunks in
+    let k = both_whole _ _ _ _ _ c.self.view_is c.requires.from c.requires.into c.requires.from_whole c.requires.into_whole c.requires.chunks in
     merged_bags (the_view c.self.inside) c.merge.new.bags.items c.self.inside.places _ _ c.args.from c.args.into []
     (slot_in c.merge.new.bags.items c.args.from).body (slot_in c.merge.new.bags.items c.args.into).body false (slot (the_view c.self.inside) c.args.into).calm c.args.lists.chunks.items (slot (the_view c.self.inside) c.args.into).handed (slot (the_view c.self.inside) c.args.into).touched
     (record {
@@ -103,10 +102,10 @@ pub returns-in-Ok-clause-joined : goal.returns-in-Ok-clause-joined
 returns-in-Ok-clause-joined c = rw (← c.self.view_is) (moved c).joined
 
 pub returns-in-Ok-clause-same : goal.returns-in-Ok-clause-same
-returns-in-Ok-clause-same c = rw (← c.self.view_is) (same_world _ _ (moved c).same)
+returns-in-Ok-clause-same c = rw (← c.self.view_is) (moved c).same
 
 pub returns-in-Err-clause-joined : goal.returns-in-Err-clause-joined
 returns-in-Err-clause-joined c = rw (← c.self.view_is) (stayed c).joined
 
 pub returns-in-Err-clause-same : goal.returns-in-Err-clause-same
-returns-in-Err-clause-same c = rw (← c.self.view_is) (same_world _ _ (stayed c).same)
+returns-in-Err-clause-same c = rw (← c.self.view_is) (stayed c).same
