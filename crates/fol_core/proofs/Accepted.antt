@@ -96,7 +96,7 @@ unfolding owed_after_add
 owed_full g c owed f = fun_ext (λ r. rw f refl)
 
 -- ---- the memory that is left
-pub room_less : (t u : Tables) (v k : Contents) (made n : ℕ) → HasRoomFor t v (n + 1) → LeavesRoom t u made → made ≤ 1 → u.tickets ≡ t.tickets → u.store.spare ≡ t.store.spare → v.spare ≤ k.spare + 1 → HasRoomFor u k n
+pub room_less : (t u : Tables) (v k : Contents) (made n : ℕ) → HasRoomFor t v (n + 1) → LeavesRoom t u made → made ≤ 1 → u.tickets ≡ t.tickets → t.store.spare ≤ u.store.spare → v.spare ≤ k.spare + 1 → HasRoomFor u k n
 room_less t u v k made n room left few tickets spare entities = record {
   regions = omega (arith, room.regions, left.regions);
   tasks = omega (arith, room.tasks, spare);

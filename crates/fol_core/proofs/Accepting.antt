@@ -10,7 +10,7 @@ use Rattle.fol_model.specs.declared.events.Accept.TheVariants.{Posted}
 use Rattle.fol_model.specs.declared.events.Event.TheVariants.{Post}
 use Rattle.fol_model.specs.Geometry.{is_chunk, section_of}
 use Rattle.fol_model.specs.Counters.{owed_after_add}
-use Rattle.fol_model.specs.GridState.{GridState}
+use Rattle.fol_model.specs.GridState.{GridState, is_loaded}
 use Rattle.fol_model.specs.Add.{add}
 use Rattle.fol_model.specs.ActionStep.{Recorded, at_id}
 use Rattle.fol_model.specs.Job.{Job, is_on, queued}
@@ -21,6 +21,7 @@ use Rattle.fol_laws.proofs.AddSections.{grid_add}
 use Rattle.fol_laws.proofs.TickedBefore.{ticked_before}
 use Rattle.fol_laws.proofs.TickingKept.{Kept, kept_posted}
 use Rattle.fol_regions.specs.Table.{grid_state}
+use Rattle.fol_regions.specs.Answers.{add_answer}
 use Rattle.fol_regions.specs.Changes.{add_change}
 use Rattle.fol_chunks.specs.Contents.{Contents}
 use Rattle.fol_store.specs.Bag.{Bag, disturbed}
@@ -28,14 +29,17 @@ use Rattle.fol_store.specs.Stock.{bag_of, jobs_of, next_of}
 use Rattle.fol_core.specs.declared.tables.Tables.{Tables}
 use Rattle.fol_core.specs.Agenda.{Covers}
 use Rattle.fol_core.specs.Bags.{IsBagOf}
-use Rattle.fol_core.specs.Follows.{CanCover, CanFollow, CanHold, Settle, changed_bags, followed, gaining}
+use Rattle.fol_core.specs.Follows.{CanCover, CanFollow, CanHold, CanSettle, ChangesTo, IsKnown, Settle, changed_bags, followed, gaining}
 use Rattle.fol_core.specs.Hands.{at_rest, in_hands, ticker, went}
 use Rattle.fol_core.specs.Underway.{Underway}
 use Rattle.fol_core.proofs.Added.{AddedBags, added_bags, gained_bags, off_owed}
 use Rattle.fol_core.proofs.GridRuns.{grid_after}
 use Rattle.fol_core.proofs.HandSteps.{hands_same, rest_same}
 use Rattle.fol_core.proofs.Held.{count_most}
-use Rattle.fol_core.proofs.SettledBags.{can_gain, settled_bags}
+use Rattle.fol_core.proofs.AddBags.{calm_here}
+use Rattle.fol_core.proofs.GainedBags.{can_settle}
+use Rattle.fol_core.proofs.SettledBags.{settled_bags}
+use Rattle.fol_core.proofs.UnitedBags.{are_in_order}
 use Rattle.fol_core.proofs.UnsettledBags.{have_bags, known_bag}
 
 -- ---- a bag that may have to be gathered anew
@@ -70,14 +74,22 @@ module _ (t : Tables) (v : Contents) (w : World) (since : ℕ → ℕ) (r n : �
   off_bags = gained_bags g (add g c) c (add_change g c) w.owed (owed_after_add g c w.owed) w.tick w.recorded (bag_of t.store) refl all_bags
       (add_keeps g c u.ends.ending.sound.rules u.ends.ending.sound.grid limits).given
 
-  follows : CanFollow t.store (add_change g c) home
+  follows : CanFollow t.store (add_change g c)
   follows = record {
     follow = rw u.midway.stored.next all_bags.follow;
     slots = omega (arith, all_bags.few, u.room.slots);
     joins = all_bags.joins;
-    known = λ p. known_bag (add g c) w.tick (owed_after_add g c w.owed) w.recorded home home (changed_bags (add_change g c) (bag_of t.store))
-        (all_bags.bags home) ((add_keeps g c u.ends.ending.sound.rules u.ends.ending.sound.grid limits).owner_lives (section_of g.grid c) p);
+    order = are_in_order g w.tick w.owed w.recorded (bag_of t.store) u.midway.stored.bags;
   }
+
+  known : IsKnown (changed_bags (add_change g c) (bag_of t.store)) home
+  known p = known_bag (add g c) w.tick (owed_after_add g c w.owed) w.recorded home home (changed_bags (add_change g c) (bag_of t.store))
+      (all_bags.bags home) ((add_keeps g c u.ends.ending.sound.rules u.ends.ending.sound.grid limits).owner_lives (section_of g.grid c) p)
+
+  settles : (h : ℕ → Bag) → ChangesTo (add_change g c) (bag_of t.store) h → CanSettle (is_loaded g c) (add_answer g c) (add g c) c home (changed_bags (add_change g c) (bag_of t.store)) h
+  settles = can_settle g c u.ends.ending.sound.rules u.ends.ending.sound.grid limits (bag_of t.store) (λ q w d. (u.midway.stored.bags q).listed d w)
+      (calm_here g c u.ends.ending.sound.rules u.ends.ending.sound.grid limits w.owed w.tick w.recorded (bag_of t.store) u.midway.stored.bags)
+      (are_in_order g w.tick w.owed w.recorded (bag_of t.store) u.midway.stored.bags) known
 
   can_cover : CanCover t.agenda.items (add g c) (add_change g c) (followed (gaining g.grid g c) (add_change g c) (bag_of t.store))
   can_cover = record {
@@ -95,8 +107,8 @@ module _ (t : Tables) (v : Contents) (w : World) (since : ℕ → ℕ) (r n : �
     few = rw u.midway.regions few_holds;
     few_ids = rw u.midway.regions (omega (arith, u.ends.few_ids));
     few_tickets = omega (arith, u.midway.tickets c, u.ends.few_tickets c);
-    bags = rw (u.midway.regions, u.midway.grid) follows;
-    near = rw (u.midway.regions, u.midway.grid) (λ fresh. can_gain g c (bag_of t.store) limits (λ q w d. (u.midway.stored.bags q).listed d w) (u.ends.ending.sound.rules.owner_lives (section_of g.grid c)));
+    bags = rw u.midway.regions follows;
+    settles = rw (u.midway.regions, u.midway.grid) settles;
     covers = rw (u.midway.regions, u.midway.grid) can_cover;
     room = omega (arith, u.room.agenda);
     tickets = u.room.tickets;

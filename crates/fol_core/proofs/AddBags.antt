@@ -63,50 +63,57 @@ module _ (g : GridState) (c : ChunkPos) (rules : Rules g) (ok : IsGrid g.grid) (
   t = target g c
 
   -- a chunk that was loaded lies in a section that was present
-  loaded_present : (q : ChunkPos) → 0 < g.holds q → 0 < g.owner (section_of g.grid q)
+  pub loaded_present : (q : ChunkPos) → 0 < g.holds q → 0 < g.owner (section_of g.grid q)
   loaded_present q h = rules.margin q (section_of g.grid q) h (omega (arith, self_distance (section_of g.grid q)))
 
-  loaded_before : (q : ChunkPos) → q ≢ c → nat_lt 0 (ext.holds q) ≡ true → 0 < g.holds q
+  pub loaded_before : (q : ChunkPos) → q ≢ c → nat_lt 0 (ext.holds q) ≡ true → 0 < g.holds q
   loaded_before q d h = elim (cases_Bool (same_chunk c q)) [
     | inl s ↦ absurd (d (sym (same_chunk-true c q s)))
     | inr s ↦ ltb-true 0 (g.holds q) (rw s at h)
   ]
 
-  loaded_after : (q : ChunkPos) → 0 < g.holds q → nat_lt 0 (ext.holds q) ≡ true
+  pub loaded_after : (q : ChunkPos) → 0 < g.holds q → nat_lt 0 (ext.holds q) ≡ true
   loaded_after q h = elim (cases_Bool (same_chunk c q)) [
     | inl s ↦ rw s (lt-ltb 0 (g.holds c + 1) (omega arith))
     | inr s ↦ rw s (lt-ltb 0 (g.holds q) h)
   ]
 
-  -- the chunks of a region whose present sections stay, and which does not have c
-  chunks_stay : (r : ℕ) → ((s : SectionPos) → 0 < g.owner s → ext.owner s ≡ r → g.owner s ≡ r) → ((s : SectionPos) → 0 < g.owner s → g.owner s ≡ r → ext.owner s ≡ r) → ext.owner home ≢ r
-      → (q : ChunkPos) → is_chunk_of ext r q ≡ is_chunk_of g r q
-  chunks_stay r back forth away q = same_answer (is_chunk_of ext r q) (is_chunk_of g r q)
+  -- a chunk of a region whose present sections stay, where it is not c
+  chunk_stays : (r : ℕ) → ((s : SectionPos) → 0 < g.owner s → ext.owner s ≡ r → g.owner s ≡ r) → ((s : SectionPos) → 0 < g.owner s → g.owner s ≡ r → ext.owner s ≡ r)
+      → (q : ChunkPos) → (ext.owner (section_of g.grid q) ≡ r → q ≢ c) → is_chunk_of ext r q ≡ is_chunk_of g r q
+  chunk_stays r back forth q away = same_answer (is_chunk_of ext r q) (is_chunk_of g r q)
       (λ h. let p = and_parts (nat_lt 0 (ext.holds q)) (nat_eq (ext.owner (section_of g.grid q)) r) h in
       let o : ext.owner (section_of g.grid q) ≡ r = eqb-true _ r p.1 in
-      let held = loaded_before q (λ e. away (rw e at o)) p.0 in
+      let held = loaded_before q (away o) p.0 in
       and_from (nat_lt 0 (g.holds q)) (nat_eq (g.owner (section_of g.grid q)) r) (lt-ltb 0 (g.holds q) held) (eq-eqb _ r (back (section_of g.grid q) (loaded_present q held) o)))
       (λ h. let p = and_parts (nat_lt 0 (g.holds q)) (nat_eq (g.owner (section_of g.grid q)) r) h in
       let o : g.owner (section_of g.grid q) ≡ r = eqb-true _ r p.1 in
       let held = ltb-true 0 (g.holds q) p.0 in
       and_from (nat_lt 0 (ext.holds q)) (nat_eq (ext.owner (section_of g.grid q)) r) (loaded_after q held) (eq-eqb _ r (forth (section_of g.grid q) (loaded_present q held) o)))
 
+  -- the chunks of a region whose present sections stay, and which does not have c
+  chunks_stay : (r : ℕ) → ((s : SectionPos) → 0 < g.owner s → ext.owner s ≡ r → g.owner s ≡ r) → ((s : SectionPos) → 0 < g.owner s → g.owner s ≡ r → ext.owner s ≡ r) → ext.owner home ≢ r
+      → (q : ChunkPos) → is_chunk_of ext r q ≡ is_chunk_of g r q
+  chunks_stay r back forth away q = chunk_stays r back forth q (λ o e. away (rw e at o))
+
   -- a present section goes to the target where its region is near and calm, else it stays
-  present_stays : (s : SectionPos) → 0 < g.owner s → is_near_calm g c (g.owner s) ≡ false → ext.owner s ≡ g.owner s
+  pub present_stays : (s : SectionPos) → 0 < g.owner s → is_near_calm g c (g.owner s) ≡ false → ext.owner s ≡ g.owner s
   present_stays s p k = let w : nat_lt 0 (g.owner s) ≡ true = lt-ltb 0 (g.owner s) p in rw (w, k) refl
 
-  present_joins : (s : SectionPos) → is_near_calm g c (g.owner s) ≡ true → ext.owner s ≡ t
+  pub present_joins : (s : SectionPos) → is_near_calm g c (g.owner s) ≡ true → ext.owner s ≡ t
   present_joins s k = elim (cases_Bool (is_wanted g c s)) [ inl w ↦ rw w refl | inr w ↦ rw (w, k) refl ]
 
   live : (r : ℕ) → g.state r ≢ Dead → 0 < r
   live r d = rules.given r d
 
-  -- a region that is neither the target nor joins it keeps its chunks, unless it has c
-  other_chunks : (r : ℕ) → g.state r ≢ Dead → Stays g c rules ok limits r → ext.owner home ≢ r → (q : ChunkPos) → is_chunk_of ext r q ≡ is_chunk_of g r q
-  other_chunks r d stays away = chunks_stay r
+  -- a region that is neither the target nor joins it keeps its chunks, but that it may have c
+  pub other_chunk : (r : ℕ) → g.state r ≢ Dead → Stays g c rules ok limits r → (q : ChunkPos) → (ext.owner (section_of g.grid q) ≡ r → q ≢ c) → is_chunk_of ext r q ≡ is_chunk_of g r q
+  other_chunk r d stays = chunk_stays r
       (λ s p e. let pos : 0 < ext.owner s = rw e (live r d) in elim (owner_after g c rules ok limits s pos) [ inl x ↦ absurd (stays.apart (sym e ∙ x)) | inr x ↦ sym x.same ∙ e ])
       (λ s p e. stays_owner g c rules ok limits s r e (live r d) stays)
-      away
+
+  other_chunks : (r : ℕ) → g.state r ≢ Dead → Stays g c rules ok limits r → ext.owner home ≢ r → (q : ChunkPos) → is_chunk_of ext r q ≡ is_chunk_of g r q
+  other_chunks r d stays away q = other_chunk r d stays q (λ o e. away (rw e at o))
 
   abbrev drawn : List ℕ
   drawn = drawn_in g c

@@ -77,6 +77,56 @@ gained_bags g h c ch owed owed' tick recorded f e added given r = elim (cases_Bo
 ]
 
 module _ (g : GridState) (c : ChunkPos) (rules : Rules g) (ok : IsGrid g.grid) (limits : is_chunk c ≡ true) where
+  abbrev t : ℕ
+  t = target g c
+
+  abbrev drawn : List ℕ
+  drawn = drawn_in g c
+
+  abbrev ext : GridState
+  ext = extended g c
+
+  -- what the event changes where a region grows
+  abbrev ext_change : List ℕ → Changes
+  ext_change created = record { created = created; dead = drawn; merges = into t drawn; parts = [] }
+
+  pub add_full : is_full g c ≡ true → add g c ≡ g
+  unfolding add
+  add_full f = rw f refl
+
+  pub add_counted : is_full g c ≡ false → nat_eq (wanted g c) 0 ≡ true → add g c ≡ counted g c
+  unfolding add
+  add_counted f w = rw (f, w) refl
+
+  pub add_ext : is_full g c ≡ false → nat_eq (wanted g c) 0 ≡ false → add g c ≡ ext
+  unfolding add
+  add_ext f w = rw (f, w) refl
+
+  pub change_full : is_full g c ≡ true → add_change g c ≡ nothing
+  unfolding add_change
+  change_full f = rw f refl
+
+  pub change_counted : is_full g c ≡ false → nat_eq (wanted g c) 0 ≡ true → add_change g c ≡ nothing
+  unfolding add_change
+  change_counted f w = rw (f, w) refl
+
+  pub change_old : is_full g c ≡ false → nat_eq (wanted g c) 0 ≡ false → nat_eq t g.next ≡ false → add_change g c ≡ ext_change []
+  unfolding add_change
+  change_old f w n = rw (f, w, n) refl
+
+  pub change_new : is_full g c ≡ false → nat_eq (wanted g c) 0 ≡ false → nat_eq t g.next ≡ true → add_change g c ≡ ext_change (g.next ∷ [])
+  unfolding add_change
+  change_new f w n = rw (f, w, n) refl
+
+  -- an added hold of a chunk that was held needs no section
+  pub none_wanted : is_loaded g c ≡ true → nat_eq (wanted g c) 0 ≡ true
+  unfolding wanted
+  none_wanted l = let p : 0 < g.holds c = ltb-true 0 (g.holds c) l in
+      eq-eqb (wanted g c) 0 (count_by-none (is_wanted g c) (λ s. elim (cases_Bool (is_within (section_of g.grid c) g.grid.create s)) [
+        | inl e ↦ let here : is_present g s ≡ true = lt-ltb _ _ (rules.margin c s p (leb-true _ _ e)) in rw here refl
+        | inr e ↦ elim (cases_Bool (is_present g s)) [ inl here ↦ rw here refl | inr here ↦ rw (here, e) refl ]
+      ]) all_sections)
+
   module _ (owed tick : ℕ → ℕ) (recorded : ℕ → Recorded) (f : ℕ → Bag) (bags : (r : ℕ) → IsBagOf g tick owed recorded r (f r)) (zero : (r : ℕ) → g.next ≤ r → tick r ≡ 0) where
     -- a region that owes what it owed
     owes_same : (owed' : ℕ → ℕ) → ((r : ℕ) → owed' r ≡ owed r) → (r : ℕ) → IsBagOf g tick owed' recorded r (f r)
@@ -112,15 +162,6 @@ module _ (g : GridState) (c : ChunkPos) (rules : Rules g) (ok : IsGrid g.grid) (
       | inr s ↦ rw s refl
     ]
 
-    -- and it needs no section
-    none_wanted : is_loaded g c ≡ true → nat_eq (wanted g c) 0 ≡ true
-    unfolding wanted
-    none_wanted l = let p : 0 < g.holds c = ltb-true 0 (g.holds c) l in
-        eq-eqb (wanted g c) 0 (count_by-none (is_wanted g c) (λ s. elim (cases_Bool (is_within (section_of g.grid c) g.grid.create s)) [
-          | inl e ↦ let here : is_present g s ≡ true = lt-ltb _ _ (rules.margin c s p (leb-true _ _ e)) in rw here refl
-          | inr e ↦ elim (cases_Bool (is_present g s)) [ inl here ↦ rw here refl | inr here ↦ rw (here, e) refl ]
-        ]) all_sections)
-
     -- so it is none that makes a region grow
     not_grown : {P : Type 0} → nat_eq (wanted g c) 0 ≡ false → is_loaded g c ≡ true → P
     not_grown w l = absurd (true≢false (sym (none_wanted l) ∙ w))
@@ -150,9 +191,6 @@ module _ (g : GridState) (c : ChunkPos) (rules : Rules g) (ok : IsGrid g.grid) (
       next = omega arith;
     }
 
-    abbrev t : ℕ
-    t = target g c
-
     passes_on : (v : ℕ) → is_near_calm g c t ≡ true → g.waits t v ≡ true → target_waits g c v ≡ true
     unfolding target_waits
     passes_on v k h = or_right (is_near_ticking g c v) (some_below (λ u. is_near_calm g c u && g.waits u v) g.next)
@@ -164,15 +202,6 @@ module _ (g : GridState) (c : ChunkPos) (rules : Rules g) (ok : IsGrid g.grid) (
         let v = some_below-gives (g.waits t) g.next (rules.has_pair t e) in
         let z = target_transient g c rules ok limits v.0 (passes_on v.0 k v.2) in
         true≢false (sym h ∙ ap is_ready z))
-
-    abbrev drawn : List ℕ
-    drawn = drawn_in g c
-
-    abbrev ext : GridState
-    ext = extended g c
-
-    abbrev ext_change : List ℕ → Changes
-    ext_change created = record { created = created; dead = drawn; merges = into t drawn; parts = [] }
 
     -- a region other than the target owes a tick after it only where it did before
     other_owes : (h : ℕ → Bag) → parts.ChangedTo g c rules ok limits owed tick f h → (r : ℕ) → r ≢ t → owes ext h r ≡ true → owes g f r ≡ true
@@ -252,18 +281,6 @@ module _ (g : GridState) (c : ChunkPos) (rules : Rules g) (ok : IsGrid g.grid) (
     owed_target : is_full g c ≡ false → nat_eq (wanted g c) 0 ≡ false → owed_after_add g c owed t ≡ greatest_below (is_near_calm g c) owed g.next
     unfolding owed_after_add
     owed_target f w = let n : nat_eq t t ≡ true = eq-eqb t t refl in rw (f, w, n) refl
-
-    add_ext : is_full g c ≡ false → nat_eq (wanted g c) 0 ≡ false → add g c ≡ ext
-    unfolding add
-    add_ext f w = rw (f, w) refl
-
-    change_old : is_full g c ≡ false → nat_eq (wanted g c) 0 ≡ false → nat_eq t g.next ≡ false → add_change g c ≡ ext_change []
-    unfolding add_change
-    change_old f w n = rw (f, w, n) refl
-
-    change_new : is_full g c ≡ false → nat_eq (wanted g c) 0 ≡ false → nat_eq t g.next ≡ true → add_change g c ≡ ext_change (g.next ∷ [])
-    unfolding add_change
-    change_new f w n = rw (f, w, n) refl
 
     small_bags : (is_full g c ≡ true) ⊎ (nat_eq (wanted g c) 0 ≡ true) → AddedBags g (add g c) c (add_change g c) owed (owed_after_add g c owed) tick recorded f
     unfolding add add_change

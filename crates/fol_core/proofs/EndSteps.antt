@@ -48,7 +48,10 @@ use Rattle.fol_core.specs.declared.tables.Tables.{Tables}
 use Rattle.fol_core.specs.Answers.{end_event}
 use Rattle.fol_core.specs.AtEnd.{AtEnd}
 use Rattle.fol_core.specs.Hands.{at_rest, in_hands, since}
+use Rattle.fol_core.specs.Follows.{Settle}
 use Rattle.fol_core.specs.Released.{CanEnd, CanRelease, DropsHolds, EndsRegion, Loosens, heirs, parts_in, released_bags}
+use Rattle.fol_core.proofs.ReturnedBags.{back_order, returned_settle}
+use Rattle.fol_core.proofs.SettledBags.{settled_bags}
 use Rattle.fol_core.specs.Stands.{Fits, Stands}
 use Rattle.fol_core.specs.Ticks.{IsOut}
 use Rattle.fol_core.specs.Underway.{AreFit, Ends, HasRoomFor, MayAcceptAll, Midway, Underway}
@@ -304,7 +307,8 @@ module _ (t : Tables) (tick : Tick) (o : Opening) (h : List Entry) (m : Option â
     can_now : CanRelease t2.store t2.agenda.items g r (z.tick r) (z.owed r)
     can_now = record {
       joins = to.joins;
-      here = to.here;
+      order = back_order g r u.ends.ending.sound.rules u.ends.ending.sound.grid u.ends.ending.ticks z.tick z.owed z.recorded (bag_of t2.store) u.midway.stored.bags;
+      settles = returned_settle g r u.ends.ending.sound.rules u.ends.ending.sound.grid u.ends.ending.ticks z.tick z.owed z.recorded (bag_of t2.store) u.midway.stored.bags;
       follow = rw u.midway.stored.next to.follow;
       slots = omega (arith, to.few, u.room.slots);
       bags = have_bags (release g r) (tick_after_release g r z.tick) (owed_after_release g r z.owed) z.recorded (released_bags (release g r) (release_change g r) r (z.tick r) (z.owed r) (bag_of t2.store)) to.bags;
@@ -349,7 +353,7 @@ module _ (t : Tables) (tick : Tick) (o : Opening) (h : List Entry) (m : Option â
       next_now : next_of t3.store â‰¡ (release g r).next
       next_now = let e : next_of t3.store â‰¡ next_of t2.store + length (parts_in (release g r) (release_change g r) r) = let n = ends.next in rw u.midway.regions at n in omega (arith, e, u.midway.stored.next, to.next)
 
-      bags_now : bag_of t3.store â‰¡ released_bags (release g r) (release_change g r) r (z.tick r) (z.owed r) (bag_of t2.store)
+      bags_now : Settle (release g r) (released_bags (release g r) (release_change g r) r (z.tick r) (z.owed r) (bag_of t2.store)) (bag_of t3.store)
       bags_now = let e = u.midway.regions in let c = counter_now in let d = owed_now in let b = ends.bags in rw (e, c, d) at b
 
       end_fits : Fits t3 (released z r) (since o h)
@@ -361,7 +365,7 @@ module _ (t : Tables) (tick : Tick) (o : Opening) (h : List Entry) (m : Option â
           flat = flat_now;
           jobs = ends.tasks âˆ™ fun_ext job_now;
           next = next_now;
-          bags = Î» q. let e = bags_now in rw e (to.bags q);
+          bags = settled_bags (release g r) (tick_after_release g r z.tick) (owed_after_release g r z.owed) z.recorded (released_bags (release g r) (release_change g r) r (z.tick r) (z.owed r) (bag_of t2.store)) (bag_of t3.store) to.bags bags_now;
         };
         tickets = let e = ends.tickets in rw e u.midway.tickets;
         agenda = let a = ends.agenda in rw regions_now at a;

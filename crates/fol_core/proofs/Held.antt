@@ -14,7 +14,7 @@ use Rattle.fol_model.specs.declared.events.Entry.{Entry}
 use Rattle.fol_model.specs.Geometry.{is_chunk, section_of}
 use Rattle.fol_model.specs.Counting.{count_below}
 use Rattle.fol_model.specs.Counters.{owed_after_add}
-use Rattle.fol_model.specs.GridState.{GridState}
+use Rattle.fol_model.specs.GridState.{GridState, is_loaded}
 use Rattle.fol_model.specs.Add.{add, is_full}
 use Rattle.fol_model.specs.ActionStep.{Flat, Recorded}
 use Rattle.fol_model.specs.Holds.{loaded, posted}
@@ -28,6 +28,7 @@ use Rattle.fol_laws.proofs.NewCounters.{new_counters}
 use Rattle.fol_laws.proofs.NumberGrowth.{ids_grow, jobs_grow}
 use Rattle.fol_laws.proofs.WholeRuns.{Good}
 use Rattle.fol_regions.specs.Table.{grid_state}
+use Rattle.fol_regions.specs.Answers.{add_answer}
 use Rattle.fol_regions.specs.Changes.{add_change}
 use Rattle.fol_chunks.specs.Contents.{outside}
 use Rattle.fol_store.specs.Bag.{Bag}
@@ -35,13 +36,16 @@ use Rattle.fol_store.specs.Stock.{Stock, bag_of, flat_of, next_of}
 use Rattle.fol_core.specs.declared.tables.Tables.{Tables}
 use Rattle.fol_core.specs.Hands.{at_rest, in_hands, since}
 use Rattle.fol_core.specs.Bags.{IsBagOf}
-use Rattle.fol_core.specs.Follows.{CanCover, CanFollow, CanHold, Settle, changed_bags, followed, gaining}
+use Rattle.fol_core.specs.Follows.{CanCover, CanFollow, CanHold, CanSettle, ChangesTo, IsKnown, Settle, changed_bags, followed, gaining}
 use Rattle.fol_core.specs.Room.{HasGrown}
 use Rattle.fol_core.specs.Stands.{Stands}
 use Rattle.fol_core.proofs.Added.{AddedBags, added_bags, gained_bags, off_owed}
 use Rattle.fol_core.proofs.HandSteps.{hands_by, rest_by}
 use Rattle.fol_core.proofs.Longer.{good_of}
-use Rattle.fol_core.proofs.SettledBags.{can_gain, settled_bags}
+use Rattle.fol_core.proofs.GainedBags.{can_settle}
+use Rattle.fol_core.proofs.SettledBags.{settled_bags}
+use Rattle.fol_core.proofs.UnitedBags.{are_in_order}
+use Rattle.fol_core.proofs.AddBags.{calm_here}
 use Rattle.fol_core.proofs.TicketRuns.{tickets_most}
 use Rattle.fol_core.proofs.UnsettledBags.{have_bags, known_bag}
 
@@ -121,15 +125,24 @@ module _ (o : Opening) (h : List Entry) (t : Tables) (s : Stands o h t) where
     off_bags = gained_bags g (add g c) c (add_change g c) w.owed (owed_after_add g c w.owed) w.tick w.recorded (bag_of t.store) refl all_bags
         (add_keeps g c good.sound.rules good.sound.grid limits).given
 
-    can_follow : 1 ≤ t.store.slots → CanFollow t.store (add_change g c) ((add g c).owner (section_of g.grid c))
+    can_follow : 1 ≤ t.store.slots → CanFollow t.store (add_change g c)
     can_follow l = record {
       follow = rw s.fits.stored.next all_bags.follow;
       slots = omega (arith, all_bags.few);
       joins = all_bags.joins;
-      known = λ p. known_bag (add g c) w.tick (owed_after_add g c w.owed) w.recorded ((add g c).owner (section_of g.grid c)) ((add g c).owner (section_of g.grid c)) (changed_bags (add_change g c) (bag_of t.store))
-          (all_bags.bags ((add g c).owner (section_of g.grid c)))
-          ((add_keeps g c good.sound.rules good.sound.grid limits).owner_lives (section_of g.grid c) p);
+      order = are_in_order g w.tick w.owed w.recorded (bag_of t.store) s.fits.stored.bags;
     }
+
+    known : IsKnown (changed_bags (add_change g c) (bag_of t.store)) ((add g c).owner (section_of g.grid c))
+    known p = known_bag (add g c) w.tick (owed_after_add g c w.owed) w.recorded ((add g c).owner (section_of g.grid c)) ((add g c).owner (section_of g.grid c)) (changed_bags (add_change g c) (bag_of t.store))
+        (all_bags.bags ((add g c).owner (section_of g.grid c)))
+        ((add_keeps g c good.sound.rules good.sound.grid limits).owner_lives (section_of g.grid c) p)
+
+    settles : (h : ℕ → Bag) → ChangesTo (add_change g c) (bag_of t.store) h
+        → CanSettle (is_loaded g c) (add_answer g c) (add g c) c ((add g c).owner (section_of g.grid c)) (changed_bags (add_change g c) (bag_of t.store)) h
+    settles = can_settle g c good.sound.rules good.sound.grid limits (bag_of t.store) (λ r w d. (s.fits.stored.bags r).listed d w)
+        (calm_here g c good.sound.rules good.sound.grid limits w.owed w.tick w.recorded (bag_of t.store) s.fits.stored.bags)
+        (are_in_order g w.tick w.owed w.recorded (bag_of t.store) s.fits.stored.bags) known
 
     can_cover : CanCover t.agenda.items (add g c) (add_change g c) (followed (gaining g.grid g c) (add_change g c) (bag_of t.store))
     can_cover = record {
@@ -145,8 +158,8 @@ module _ (o : Opening) (h : List Entry) (t : Tables) (s : Stands o h t) where
       few = rw s.fits.regions (few_holds (omega (arith, room.size)) c);
       few_ids = rw s.fits.regions (few_next (omega (arith, room.size)));
       few_tickets = omega (arith, s.fits.tickets c, few_tickets c, room.size);
-      bags = rw (s.fits.regions, s.fits.grid) (can_follow room.bags);
-      near = rw (s.fits.regions, s.fits.grid) (λ fresh. can_gain g c (bag_of t.store) limits (λ r w d. (s.fits.stored.bags r).listed d w) (good.sound.rules.owner_lives (section_of g.grid c)));
+      bags = rw s.fits.regions (can_follow room.bags);
+      settles = rw (s.fits.regions, s.fits.grid) settles;
       covers = rw (s.fits.regions, s.fits.grid) can_cover;
       room = omega (arith, room.agenda);
       tickets = room.tickets;

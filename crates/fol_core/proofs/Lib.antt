@@ -40,6 +40,9 @@ pub mod TakenJobs
 pub mod ChunkLists
 pub mod GatheredBags
 pub mod SettledBags
+pub mod UnitedBags
+pub mod GainedBags
+pub mod ReturnedBags
 pub mod FinishedRuns
 pub mod ReleaseKept
 pub mod BegunHands

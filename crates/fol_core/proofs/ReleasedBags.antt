@@ -94,7 +94,7 @@ module _ (g : GridState) (r : ℕ) (rules : Rules g) (ok : IsGrid g.grid) (ticks
       (λ h. (and_parts (g.waits q r) (among q (numbers_below g.next)) h).0)
       (λ h. and_from (g.waits q r) (among q (numbers_below g.next)) h (in_numbers g.next q (waits_below q h)))
 
-  not_self : g.waits r r ≡ false
+  pub not_self : g.waits r r ≡ false
   not_self = false_from_ne_true (g.waits r r) (λ h. let x = rules.waiting r r h in absurd (cc))
 
   pub r_not_among : among r us ≡ false
@@ -103,7 +103,7 @@ module _ (g : GridState) (r : ℕ) (rules : Rules g) (ok : IsGrid g.grid) (ticks
   pub us_apart : Apart us
   us_apart = sorted_apart us (IsStrictlySortedBy-filter nat_cmp (λ u. g.waits u r) (numbers_below g.next) (numbers_sorted g.next))
 
-  waits_other : (q : ℕ) → g.waits q r ≡ true → q ≢ r
+  pub waits_other : (q : ℕ) → g.waits q r ≡ true → q ≢ r
   waits_other q w e = let x : g.waits r r ≡ true = rw e at w in true≢false (sym x ∙ not_self)
 
   -- who passes a pair on waits for r
@@ -152,7 +152,7 @@ module _ (g : GridState) (r : ℕ) (rules : Rules g) (ok : IsGrid g.grid) (ticks
     joined : JoinedInto r us back all
     joined = joined_into r us back r_not_among us_apart
 
-    waiting_rests : (u : ℕ) → g.waits u r ≡ true → rests g u ≡ true
+    pub waiting_rests : (u : ℕ) → g.waits u r ≡ true → rests g u ≡ true
     waiting_rests u w = rw (rules.waiting u r w) refl
 
     pub all_can_join : CanJoin (into r us) back
@@ -237,7 +237,7 @@ module _ (g : GridState) (r : ℕ) (rules : Rules g) (ok : IsGrid g.grid) (ticks
       unfolding release
       held_state q = rw waits refl
 
-      held_owner : (s : SectionPos) → after.owner s ≡ joined_owner g r s
+      pub held_owner : (s : SectionPos) → after.owner s ≡ joined_owner g r s
       unfolding release
       held_owner s = rw waits refl
 
@@ -279,11 +279,11 @@ module _ (g : GridState) (r : ℕ) (rules : Rules g) (ok : IsGrid g.grid) (ticks
 
     -- ---- r rests
     module _ (free : must_wait g r ≡ false) (stays : cleans g r ≡ false) where
-      rested_state : (q : ℕ) → after.state q ≡ (if nat_eq q r then Ready else g.state q)
+      pub rested_state : (q : ℕ) → after.state q ≡ (if nat_eq q r then Ready else g.state q)
       unfolding release
       rested_state q = rw (free, stays) refl
 
-      rested_owner : (s : SectionPos) → after.owner s ≡ g.owner s
+      pub rested_owner : (s : SectionPos) → after.owner s ≡ g.owner s
       unfolding release
       rested_owner s = rw (free, stays) refl
 
@@ -317,11 +317,11 @@ module _ (g : GridState) (r : ℕ) (rules : Rules g) (ok : IsGrid g.grid) (ticks
 
     -- ---- r is cleaned
     module _ (free : must_wait g r ≡ false) (cleaning : cleans g r ≡ true) where
-      cleaned_state : (q : ℕ) → after.state q ≡ (if is_part_id g r q then Ready else (if nat_eq q r then (if nat_eq (parts g r) 1 then Ready else Dead) else (if g.waits q r then Dead else g.state q)))
+      pub cleaned_state : (q : ℕ) → after.state q ≡ (if is_part_id g r q then Ready else (if nat_eq q r then (if nat_eq (parts g r) 1 then Ready else Dead) else (if g.waits q r then Dead else g.state q)))
       unfolding release
       cleaned_state q = rw (free, cleaning) refl
 
-      cleaned_owner : (s : SectionPos) → after.owner s ≡ (if nat_eq (joined_owner g r s) r then (if in_margin g s then part_id g r s else 0) else g.owner s)
+      pub cleaned_owner : (s : SectionPos) → after.owner s ≡ (if nat_eq (joined_owner g r s) r then (if in_margin g s then part_id g r s else 0) else g.owner s)
       unfolding release
       cleaned_owner s = rw (free, cleaning) refl
 
@@ -352,7 +352,7 @@ module _ (g : GridState) (r : ℕ) (rules : Rules g) (ok : IsGrid g.grid) (ticks
 
       -- one part keeps the id
       module _ (one : nat_eq (parts g r) 1 ≡ true) where
-        no_part_id : (q : ℕ) → is_part_id g r q ≡ false
+        pub no_part_id : (q : ℕ) → is_part_id g r q ≡ false
         no_part_id q = let e : parts g r ≡ 1 = eqb-true _ _ one in rw e refl
 
         cleaned_chunk : us ≡ [] → (c : ChunkPos) → is_chunk_of after r c ≡ is_chunk_of g r c

@@ -14,7 +14,7 @@ use Rattle.fol_regions.specs.Changes.{Changes, into, waiting_for, part_ids, rele
 use Rattle.fol_store.specs.Bag.{Bag, put_back}
 use Rattle.fol_core.specs.Agenda.{Covers, owes}
 use Rattle.fol_core.specs.Bags.{CanJoin, Follow, IsBagOf, joined_bags}
-use Rattle.fol_core.specs.Released.{heirs, parted, parts_in, rejoined, released_bags}
+use Rattle.fol_core.specs.Released.{heirs, parted, parts_in, released_bags}
 use Rattle.fol_core.proofs.JoinedBags.{behind, in_front}
 use Rattle.fol_core.proofs.PartIds.{parts_count, parts_few, parts_follow}
 use Rattle.fol_core.proofs.ReleasedBags as rb
@@ -22,7 +22,6 @@ use Rattle.fol_core.proofs.ReleasedBags as rb
 -- ---- what holds of the bags k after the release of r, by which g became h
 pub record ReleasedTo (g h : GridState) (r : ℕ) (ch : Changes) (tick owed later left : ℕ → ℕ) (recorded : ℕ → Recorded) (f : ℕ → Bag) : Type 0 where
   pub joins : CanJoin ch.merges (at_id f r (put_back (tick r) (owed r) (f r)))
-  pub here : (rejoined ch r (tick r) (owed r) f r).here ≡ true
   pub follow : Follow g.next (parts_in h ch r)
   pub few : length (parts_in h ch r) ≤ 1820
   pub few_heirs : length (heirs h ch r) ≤ 1820
@@ -53,9 +52,6 @@ module _ (g : GridState) (r : ℕ) (rules : Rules g) (ok : IsGrid g.grid) (ticks
   abbrev left : ℕ → ℕ
   left = owed_after_release g r owed
 
-  all_here : (all r).here ≡ true
-  all_here = rb.all_here g r rules ok ticks tick owed recorded f bags
-
   -- r lives on: it is the one that may owe a tick now
   lives_on : (ch : Changes) → ch.merges ≡ into r us → is_dead (h.state r) ≡ false → h.next ≡ g.next → ((q : ℕ) → IsBagOf h later left recorded q (all q))
       → ((q : ℕ) → q ≢ r → is_ready (h.state q) ≡ true → (g.waits q r ≡ false) × (h.state q ≡ g.state q)) → ReleasedTo g h r ch tick owed later left recorded f
@@ -63,7 +59,6 @@ module _ (g : GridState) (r : ℕ) (rules : Rules g) (ok : IsGrid g.grid) (ticks
       let same : released_bags h ch r (tick r) (owed r) f ≡ all = rw (d, m) refl in
       record {
         joins = rw m (rb.all_can_join g r rules ok ticks tick owed recorded f bags);
-        here = rw m all_here;
         follow = rw d tt;
         few = rw d (omega arith);
         few_heirs = rw d (omega arith);
@@ -124,7 +119,6 @@ module _ (g : GridState) (r : ℕ) (rules : Rules g) (ok : IsGrid g.grid) (ticks
       let count = parts_count g r in
       record {
         joins = rw merges (rb.all_can_join g r rules ok ticks tick owed recorded f bags);
-        here = rw merges all_here;
         follow = rw (dead, ids) (parts_follow g r);
         few = rw (dead, ids) (parts_few g r rules ok ticks w k);
         few_heirs = rw (dead, ids) (parts_few g r rules ok ticks w k);

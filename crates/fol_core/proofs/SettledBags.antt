@@ -5,7 +5,7 @@ use Rattle.std.specs.List.{list_any}
 use Rattle.std.specs.List.Sorted.{IsStrictlySortedBy}
 use Rattle.std.specs.Ordering.{eq_by_cmp}
 use Rattle.std.proofs.Math.Path.{fun_ext}
-use Rattle.std.proofs.lemmas.Bool.{cases_Bool, cases_eq, eqb-true, eq-eqb, ne_eqb, lt-ltb, ltb-true, true≢false, and_right}
+use Rattle.std.proofs.lemmas.Bool.{cases_Bool, cases_eq, eqb-true, eq-eqb, ne_eqb, lt-ltb, ltb-true, true≢false, and_from, and_right, or_right}
 use Rattle.fol_model.specs.declared.places.ChunkPos.{ChunkPos}
 use Rattle.fol_model.specs.Geometry.{is_chunk, same_chunk, section_of}
 use Rattle.fol_model.specs.Universe.{all_chunks}
@@ -115,68 +115,53 @@ narrows g c r b one is w =
           ∙ sym (listed (is_chunk_of (drop_hold g c) r) all_chunks q),
     )
 
-counted_when : (g : GridState) (c : ChunkPos) → add_answer g c ≡ Counted → (is_full g c ≡ false) × (nat_eq (wanted g c) 0 ≡ true)
-counted_when g c e = elim (cases_Bool (is_full g c)) [
-  | inl f ↦ let x : Full (present_count g) (wanted g c) ≡ Counted = rw f at e in absurd (cc)
-  | inr f ↦ elim (cases_Bool (nat_eq (wanted g c) 0)) [
-    | inl w ↦ (f, w)
-    | inr w ↦ let x : Changed ≡ Counted = rw (f, w) at e in absurd (cc)
-  ]
-]
-
--- the grid after a hold of a chunk that comes alone, and nothing else
-counted_grid : (g : GridState) (c : ChunkPos) → add_answer g c ≡ Counted → add g c ≡ counted g c
-unfolding add
-counted_grid g c e = let w = counted_when g c e in let a = w.0 in let b = w.1 in rw (a, b) refl
-
-counted_change : (g : GridState) (c : ChunkPos) → add_answer g c ≡ Counted → add_change g c ≡ nothing
-unfolding add_change
-counted_change g c e = let w = counted_when g c e in let a = w.0 in let b = w.1 in rw (a, b) refl
-
--- after the first hold of c
-widens : (g : GridState) (c : ChunkPos) (r : ℕ) (b : Bag) → is_chunk c ≡ true → g.owner (section_of g.grid c) ≡ r → (b.listed ≡ true → b.chunks ≡ filter (is_chunk_of g r) all_chunks) → Widens (counted g c) c r b
-widens g c r b limits mine is w =
+-- a chunk comes to a region
+pub widens : (g h : GridState) (c : ChunkPos) (r : ℕ) (b : Bag) → is_chunk c ≡ true → is_chunk_of h r c ≡ true → ((q : ChunkPos) → q ≢ c → is_chunk_of h r q ≡ is_chunk_of g r q)
+    → (b.listed ≡ true → b.chunks ≡ filter (is_chunk_of g r) all_chunks) → Widens h c r b
+widens g h c r b limits mine others is w =
     let e : b.chunks ≡ filter (is_chunk_of g r) all_chunks = is w in
-    let P : List ChunkPos → Type 0 = λ xs. IsStrictlySortedBy chunk_cmp xs × ((q : ChunkPos) → (is_recorded xs q || same_chunk c q) ≡ is_recorded (filter (is_chunk_of (counted g c) r) all_chunks) q) in
+    let P : List ChunkPos → Type 0 = λ xs. IsStrictlySortedBy chunk_cmp xs × ((q : ChunkPos) → (is_recorded xs q || same_chunk c q) ≡ is_recorded (filter (is_chunk_of h r) all_chunks) q) in
     subst P (sym e) (
       kept_sorted (is_chunk_of g r),
       λ q.
           ap (λ z. z || same_chunk c q) (listed (is_chunk_of g r) all_chunks q)
           ∙ come q
-          ∙ sym (listed (is_chunk_of (counted g c) r) all_chunks q),
+          ∙ sym (listed (is_chunk_of h r) all_chunks q),
     )
   where
-    come : (q : ChunkPos) → ((is_chunk_of g r q && is_recorded all_chunks q) || same_chunk c q) ≡ (is_chunk_of (counted g c) r q && is_recorded all_chunks q)
+    come : (q : ChunkPos) → ((is_chunk_of g r q && is_recorded all_chunks q) || same_chunk c q) ≡ (is_chunk_of h r q && is_recorded all_chunks q)
     come q = elim (cases_Bool (same_chunk c q)) [
       | inl s ↦
           let same : c ≡ q = same_chunk-true c q s in
           let there : is_recorded all_chunks q ≡ true = ap (is_recorded all_chunks) (sym same) ∙ in_all c limits in
-          let held : nat_lt 0 (g.holds c + 1) ≡ true = lt-ltb 0 (g.holds c + 1) (omega arith) in
-          let own : nat_eq (g.owner (section_of g.grid q)) r ≡ true = eq-eqb _ r (ap (λ z. g.owner (section_of g.grid z)) (sym same) ∙ mine) in
-          rw (s, there, held, own) (last (nat_lt 0 (g.holds q) && true))
-      | inr s ↦ rw s (none (is_chunk_of g r q && is_recorded all_chunks q))
+          let own : is_chunk_of h r q ≡ true = ap (is_chunk_of h r) (sym same) ∙ mine in
+          or_right (is_chunk_of g r q && is_recorded all_chunks q) (same_chunk c q) s ∙ sym (and_from (is_chunk_of h r q) (is_recorded all_chunks q) own there)
+      | inr s ↦
+          let d : q ≢ c = λ x. true≢false (sym (ap (same_chunk c) x ∙ same_chunk-self c) ∙ s) in
+          rw s (none (is_chunk_of g r q && is_recorded all_chunks q)) ∙ ap (λ z. z && is_recorded all_chunks q) (sym (others q d))
     ]
       where
-        last : (x : Bool) → ((x && true) || true) ≡ true
-        last true = refl
-        last false = refl
-
         none : (x : Bool) → (x || false) ≡ x
         none true = refl
         none false = refl
 
--- a chunk that comes alone
-pub can_gain : (g : GridState) (c : ChunkPos) (f : ℕ → Bag) → is_chunk c ≡ true → ((r : ℕ) → (f r).listed ≡ true → g.state r ≢ Dead → (f r).chunks ≡ filter (is_chunk_of g r) all_chunks)
-    → (0 < g.owner (section_of g.grid c) → g.state (g.owner (section_of g.grid c)) ≢ Dead)
-    → CanGain (add_answer g c) (add g c) c ((add g c).owner (section_of g.grid c)) (changed_bags (add_change g c) f ((add g c).owner (section_of g.grid c)))
-can_gain g c f limits is lives e l =
-    let a : add g c ≡ counted g c = counted_grid g c e in
-    let b : add_change g c ≡ nothing = counted_change g c e in
-    let P : GridState → Changes → Type 0 = λ h ch. Widens h c (h.owner (section_of g.grid c)) (changed_bags ch f (h.owner (section_of g.grid c))) in
-    let r : ℕ = g.owner (section_of g.grid c) in
-    let p : 0 < r = rw a at l in
-    let here : P (counted g c) nothing = widens g c r (f r) limits refl (λ w. is r w (lives p)) in
-    subst (λ h. P h (add_change g c)) (sym a) (subst (P (counted g c)) (sym b) here)
+-- a chunk comes alone, to the region that has its section
+pub widens_alone : (g : GridState) (c : ChunkPos) (f : ℕ → Bag) → is_chunk c ≡ true → ((r : ℕ) → (f r).listed ≡ true → g.state r ≢ Dead → (f r).chunks ≡ filter (is_chunk_of g r) all_chunks)
+    → g.state (g.owner (section_of g.grid c)) ≢ Dead → Widens (counted g c) c (g.owner (section_of g.grid c)) (f (g.owner (section_of g.grid c)))
+widens_alone g c f limits is lives = widens g (counted g c) c r (f r) limits mine others (λ w. is r w lives)
+  where
+    r : ℕ
+    r = g.owner (section_of g.grid c)
+
+    mine : is_chunk_of (counted g c) r c ≡ true
+    mine =
+        let s : same_chunk c c ≡ true = same_chunk-self c in
+        let held : nat_lt 0 (g.holds c + 1) ≡ true = lt-ltb 0 (g.holds c + 1) (omega arith) in
+        let own : nat_eq r r ≡ true = eq-eqb r r refl in
+        rw (s, held, own) refl
+
+    others : (q : ChunkPos) → q ≢ c → is_chunk_of (counted g c) r q ≡ is_chunk_of g r q
+    others q d = elim (cases_Bool (same_chunk c q)) [ inl s ↦ absurd (d (sym (same_chunk-true c q s))) | inr s ↦ rw s refl ]
 
 pub settled_bags : (g : GridState) (tick owed : ℕ → ℕ) (recorded : ℕ → Recorded) (f k : ℕ → Bag) → ((r : ℕ) → IsBagOf g tick owed recorded r (f r)) → Settle g f k → (r : ℕ) → IsBagOf g tick owed recorded r (k r)
 settled_bags g tick owed recorded f k is s r = gathered_bag g tick owed recorded r (f r) (k r) (is r) (s r)

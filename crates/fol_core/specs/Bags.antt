@@ -10,6 +10,7 @@ use Rattle.fol_model.specs.World.{World}
 use Rattle.fol_chunks.specs.Contents.{outside}
 use Rattle.fol_regions.specs.declared.change.MergePair.{MergePair}
 use Rattle.fol_store.specs.Bag.{Bag, no_bag, new_bag}
+use Rattle.fol_store.specs.Relisted.{IsInOrder, United}
 use Rattle.fol_store.specs.Stock.{Stock, flat_of, jobs_of, bag_of, next_of}
 use Rattle.fol_core.specs.Hands.{at_rest, in_hands, rests}
 
@@ -41,6 +42,29 @@ joined_bag m f = at_id (at_id f m.from no_bag) m.into (record (f m.into) { owed 
 abbrev pub joined_bags : List MergePair → (ℕ → Bag) → ℕ → Bag
 joined_bags [] f = f
 joined_bags (m ∷ ms) f = joined_bags ms (joined_bag m f)
+
+-- the bag stays but that it may be listed for other chunks, unless it was taken out
+pub record Alike (old new : Bag) : Type 0 where
+  pub here : new.here ≡ old.here
+  pub taken : new.taken ≡ old.taken
+  pub counter : new.tick ≡ old.tick
+  pub owes : new.owed ≡ old.owed
+  pub out : old.taken ≡ true → new.chunks ≡ old.chunks
+
+-- one region joins another, whose bag may be listed for the chunks of both
+pub record JoinsOne (m : MergePair) (f h : ℕ → Bag) : Type 0 where
+  pub gone : h m.from ≡ no_bag
+  pub own : United (f m.from) (f m.into) (h m.into)
+  pub others : (r : ℕ) → r ≢ m.from → r ≢ m.into → h r ≡ f r
+
+-- regions join others one after another, and f becomes h
+abbrev pub Joins : List MergePair → (ℕ → Bag) → (ℕ → Bag) → Type 0
+Joins [] f h = h ≡ f
+Joins (m ∷ ms) f h = (k : ℕ → Bag) × JoinsOne m f k × Joins ms k h
+
+-- the chunks of each listed bag that is here stand in their order
+abbrev pub AreInOrder : (ℕ → Bag) → Type 0
+AreInOrder f = (r : ℕ) → (f r).here ≡ true → IsInOrder (f r)
 
 -- both regions of each pair have a bag when they join
 abbrev pub CanJoin : List MergePair → (ℕ → Bag) → Type 0

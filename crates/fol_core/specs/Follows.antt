@@ -1,5 +1,5 @@
 -- What follows in the store and in the stack when a hold is added.
-use Rattle.std.specs.Prelude.{ℕ, ◌≡◌, ◌+◌, ◌-◌, ◌≤◌, ◌<◌, ◌^◌, Bool, true, false, ◌||◌, ◌&&◌, not, filter, Some, nat_eq, if◌then◌else◌, List, [], ◌∷◌, ◌++◌, length, vec_len, vec_capacity, IsTrue}
+use Rattle.std.specs.Prelude.{ℕ, ◌≡◌, ◌+◌, ◌-◌, ◌≤◌, ◌<◌, ◌^◌, Bool, true, false, ◌||◌, ◌&&◌, not, filter, Some, nat_eq, if◌then◌else◌, List, [], ◌∷◌, ◌++◌, ◌≢◌, ◌⊎◌, length, vec_len, vec_capacity, IsTrue}
 use Rattle.std.specs.HashMap.{spare as room_in}
 use Rattle.std.specs.List.Sorted.{IsStrictlySortedBy}
 use Rattle.fol_model.specs.declared.places.ChunkPos.{ChunkPos}
@@ -24,13 +24,13 @@ use Rattle.fol_sections.specs.Places.{count_at}
 use Rattle.fol_regions.specs.Table.{grid_state}
 use Rattle.fol_regions.specs.Changes.{Changes, add_change}
 use Rattle.fol_regions.specs.declared.answers.AddAnswer.{AddAnswer}
-use Rattle.fol_regions.specs.declared.answers.AddAnswer.TheVariants.{Counted}
+use Rattle.fol_regions.specs.declared.answers.AddAnswer.TheVariants.{Changed, Counted, Full}
 use Rattle.fol_regions.specs.Answers.{add_answer}
 use Rattle.fol_regions.specs.declared.change.MergePair.{MergePair}
 use Rattle.fol_store.specs.Bag.{Bag}
 use Rattle.fol_store.specs.Stock.{Stock, bag_of, flat_of, jobs_of, next_of}
 use Rattle.fol_core.specs.declared.tables.Tables.{Tables}
-use Rattle.fol_core.specs.Bags.{CanJoin, Follow, joined_bags, opened_bags, unsettled_at}
+use Rattle.fol_core.specs.Bags.{Alike, AreInOrder, CanJoin, Follow, Joins, joined_bags, opened_bags, unsettled_at}
 use Rattle.fol_core.specs.Begun.{Gathered}
 use Rattle.fol_core.specs.Agenda.{Covers, HaveBags, IsAgenda}
 use Rattle.fol_core.specs.Same.{SameThings}
@@ -55,9 +55,15 @@ Narrows g c r b = b.listed ≡ true → IsStrictlySortedBy chunk_cmp b.chunks ×
 abbrev pub Widens : GridState → ChunkPos → ℕ → Bag → Type 0
 Widens g c r b = b.listed ≡ true → IsStrictlySortedBy chunk_cmp b.chunks × ((q : ChunkPos) → (is_recorded b.chunks q || same_chunk c q) ≡ is_recorded (filter (is_chunk_of g r) all_chunks) q)
 
--- where the chunk c comes alone, the region r that has it then has a bag that is listed for the others, if for any
+-- whether the hold was added
+abbrev pub is_added : AddAnswer → Bool
+is_added Counted = true
+is_added Changed = true
+is_added (Full present wanted) = false
+
+-- where the hold was added, the region r that has the chunk c then has a bag that is listed for the others, if for any
 abbrev pub CanGain : AddAnswer → GridState → ChunkPos → ℕ → Bag → Type 0
-CanGain a g c r b = a ≡ Counted → 0 < r → Widens g c r b
+CanGain a g c r b = is_added a ≡ true → 0 < r → Widens g c r b
 
 -- the region r of a chunk c that is held once has a bag that is listed for its chunks, if for any
 abbrev pub CanLose : GridState → ChunkPos → ℕ → (ℕ → Bag) → Type 0
@@ -66,6 +72,10 @@ CanLose g c r f = 0 < r → nat_eq (g.holds c) 1 ≡ true → Narrows (drop_hold
 -- the new regions come, and then some join
 abbrev pub changed_bags : Changes → (ℕ → Bag) → ℕ → Bag
 changed_bags ch f = joined_bags ch.merges (opened_bags 0 0 ch.created f)
+
+-- the new regions come, and then some join, whose bags may be listed for the chunks of all that joined
+abbrev pub ChangesTo : Changes → (ℕ → Bag) → (ℕ → Bag) → Type 0
+ChangesTo ch f h = Joins ch.merges (opened_bags 0 0 ch.created f) h
 
 -- the region r, if it is one, has other chunks, too
 abbrev pub followed : ℕ → Changes → (ℕ → Bag) → ℕ → Bag
@@ -80,12 +90,19 @@ target_in (m ∷ ms) = m.into ∷ []
 abbrev pub IsKnown : (ℕ → Bag) → ℕ → Type 0
 IsKnown f r = 0 < r → ((f r).here || (f r).taken) ≡ true
 
--- the bags can follow a change, after which the region r has other chunks
-pub record CanFollow (k : Stock) (ch : Changes) (r : ℕ) : Type 0 where
+-- the bags h stand for the bags f in the grid g, but that the region r, if it is one, has the chunk c more, where that was not held
+pub record CanSettle (held : Bool) (a : AddAnswer) (g : GridState) (c : ChunkPos) (r : ℕ) (f h : ℕ → Bag) : Type 0 where
+  pub known : IsKnown h r
+  pub others : (u : ℕ) → (held ≡ true) ⊎ (0 < r → u ≢ r) → Gathered g u (f u) (h u)
+  pub own : Alike (f r) (h r)
+  pub near : held ≡ false → CanGain a g c r (h r)
+
+-- the bags can follow a change
+pub record CanFollow (k : Stock) (ch : Changes) : Type 0 where
   pub follow : Follow (next_of k) ch.created
   pub slots : length ch.created ≤ k.slots
   pub joins : CanJoin ch.merges (opened_bags 0 0 ch.created (bag_of k))
-  pub known : IsKnown (changed_bags ch (bag_of k)) r
+  pub order : AreInOrder (bag_of k)
 
 -- the stack can follow to the grid h
 pub record CanCover (xs : List ℕ) (h : GridState) (ch : Changes) (f : ℕ → Bag) : Type 0 where
@@ -99,8 +116,9 @@ pub record CanHold (t : Tables) (c : ChunkPos) : Type 0 where
   pub few : (grid_state t.regions).holds c < 2 ^ 62
   pub few_ids : (grid_state t.regions).next < 2 ^ 62
   pub few_tickets : count_at t.tickets.entries c < 2 ^ 62
-  pub bags : CanFollow t.store (add_change (grid_state t.regions) c) ((add (grid_state t.regions) c).owner (section_of t.grid c))
-  pub near : is_loaded (grid_state t.regions) c ≡ false → CanGain (add_answer (grid_state t.regions) c) (add (grid_state t.regions) c) c ((add (grid_state t.regions) c).owner (section_of t.grid c)) (changed_bags (add_change (grid_state t.regions) c) (bag_of t.store) ((add (grid_state t.regions) c).owner (section_of t.grid c)))
+  pub bags : CanFollow t.store (add_change (grid_state t.regions) c)
+  pub settles : (h : ℕ → Bag) → ChangesTo (add_change (grid_state t.regions) c) (bag_of t.store) h
+      → CanSettle (is_loaded (grid_state t.regions) c) (add_answer (grid_state t.regions) c) (add (grid_state t.regions) c) c ((add (grid_state t.regions) c).owner (section_of t.grid c)) (changed_bags (add_change (grid_state t.regions) c) (bag_of t.store)) h
   pub covers : CanCover t.agenda.items (add (grid_state t.regions) c) (add_change (grid_state t.regions) c) (followed (gaining t.grid (grid_state t.regions) c) (add_change (grid_state t.regions) c) (bag_of t.store))
   pub room : vec_len t.agenda < vec_capacity t.agenda
   pub tickets : 1 ≤ room_in t.tickets
@@ -112,7 +130,7 @@ pub record Holds (old new : Tables) (c : ChunkPos) : Type 0 where
   pub bags : Settle (grid_state new.regions) (followed (gaining old.grid (grid_state old.regions) c) (add_change (grid_state old.regions) c) (bag_of old.store)) (bag_of new.store)
   pub things : SameThings old.store new.store
   pub next : next_of new.store ≡ next_of old.store + length (add_change (grid_state old.regions) c).created
-  pub spare : new.store.spare ≡ old.store.spare
+  pub spare : old.store.spare ≤ new.store.spare
   pub agenda : IsAgenda new.agenda.items (grid_state new.regions) (bag_of new.store)
   pub course : new.course ≡ old.course
 

@@ -19,7 +19,8 @@ use Rattle.fol_regions.specs.Table.{grid_state}
 use Rattle.fol_core.specs.declared.tables.Tables.{Tables}
 use Rattle.fol_core.specs.Same.{SameThings}
 use Rattle.fol_core.specs.Agenda.{Covers, HaveBags, IsAgenda}
-use Rattle.fol_core.specs.Bags.{CanJoin, Follow, joined_bags}
+use Rattle.fol_core.specs.Bags.{AreInOrder, CanJoin, Follow, Joins, joined_bags}
+use Rattle.fol_core.specs.Follows.{Settle}
 
 -- of a part: it has the numbers of the region that fell apart, and nothing was gathered for it
 abbrev pub part_bag : ℕ → ℕ → Bag
@@ -37,9 +38,13 @@ rejoined ch r tick owed f = joined_bags ch.merges (at_id f r (put_back tick owed
 abbrev pub parted : List ℕ → ℕ → (ℕ → Bag) → ℕ → Bag
 parted ids r f = opened_parts (f r).tick (f r).owed ids (at_id f r no_bag)
 
+-- the region r, whose bag came back among f, is over and its parts begin, where that is so in the grid h
+abbrev pub parted_in : GridState → Changes → ℕ → (ℕ → Bag) → ℕ → Bag
+parted_in h ch r f = if is_dead (h.state r) then parted ch.parts r f else f
+
 -- after the release of r, which led to the grid h by this change
 abbrev pub released_bags : GridState → Changes → ℕ → ℕ → ℕ → (ℕ → Bag) → ℕ → Bag
-released_bags h ch r tick owed f = if is_dead (h.state r) then parted ch.parts r (rejoined ch r tick owed f) else rejoined ch r tick owed f
+released_bags h ch r tick owed f = parted_in h ch r (rejoined ch r tick owed f)
 
 -- the parts of r, where r is over
 abbrev pub parts_in : GridState → Changes → ℕ → List ℕ
@@ -52,7 +57,9 @@ heirs h ch r = if is_dead (h.state r) then ch.parts else (r ∷ [])
 -- bags and stack can follow the release of r, which comes back with these numbers
 pub record CanRelease (k : Stock) (xs : List ℕ) (g : GridState) (r tick owed : ℕ) : Type 0 where
   pub joins : CanJoin (release_change g r).merges (at_id (bag_of k) r (put_back tick owed (bag_of k r)))
-  pub here : (rejoined (release_change g r) r tick owed (bag_of k) r).here ≡ true
+  pub order : AreInOrder (at_id (bag_of k) r (put_back tick owed (bag_of k r)))
+  pub settles : (h : ℕ → Bag) → Joins (release_change g r).merges (at_id (bag_of k) r (put_back tick owed (bag_of k r))) h
+      → ((h r).here ≡ true) × Settle (release g r) (released_bags (release g r) (release_change g r) r tick owed (bag_of k)) (parted_in (release g r) (release_change g r) r h)
   pub follow : Follow (next_of k) (parts_in (release g r) (release_change g r) r)
   pub slots : length (parts_in (release g r) (release_change g r) r) ≤ k.slots
   pub bags : HaveBags (release g r) (released_bags (release g r) (release_change g r) r tick owed (bag_of k))
@@ -86,7 +93,7 @@ pub record EndsRegion (old new : Tables) (r : ℕ) (body : RegionData) : Type 0 
   pub regions : grid_state new.regions ≡ release (grid_state old.regions) r
   pub contents : flat_of new.store ≡ joined (flat_of old.store) (contents_of body.chunks)
   pub tasks : jobs_of new.store ≡ λ n. option_or (jobs_of old.store n) (rests_of body n)
-  pub bags : bag_of new.store ≡ released_bags (release (grid_state old.regions) r) (release_change (grid_state old.regions) r) r body.tick body.owed (bag_of old.store)
+  pub bags : Settle (release (grid_state old.regions) r) (released_bags (release (grid_state old.regions) r) (release_change (grid_state old.regions) r) r body.tick body.owed (bag_of old.store)) (bag_of new.store)
   pub next : next_of new.store ≡ next_of old.store + length (parts_in (release (grid_state old.regions) r) (release_change (grid_state old.regions) r) r)
   pub agenda : IsAgenda new.agenda.items (grid_state new.regions) (bag_of new.store)
   pub grid : new.grid ≡ old.grid

@@ -1,43 +1,27 @@
 //! The bags of the store follow the regions.
 
-ghost use Rattle.std.specs.Prelude.{◌≡◌, ℕ, ◌+◌, ◌≤◌, ◌^◌, ◌≢◌, length, true};
+ghost use Rattle.std.specs.Prelude.{◌≡◌, ℕ, ◌+◌, ◌≤◌, ◌^◌, length, true};
 ghost use Rattle.std.specs.List.{AllByRecursion};
 ghost use Rattle.fol_store.specs.Stock.{bag_of, flat_of, jobs_of, next_of};
-ghost use Rattle.fol_core.specs.Bags.{CanJoin, Follow, joined_bag, joined_bags, opened_bags, owing_bags};
+ghost use Rattle.fol_core.specs.Bags.{AreInOrder, CanJoin, Follow, Joins, opened_bags, owing_bags};
 ghost use Rattle.fol_core.specs.Same.{SameThings};
 
 use fol_regions::MergePair;
 use fol_store::Store;
 
-/// Each region of the pairs joins the other one: the other owes the greater number, and its bag has to be gathered anew.
+/// Each region of the pairs joins the other one, which then owes the greater number, and whose bag may be listed for the chunks of both.
 pub(crate) fn join(store: &mut Store, merges: &[MergePair])
     requires can { CanJoin merges.now (bag_of store.old) }
-    ensures bags { bag_of store.new ≡ joined_bags merges.now (bag_of store.old) }
+    requires order { AreInOrder (bag_of store.old) }
+    ensures bags { Joins merges.now (bag_of store.old) (bag_of store.new) }
     ensures things { SameThings store.old store.new }
     ensures next { next_of store.new ≡ next_of store.old }
-    ensures spare { store.new.spare ≡ store.old.spare }
-    ensures slots { store.new.slots ≡ store.old.slots }
+    ensures spare { store.old.spare ≤ store.new.spare }
+    ensures slots { store.old.slots ≤ store.new.slots }
 {
     for pair in merges {
-        join_pair(store, *pair);
+        store.unite(pair.from, pair.into);
     }
-}
-
-/// One region joins another.
-fn join_pair(store: &mut Store, pair: MergePair)
-    requires from { (bag_of store.old pair.from).here ≡ true }
-    requires into { (bag_of store.old pair.into).here ≡ true }
-    requires differ { pair.from ≢ pair.into }
-    ensures bags { bag_of store.new ≡ joined_bag pair (bag_of store.old) }
-    ensures things { SameThings store.old store.new }
-    ensures next { next_of store.new ≡ next_of store.old }
-    ensures spare { store.new.spare ≡ store.old.spare }
-    ensures slots { store.new.slots ≡ store.old.slots }
-{
-    let owed = store.owed(pair.from).max(store.owed(pair.into));
-    store.close(pair.from);
-    store.set_owed(pair.into, owed);
-    store.unsettle(pair.into);
 }
 
 /// New regions get bags with these numbers.

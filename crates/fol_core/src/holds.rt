@@ -1,6 +1,6 @@
 //! Tickets of chunks.
 
-ghost use Rattle.std.specs.Prelude.{◌≡◌, false, ◌+◌, ◌≤◌, ◌<◌, ◌++◌, IsTrue, IfOk, OnErr, vec_len, vec_capacity, length, nat_eq, if◌then◌else◌};
+ghost use Rattle.std.specs.Prelude.{◌≡◌, ℕ, false, ◌+◌, ◌≤◌, ◌<◌, ◌++◌, IsTrue, IfOk, OnErr, vec_len, vec_capacity, length, nat_eq, if◌then◌else◌};
 ghost use Rattle.fol_model.specs.declared.places.ChunkPos.{ChunkPos};
 ghost use Rattle.fol_model.specs.Geometry.{is_chunk, section_of as section_around};
 ghost use Rattle.fol_model.specs.Add.{is_full};
@@ -9,10 +9,11 @@ ghost use Rattle.fol_sections.specs.Places.{count_at};
 ghost use Rattle.fol_regions.specs.Table.{grid_state};
 ghost use Rattle.fol_regions.specs.Answers.{add_answer};
 ghost use Rattle.fol_regions.specs.Changes.{add_change};
+ghost use Rattle.fol_store.specs.Bag.{Bag};
 ghost use Rattle.fol_store.specs.Stock.{bag_of, next_of};
 ghost use Rattle.fol_core.specs.Answers.{LoadRecords, UnloadRecords, load_result, unload_result};
-ghost use Rattle.fol_core.specs.Bags.{CanJoin, Follow, opened_bags, unsettled_at};
-ghost use Rattle.fol_core.specs.Follows.{CanFollow, CanGain, CanHold, CanLose, Drops, Holds, IsKnown, Narrows, Settle, Widens, changed_bags, followed, load_answer_in, losing, target_in, tickets_after};
+ghost use Rattle.fol_core.specs.Bags.{AreInOrder, CanJoin, Follow, opened_bags, unsettled_at};
+ghost use Rattle.fol_core.specs.Follows.{CanFollow, CanGain, CanHold, CanLose, CanSettle, ChangesTo, Drops, Holds, IsKnown, Narrows, Settle, Widens, changed_bags, followed, load_answer_in, losing, target_in, tickets_after};
 ghost use Rattle.fol_core.specs.Meaning.{Stays, world_of};
 ghost use Rattle.fol_core.specs.Posts.{LeavesRoom};
 ghost use Rattle.fol_core.specs.Same.{SameThings};
@@ -165,12 +166,12 @@ fn follow(
     held: bool,
     answer: AddAnswer,
 )
-    requires can { CanFollow store.old regions.now.last ((grid_state regions.now).owner s) }
-    requires near { held ≡ false → CanGain answer (grid_state regions.now) c ((grid_state regions.now).owner s) (changed_bags regions.now.last (bag_of store.old) ((grid_state regions.now).owner s)) }
+    requires can { CanFollow store.old regions.now.last }
+    requires settles { (h : ℕ → Bag) → ChangesTo regions.now.last (bag_of store.old) h → CanSettle held answer (grid_state regions.now) c ((grid_state regions.now).owner s) (changed_bags regions.now.last (bag_of store.old)) h }
     ensures bags { Settle (grid_state regions.now) (followed (if held then 0 else (grid_state regions.now).owner s) regions.now.last (bag_of store.old)) (bag_of store.new) }
     ensures things { SameThings store.old store.new }
     ensures next { next_of store.new ≡ next_of store.old + length regions.now.last.created }
-    ensures spare { store.new.spare ≡ store.old.spare }
+    ensures spare { store.old.spare ≤ store.new.spare }
     ensures slots { store.old.slots ≤ store.new.slots + length regions.now.last.created }
 {
     change_bags(regions, store);
@@ -182,13 +183,11 @@ fn follow(
 
 /// The new regions of the last change get bags, and then some join.
 fn change_bags(regions: &Regions, store: &mut Store)
-    requires follow { Follow (next_of store.old) regions.now.last.created }
-    requires slots { length regions.now.last.created ≤ store.old.slots }
-    requires joins { CanJoin regions.now.last.merges (opened_bags 0 0 regions.now.last.created (bag_of store.old)) }
-    ensures bags { bag_of store.new ≡ changed_bags regions.now.last (bag_of store.old) }
+    requires { CanFollow store.old regions.now.last }
+    ensures bags { ChangesTo regions.now.last (bag_of store.old) (bag_of store.new) }
     ensures things { SameThings store.old store.new }
     ensures next { next_of store.new ≡ next_of store.old + length regions.now.last.created }
-    ensures spare { store.new.spare ≡ store.old.spare }
+    ensures spare { store.old.spare ≤ store.new.spare }
     ensures slots { store.old.slots ≤ store.new.slots + length regions.now.last.created }
 {
     let change = regions.last();
@@ -196,7 +195,7 @@ fn change_bags(regions: &Regions, store: &mut Store)
     join(store, change.merges());
 }
 
-/// The region of the section, if there is one, has the chunk more. Where sections came too, its bag has to be gathered anew.
+/// Where the hold was added, the region of the section, if there is one, has the chunk more.
 fn gain_chunk(regions: &Regions, store: &mut Store, s: SectionPos, c: ChunkPos, answer: AddAnswer)
     requires known { IsKnown (bag_of store.old) ((grid_state regions.now).owner s) }
     requires near { CanGain answer (grid_state regions.now) c ((grid_state regions.now).owner s) (bag_of store.old ((grid_state regions.now).owner s)) }
@@ -207,8 +206,7 @@ fn gain_chunk(regions: &Regions, store: &mut Store, s: SectionPos, c: ChunkPos, 
     ensures slots { store.new.slots ≡ store.old.slots }
 {
     match answer {
-        AddAnswer::Counted => gain_alone(regions, store, s, c),
-        AddAnswer::Changed => unsettle_owner(regions, store, s),
+        AddAnswer::Counted | AddAnswer::Changed => gain_owner(regions, store, s, c),
         AddAnswer::Full {
             present: _,
             wanted: _,
@@ -216,8 +214,8 @@ fn gain_chunk(regions: &Regions, store: &mut Store, s: SectionPos, c: ChunkPos, 
     }
 }
 
-/// The region of the section, if there is one, has the chunk more, and no section.
-fn gain_alone(regions: &Regions, store: &mut Store, s: SectionPos, c: ChunkPos)
+/// The region of the section, if there is one, has the chunk more.
+fn gain_owner(regions: &Regions, store: &mut Store, s: SectionPos, c: ChunkPos)
     requires known { IsKnown (bag_of store.old) ((grid_state regions.now).owner s) }
     requires near { 0 < (grid_state regions.now).owner s → Widens (grid_state regions.now) c ((grid_state regions.now).owner s) (bag_of store.old ((grid_state regions.now).owner s)) }
     ensures bags { Settle (grid_state regions.now) (unsettled_at ((grid_state regions.now).owner s) (bag_of store.old)) (bag_of store.new) }

@@ -2,7 +2,7 @@ use Rattle.std.proofs.Common.{sym, ◌∙◌}
 use Rattle.fol_regions.specs.Table.{grid_state}
 use Rattle.fol_store.specs.Stock.{bag_of}
 use Rattle.fol_core.proofs.SettledBags.{gained_all, known_some, none_all, order_gained}
-use Rattle.fol_core.proofs.holds.gain_alone.Goals as goal
+use Rattle.fol_core.proofs.holds.gain_owner.Goals as goal
 
 pub gain-requires-clause-known : goal.gain-requires-clause-known
 gain-requires-clause-known c = known_some (grid_state c.args.regions.now) _ c.in-Some.id c.args.c (bag_of c.args.store.now) (sym c.owner.ensures ∙ c.in-Some.is) c.requires.known
