@@ -14,5 +14,6 @@ pub mod SectionChunks
 pub mod PageSteps
 pub mod SquareRows
 pub mod TurnSteps
+pub mod PageRuns
 pub mod NinePages
 pub mod UsedPages

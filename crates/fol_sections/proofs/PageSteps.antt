@@ -14,7 +14,7 @@ use Rattle.fol_model.specs.Geometry.{same_section}
 use Rattle.fol_laws.proofs.SamePlaces.{same_section-true, same_section-self}
 use Rattle.fol_sections.proofs.Quotients.{in_row_of_quotient, quotient_of_row}
 use Rattle.fol_sections.specs.Places.{is_same}
-use Rattle.fol_sections.specs.Pages.{counts_at, has_page, is_here, page_at, page_of, place_of}
+use Rattle.fol_sections.specs.Pages.{counts_at, counts_on, has_page, is_here, page_at, page_of, place_of}
 use Rattle.fol_sections.specs.declared.pages.Counts.{Counts}
 use Rattle.fol_sections.specs.declared.pages.Page.{Page}
 
@@ -28,7 +28,7 @@ unfolding place_of
 place_few s = let x = in_page s.x in let z = in_page s.z in omega (arith, x.1, z.1)
 
 -- two sections at one place of one page are one
-place_tells : (s q : SectionPos) → page_of s.x ≡ page_of q.x → page_of s.z ≡ page_of q.z → place_of q ≡ place_of s → s ≡ q
+pub place_tells : (s q : SectionPos) → page_of s.x ≡ page_of q.x → page_of s.z ≡ page_of q.z → place_of q ≡ place_of s → s ≡ q
 unfolding place_of
 place_tells s q ex ez e =
     let sx = in_page s.x in let sz = in_page s.z in let qx = in_page q.x in let qz = in_page q.z in
@@ -54,19 +54,15 @@ same_self x z = and_from _ _ ((Decides-int_eq x x).1 refl) ((Decides-int_eq z z)
 pub page_self : (s : SectionPos) → in_same_page s s ≡ true
 page_self s = same_self (page_of s.x) (page_of s.z)
 
--- what is kept of the sections of a page
-abbrev pub in_this : Page → SectionPos → Option Counts
-in_this p q = slice_index_or p.sections (place_of q) None
-
 module _ (before after : List ((ℤ × ℤ) × Page)) (s : SectionPos) (p : Page) (whole : 64 ≤ length p.sections) (place : ℕ) (is : place ≡ place_of s) (counts : Option Counts)
     (step : (a b : ℤ) → page_at after a b ≡ cond (is_same (page_of s.x) (page_of s.z) a b) (Some (record { sections = slice_set p.sections place counts })) (page_at before a b)) where
   -- the page was there, or there was none and this one has nobody
-  pub counts-written : (q : SectionPos) → option_and_then (λ p. in_this p q) (page_at before (page_of s.x) (page_of s.z)) ≡ in_this p q → counts_at after q ≡ cond (same_section s q) counts (counts_at before q)
+  pub counts-written : (q : SectionPos) → option_and_then (λ p. counts_on p q) (page_at before (page_of s.x) (page_of s.z)) ≡ counts_on p q → counts_at after q ≡ cond (same_section s q) counts (counts_at before q)
   unfolding counts_at
-  counts-written q was = ap (option_and_then (λ p. in_this p q)) (step (page_of q.x) (page_of q.z)) ∙ elim (cases_Bool (in_same_page s q)) [
+  counts-written q was = ap (option_and_then (λ p. counts_on p q)) (step (page_of q.x) (page_of q.z)) ∙ elim (cases_Bool (in_same_page s q)) [
     | inl e ↦
         let there = same_place (page_of s.x) (page_of s.z) (page_of q.x) (page_of q.z) e in
-        let old : option_and_then (λ p. in_this p q) (page_at before (page_of q.x) (page_of q.z)) ≡ in_this p q = let x = sym there.0 in let z = sym there.1 in (λ i. option_and_then (λ p. in_this p q) (page_at before (x i) (z i))) ∙ was in
+        let old : option_and_then (λ p. counts_on p q) (page_at before (page_of q.x) (page_of q.z)) ≡ counts_on p q = let x = sym there.0 in let z = sym there.1 in (λ i. option_and_then (λ p. counts_on p q) (page_at before (x i) (z i))) ∙ was in
         rw (e, old) (elim (cases_Bool (same_section s q)) [
           | inl h ↦ let k = same_section-true s q h in rw h (ap (λ n. slice_index_or (slice_set p.sections place counts) n None) (sym (is ∙ ap place_of k)) ∙ get_or-set_same p.sections place counts None (omega (arith, place_few s)))
           | inr h ↦ rw h (get_or-set_other p.sections place (place_of q) counts None (λ m. true≢false (sym (same q (place_tells s q there.0 there.1 (m ∙ is))) ∙ h)))
@@ -112,7 +108,7 @@ pub here-page : (entries : List ((ℤ × ℤ) × Page)) (s : SectionPos) → is_
 unfolding is_here has_page counts_at
 here-page entries s h = some (page_at entries (page_of s.x) (page_of s.z)) h
   where
-    some : (o : Option Page) → is_some (option_and_then (λ p. in_this p s) o) ≡ true → is_some o ≡ true
+    some : (o : Option Page) → is_some (option_and_then (λ p. counts_on p s) o) ≡ true → is_some o ≡ true
     some None e = absurd (true≢false (sym e))
     some (Some p) e = refl
 
@@ -132,7 +128,7 @@ nobody_in (Some x ∷ xs) h k = absurd (true≢false (sym h))
 pub counts-blank : (before after : List ((ℤ × ℤ) × Page)) (x z : ℤ) (p : Page) → page_at before x z ≡ Some p → list_all (λ counts. not (is_some counts)) p.sections ≡ true
     → ((a b : ℤ) → page_at after a b ≡ cond (is_same x z a b) None (page_at before a b)) → (q : SectionPos) → counts_at after q ≡ counts_at before q
 unfolding counts_at
-counts-blank before after x z p was blank step q = ap (option_and_then (λ p. in_this p q)) (step (page_of q.x) (page_of q.z)) ∙ elim (cases_Bool (is_same x z (page_of q.x) (page_of q.z))) [
+counts-blank before after x z p was blank step q = ap (option_and_then (λ p. counts_on p q)) (step (page_of q.x) (page_of q.z)) ∙ elim (cases_Bool (is_same x z (page_of q.x) (page_of q.z))) [
   | inr e ↦ rw e refl
   | inl e ↦
       let k = same_place x z (page_of q.x) (page_of q.z) e in

@@ -9,11 +9,11 @@ use borrow.Author.Differences.{ints}
 use Rattle.fol_model.specs.declared.places.SectionPos.{SectionPos}
 use Rattle.fol_model.specs.Geometry.{same_section}
 use Rattle.fol_laws.proofs.SamePlaces.{same_section-true, same_section-self}
-use Rattle.fol_sections.specs.Pages.{AllUsed, HasSection, counts_at, has_page, is_here, page_at, page_of, place_of}
+use Rattle.fol_sections.specs.Pages.{AllUsed, HasSection, counts_at, counts_on, has_page, is_here, page_at, page_of, place_of}
 use Rattle.fol_sections.specs.Places.{is_same}
 use Rattle.fol_sections.specs.declared.pages.Counts.{Counts}
 use Rattle.fol_sections.specs.declared.pages.Page.{Page}
-use Rattle.fol_sections.proofs.PageSteps.{in_page, in_this, page_self, same_place}
+use Rattle.fol_sections.proofs.PageSteps.{in_page, page_self, same_place}
 use Rattle.fol_sections.proofs.Quotients.{quotient_of_row}
 
 -- ---- a section that comes or changes
@@ -82,7 +82,7 @@ used-busy entries x z p is n busy =
     let k = some_in p.sections busy in
     let w = at_place x z k.0 (omega (arith, k.1, n)) in
     let found : page_at entries (page_of (w.0).x) (page_of (w.0).z) ≡ Some p = (λ i. page_at entries (w.1 i) (w.2 i)) ∙ is in
-    (w.0, w.1, w.2, ap (λ o. is_some (option_and_then (λ p. in_this p w.0) o)) found ∙ ap (λ m. is_some (slice_index_or p.sections m None)) w.3 ∙ k.2)
+    (w.0, w.1, w.2, ap (λ o. is_some (option_and_then (λ p. counts_on p w.0) o)) found ∙ ap (λ m. is_some (slice_index_or p.sections m None)) w.3 ∙ k.2)
 
 -- ---- a page that left
 module _ (before after : List ((ℤ × ℤ) × Page)) (x z : ℤ) (step : (a b : ℤ) → page_at after a b ≡ cond (is_same x z a b) None (page_at before a b)) where

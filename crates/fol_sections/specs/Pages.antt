@@ -29,9 +29,26 @@ page_at entries x z = lookup (λ key. int_eq x key.0 && int_eq z key.1) entries
 unfoldable pub has_page : List ((ℤ × ℤ) × Page) → ℤ → ℤ → Bool
 has_page entries x z = is_some (page_at entries x z)
 
+-- what a page keeps of a section that lies in it, if that is present
+abbrev pub counts_on : Page → SectionPos → Option Counts
+counts_on p s = slice_index_or p.sections (place_of s) None
+
+-- the sections with a loaded chunk near a section that lies in the page, 0 where it is not present
+abbrev pub near_on : Page → SectionPos → ℕ
+near_on p s = (unwrap_or (counts_on p s) no_counts).near
+
+-- the second section lies in the page of the first
+abbrev pub IsOnPage : SectionPos → SectionPos → Type 0
+IsOnPage s q = (page_of q.x ≡ page_of s.x) × (page_of q.z ≡ page_of s.z)
+
+-- the page keeps the same sections, with as many loaded chunks
+pub record KeepsOthers (old new : Page) : Type 0 where
+  pub here : (q : SectionPos) → is_some (counts_on new q) ≡ is_some (counts_on old q)
+  pub chunks : (q : SectionPos) → (unwrap_or (counts_on new q) no_counts).loaded ≡ (unwrap_or (counts_on old q) no_counts).loaded
+
 -- what is kept of a section, if it is present
 unfoldable pub counts_at : List ((ℤ × ℤ) × Page) → SectionPos → Option Counts
-counts_at entries s = option_and_then (λ p. slice_index_or p.sections (place_of s) None) (page_at entries (page_of s.x) (page_of s.z))
+counts_at entries s = option_and_then (λ p. counts_on p s) (page_at entries (page_of s.x) (page_of s.z))
 
 -- the section is present
 unfoldable pub is_here : List ((ℤ × ℤ) × Page) → SectionPos → Bool

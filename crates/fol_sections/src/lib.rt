@@ -16,6 +16,7 @@ mod answers;
 mod chunks;
 mod pages;
 mod places;
+mod runs;
 mod sections;
 mod squares;
 #[cfg(test)]

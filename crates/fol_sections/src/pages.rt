@@ -30,14 +30,14 @@ pub struct Page {
 pub type Pages = HashMap<(i32, i32), Page>;
 
 /// The column and the row of a section's page.
-fn page_of(s: SectionPos) -> (i32, i32)
+pub fn page_of(s: SectionPos) -> (i32, i32)
     ensures { result ≡ (page s.x, page s.z) }
 {
     (s.x.div_euclid(8), s.z.div_euclid(8))
 }
 
 /// The place of a section in its page.
-fn place_of(s: SectionPos) -> usize
+pub fn place_of(s: SectionPos) -> usize
     ensures value { result ≡ place s }
     ensures few { result < 64 }
 {

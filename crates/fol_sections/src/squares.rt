@@ -7,7 +7,8 @@ ghost use Rattle.fol_model.specs.Universe.{square};
 ghost use Rattle.fol_sections.specs.Pages.{is_here};
 ghost use Rattle.fol_sections.specs.Rows.{row_of, section_at};
 
-use crate::pages::{Pages, is_present};
+use crate::pages::Pages;
+use crate::runs::{find_run, run_len};
 use fol_model::{SectionPos, beside, corner};
 
 /// Adds those of `n` sections in a row that are missing.
@@ -19,11 +20,12 @@ fn find_row(pages: &Pages, missing: &mut Vec<SectionPos>, first: SectionPos, row
     ensures few { length missing.new.items ≤ length missing.old.items + 17 }
     ensures room { vec_capacity missing.old ≤ vec_capacity missing.new }
 {
-    for i in 0..n {
+    let mut i = 0;
+    while i < n {
         let s = beside(first, i, row);
-        if !is_present(pages, s) {
-            let _ = missing.push(s);
-        }
+        let len = run_len(s.x, n - i);
+        find_run(pages, missing, s, len);
+        i += len;
     }
 }
 

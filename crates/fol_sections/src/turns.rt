@@ -9,7 +9,8 @@ ghost use Rattle.fol_sections.specs.Pages.{AllUsed, chunks_at, is_here, near_at}
 ghost use Rattle.fol_sections.specs.Rows.{row_of, section_at};
 ghost use Rattle.fol_sections.specs.Turns.{fall, rise};
 
-use crate::pages::{Counts, Pages, change, find};
+use crate::pages::Pages;
+use crate::runs::{run_len, turn_run};
 use fol_model::{SectionPos, beside, corner};
 
 /// What became of a section.
@@ -33,33 +34,6 @@ pub fn turned(number: u16, turn: Turn) -> u16
     }
 }
 
-/// Counts a turn at one present section.
-fn turn_one(pages: &mut Pages, s: SectionPos, turn: Turn)
-    requires here { IsTrue (is_here pages.old.entries s) }
-    requires low { fall turn 1 ≤ near_at pages.old.entries s }
-    requires few { near_at pages.old.entries s + 1 < 2 ^ 16 }
-    ensures near { (q : SectionPos) → near_at pages.new.entries q + fall turn (cond (same_section q s) 1 0) ≡ near_at pages.old.entries q + rise turn (cond (same_section q s) 1 0) }
-    ensures here { (q : SectionPos) → is_here pages.new.entries q ≡ is_here pages.old.entries q }
-    ensures chunks { (q : SectionPos) → chunks_at pages.new.entries q ≡ chunks_at pages.old.entries q }
-    ensures room { spare pages.new ≡ spare pages.old }
-    ensures used { AllUsed pages.old.entries → AllUsed pages.new.entries }
-{
-    match find(pages, s) {
-        Some(counts) => {
-            let near = turned(counts.near, turn);
-            change(
-                pages,
-                s,
-                Counts {
-                    loaded: counts.loaded,
-                    near,
-                },
-            );
-        }
-        None => {}
-    }
-}
-
 /// Counts a turn at `n` sections in a row.
 fn turn_row(pages: &mut Pages, first: SectionPos, row: u32, n: u32, turn: Turn)
     requires near { (nat_abs first.x ≤ 1000016) × (nat_abs first.z ≤ 1000016) }
@@ -73,8 +47,12 @@ fn turn_row(pages: &mut Pages, first: SectionPos, row: u32, n: u32, turn: Turn)
     ensures room { spare pages.new ≡ spare pages.old }
     ensures used { AllUsed pages.old.entries → AllUsed pages.new.entries }
 {
-    for i in 0..n {
-        turn_one(pages, beside(first, i, row), turn);
+    let mut i = 0;
+    while i < n {
+        let s = beside(first, i, row);
+        let len = run_len(s.x, n - i);
+        turn_run(pages, s, len, turn);
+        i += len;
     }
 }
 

@@ -2,10 +2,10 @@ use Rattle.std.proofs.Common.{sym, ◌∙◌, ap, arith, replicate}
 use Rattle.std.specs.Prelude.{None, Some}
 use Rattle.std.specs.Option.{option_and_then}
 use Rattle.std.proofs.lemmas.Result.{IfOk-at_ok}
-use Rattle.fol_sections.specs.Pages.{has_page, page_at, page_of, place_of}
+use Rattle.fol_sections.specs.Pages.{counts_on, has_page, page_at, page_of, place_of}
 use Rattle.fol_sections.specs.Places.{is_same}
 use Rattle.fol_sections.specs.declared.pages.Page.{Page}
-use Rattle.fol_sections.proofs.PageSteps.{counts-written, in_this, in_blank, pages-more, none_there}
+use Rattle.fol_sections.proofs.PageSteps.{counts-written, in_blank, pages-more, none_there}
 use Rattle.fol_sections.proofs.Results.{ok_value}
 use Rattle.fol_sections.proofs.pages.add_page.Goals as goal
 
@@ -17,7 +17,7 @@ returns-clause-put c = λ q.
     let blank : Page = record { sections = replicate 64 None } in
     let was = none_there (page_at c.args.pages.now.entries (page_of c.args.s.x) (page_of c.args.s.z)) c.requires.absent in
     counts-written c.args.pages.now.entries _ c.args.s blank (omega arith) c.place_of.result c.place_of.ensures.value (Some c.args.counts) (λ a b. updates.0 (a, b)) q
-    (ap (option_and_then (λ p. in_this p q)) was ∙ sym (in_blank 64 (place_of q)))
+    (ap (option_and_then (λ p. counts_on p q)) was ∙ sym (in_blank 64 (place_of q)))
 
 pub returns-clause-pages : goal.returns-clause-pages
 unfolding page_at is_same

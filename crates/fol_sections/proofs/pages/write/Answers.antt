@@ -2,9 +2,9 @@ use Rattle.std.proofs.Common.{◌≡◌, sym, ◌∙◌, ap, rules, arith, lengt
 use Rattle.std.specs.Prelude.{is_some, slice_set}
 use Rattle.std.specs.Option.{option_and_then, option_copied_mut}
 use Rattle.std.proofs.lemmas.Bool.{true≢false}
-use Rattle.fol_sections.specs.Pages.{has_page, page_at, page_of}
+use Rattle.fol_sections.specs.Pages.{counts_on, has_page, page_at, page_of}
 use Rattle.fol_sections.specs.Places.{is_same}
-use Rattle.fol_sections.proofs.PageSteps.{counts-written, in_this, pages-same}
+use Rattle.fol_sections.proofs.PageSteps.{counts-written, pages-same}
 use Rattle.fol_sections.proofs.pages.write.Goals as goal
 
 pub returns-in-Some-clause-put : goal.returns-in-Some-clause-put
@@ -15,7 +15,7 @@ returns-in-Some-clause-put c = λ q.
     let was = ap option_copied_mut (sym c.in-Some.is) ∙ value in
     let w = c.get_mut.follows.holds (record { sections = slice_set c.in-Some.page.now.sections c.place_of.result c.args.counts }) in
     let updates = rw c.page_of.ensures at (w.3 (ap is_some (sym c.get_mut.ensures.value ∙ ap option_copied_mut c.in-Some.is))) in
-    counts-written c.args.pages.now.entries _ c.args.s c.in-Some.page.now (omega (arith, n)) c.place_of.result c.place_of.ensures.value c.args.counts (λ a b. updates.0 (a, b)) q (ap (option_and_then (λ p. in_this p q)) (sym was))
+    counts-written c.args.pages.now.entries _ c.args.s c.in-Some.page.now (omega (arith, n)) c.place_of.result c.place_of.ensures.value c.args.counts (λ a b. updates.0 (a, b)) q (ap (option_and_then (λ p. counts_on p q)) (sym was))
 
 pub returns-in-None-clause-put : goal.returns-in-None-clause-put
 unfolding page_at has_page

@@ -1,4 +1,4 @@
-use Rattle.std.proofs.Common.{◌≡◌, ◌+◌}
+use Rattle.std.proofs.Common.{◌≡◌, ◌+◌, ◌-◌, ◌≤◌}
 use Rattle.std.specs.Prelude.{pos, ◌+ℤ◌}
 use Rattle.std.specs.List.{count_by}
 use Rattle.std.specs.HashMap.{spare}
@@ -17,4 +17,8 @@ invariant-loop-i l = record {
   chunks : (q : SectionPos) → chunks_at l.pages.entries q ≡ chunks_at l.initial.pages.entries q;
   used : AllUsed l.initial.pages.entries → AllUsed l.pages.entries;
   room : spare l.pages ≡ spare l.initial.pages;
+  bound : l.i ≤ l.n;
 }
+
+abbrev pub decreases-loop-i : goal.decreases-loop-i
+decreases-loop-i l = l.n - l.i

@@ -1,0 +1,217 @@
+-- Sections side by side in one page.
+use Rattle.std.proofs.Common.{◌≡◌, ◌≢◌, ℕ, zero, suc, ◌+◌, ◌<◌, ◌≤◌, refl, sym, ◌∙◌, ap, arith, Bool, true, false, cond, inl, inr, ◌∷◌, [], ◌++◌, List, length}
+use Rattle.std.specs.Prelude.{ℤ, pos, ◌+ℤ◌, nat_abs, Option, Some, None, is_some, slice_index_or, slice_set}
+use Rattle.std.specs.Int.{int_rem_euclid}
+use Rattle.std.specs.List.{count_by, filter}
+use Rattle.std.specs.Option.{option_and_then, unwrap_or}
+use Rattle.std.proofs.lemmas.Bool.{cases_Bool, cases_eq, cases_lt, true≢false}
+use Rattle.std.proofs.lemmas.List.{get_or-set_same, get_or-set_other}
+use borrow.Author.Differences.{ints}
+use Rattle.fol_model.specs.declared.places.SectionPos.{SectionPos}
+use Rattle.fol_model.specs.Geometry.{same_section}
+use Rattle.fol_laws.proofs.SamePlaces.{same_section-true, same_section-self}
+use Rattle.fol_sections.specs.Pages.{AllUsed, IsOnPage, KeepsOthers, chunks_at, counts_at, counts_on, has_page, is_here, near_at, near_on, no_counts, page_at, page_of, place_of}
+use Rattle.fol_sections.specs.Places.{is_same}
+use Rattle.fol_sections.specs.Rows.{row_of, section_at}
+use Rattle.fol_sections.specs.Turns.{fall, rise}
+use Rattle.fol_sections.specs.declared.pages.Counts.{Counts}
+use Rattle.fol_sections.specs.declared.pages.Page.{Page}
+use Rattle.fol_sections.specs.declared.turns.Turn.{Turn}
+use Rattle.fol_sections.proofs.PageSteps.{here-page, in_page, pages-same, place_few, place_tells, same_place, same_self}
+use Rattle.fol_sections.proofs.Quotients.{quotient_of_row}
+use Rattle.fol_sections.proofs.Rows.{count_more, filter_no, filter_yes, row-none}
+use Rattle.fol_sections.proofs.TurnSteps.{fall_more, fall_none, rise_more, rise_none}
+
+-- a section of the run lies in the page, at the next place
+module _ (s : SectionPos) (len : ℕ) (run : nat_abs (int_rem_euclid s.x (pos 8)) + len ≤ 8) (i : ℕ) (l : i < len) where
+  pub run_page : page_of (s.x +ℤ pos i) ≡ page_of s.x
+  run_page = let a = in_page s.x in quotient_of_row (s.x +ℤ pos i) (page_of s.x) 8 (nat_abs (int_rem_euclid s.x (pos 8)) + i) (omega arith) (omega (arith, ints, a.0))
+
+  pub run_place : place_of (section_at (s.x +ℤ pos i) s.z) ≡ place_of s + i
+  unfolding place_of
+  run_place =
+      let a = in_page s.x in
+      let b = rw run_page at (in_page (s.x +ℤ pos i)).0 in
+      let r : nat_abs (int_rem_euclid (s.x +ℤ pos i) (pos 8)) ≡ nat_abs (int_rem_euclid s.x (pos 8)) + i = omega (arith, ints, a.0, b) in
+      omega (arith, r)
+
+  pub run_few : place_of s + i < 64
+  run_few = let a = place_few (section_at (s.x +ℤ pos i) s.z) in omega (arith, run_place, a)
+
+-- tests that agree on a row keep the same of it
+pub filter_row : (p q : SectionPos → Bool) (x z : ℤ) (n : ℕ) → ((i : ℕ) → i < n → p (section_at (x +ℤ pos i) z) ≡ q (section_at (x +ℤ pos i) z))
+    → filter p (row_of section_at x z n) ≡ filter q (row_of section_at x z n)
+filter_row p q x z zero h = ap (filter p) (row-none section_at x z) ∙ sym (ap (filter q) (row-none section_at x z))
+filter_row p q x z (suc n) h =
+    let e : suc n ≡ n + 1 = omega arith in
+    let k = filter_row p q x z n (λ i l. h i (omega arith)) in
+    ap (λ m. filter p (row_of section_at x z m)) e
+    ∙ elim (cases_Bool (p (section_at (x +ℤ pos n) z))) [
+      | inl y ↦ filter_yes section_at p x z n y ∙ ap (λ xs. xs ++ section_at (x +ℤ pos n) z ∷ []) k ∙ sym (filter_yes section_at q x z n (sym (h n (omega arith)) ∙ y))
+      | inr y ↦ filter_no section_at p x z n y ∙ k ∙ sym (filter_no section_at q x z n (sym (h n (omega arith)) ∙ y))
+    ]
+    ∙ ap (λ m. filter q (row_of section_at x z m)) (sym e)
+
+-- a section that is none of a row
+pub count_none : (p : SectionPos → Bool) (x z : ℤ) (n : ℕ) → ((i : ℕ) → i < n → p (section_at (x +ℤ pos i) z) ≡ false) → count_by p (row_of section_at x z n) ≡ 0
+count_none p x z zero h = ap (count_by p) (row-none section_at x z)
+count_none p x z (suc n) h =
+    let e : suc n ≡ n + 1 = omega arith in
+    let k = count_none p x z n (λ i l. h i (omega arith)) in
+    ap (λ m. count_by p (row_of section_at x z m)) e ∙ count_more section_at p x z n ∙ rw (k, h n (omega arith)) refl
+
+-- ---- a turn at one section of a page
+module _ (before : Page) (whole : 64 ≤ length before.sections) (s at : SectionPos) (page : IsOnPage s at) (place : ℕ) (is : place ≡ place_of at) (was now : Counts) (had : counts_on before at ≡ Some was) where
+  abbrev after : Page
+  after = record { sections = slice_set before.sections place (Some now) }
+
+  other : (q : SectionPos) → place_of q ≢ place → counts_on after q ≡ counts_on before q
+  other q d = get_or-set_other before.sections place (place_of q) (Some now) None d
+
+  same : (q : SectionPos) → place_of q ≡ place → counts_on after q ≡ Some now
+  same q e = ap (λ n. slice_index_or (slice_set before.sections place (Some now)) n None) e ∙ get_or-set_same before.sections place (Some now) None (let f = place_few at in omega (arith, f, is))
+
+  same_had : (q : SectionPos) → place_of q ≡ place → counts_on before q ≡ Some was
+  same_had q e = ap (λ n. slice_index_or before.sections n None) (e ∙ is) ∙ had
+
+  pub step_keeps : now.loaded ≡ was.loaded → KeepsOthers before after
+  step_keeps loaded = record {
+    here = λ q. elim (cases_eq (place_of q) place) [
+      | inl e ↦ ap is_some (same q e) ∙ sym (ap is_some (same_had q e))
+      | inr d ↦ ap is_some (other q d)
+    ];
+    chunks = λ q. elim (cases_eq (place_of q) place) [
+      | inl e ↦ ap (λ o. (unwrap_or o no_counts).loaded) (same q e) ∙ loaded ∙ sym (ap (λ o. (unwrap_or o no_counts).loaded) (same_had q e))
+      | inr d ↦ ap (λ o. (unwrap_or o no_counts).loaded) (other q d)
+    ];
+  }
+
+  pub step_turns : (turn : Turn) → now.near + fall turn 1 ≡ was.near + rise turn 1 → (q : SectionPos) → IsOnPage s q
+      → near_on after q + fall turn (cond (same_section q at) 1 0) ≡ near_on before q + rise turn (cond (same_section q at) 1 0)
+  step_turns turn turned q on = elim (cases_eq (place_of q) place) [
+    | inl e ↦
+        let k : at ≡ q = place_tells at q (page.0 ∙ sym on.0) (page.1 ∙ sym on.1) (e ∙ is) in
+        let y : same_section q at ≡ true = ap (same_section q) k ∙ same_section-self q in
+        let a : near_on after q ≡ now.near = ap (λ o. (unwrap_or o no_counts).near) (same q e) in
+        let b : near_on before q ≡ was.near = ap (λ o. (unwrap_or o no_counts).near) (same_had q e) in
+        rw (y, a, b) turned
+    | inr d ↦
+        let y : same_section q at ≡ false = elim (cases_Bool (same_section q at)) [
+          | inl x ↦ let k = same_section-true q at x in absurd (d (ap place_of k ∙ sym is))
+          | inr x ↦ x
+        ] in
+        let a : near_on after q ≡ near_on before q = ap (λ o. (unwrap_or o no_counts).near) (other q d) in
+        rw (y, a) (omega (arith, rise_none turn, fall_none turn))
+  ]
+
+pub keeps_self : (p : Page) → KeepsOthers p p
+keeps_self p = record { here = λ q. refl; chunks = λ q. refl }
+
+pub keeps_then : (a b c : Page) → KeepsOthers a b → KeepsOthers b c → KeepsOthers a c
+keeps_then a b c x y = record { here = λ q. y.here q ∙ x.here q; chunks = λ q. y.chunks q ∙ x.chunks q }
+
+-- a section of another page is none of the run
+pub count_off : (s : SectionPos) (len : ℕ) → nat_abs (int_rem_euclid s.x (pos 8)) + len ≤ 8 → (q : SectionPos) → (IsOnPage s q → ⊥) → count_by (same_section q) (row_of section_at s.x s.z len) ≡ 0
+count_off s len run q off = count_none (same_section q) s.x s.z len (λ i l. elim (cases_Bool (same_section q (section_at (s.x +ℤ pos i) s.z))) [
+  | inr e ↦ e
+  | inl e ↦
+      let k : q ≡ section_at (s.x +ℤ pos i) s.z = same_section-true q (section_at (s.x +ℤ pos i) s.z) e in
+      absurd (off (ap (λ (x : SectionPos). page_of x.x) k ∙ run_page s len run i l, ap (λ (x : SectionPos). page_of x.z) k))
+])
+
+-- where the page is not there, no section of the run is present
+pub none_run : (entries : List ((ℤ × ℤ) × Page)) (s : SectionPos) (len : ℕ) → nat_abs (int_rem_euclid s.x (pos 8)) + len ≤ 8 → page_at entries (page_of s.x) (page_of s.z) ≡ None
+    → (q : SectionPos) → (0 < count_by (same_section q) (row_of section_at s.x s.z len) → is_here entries q ≡ true) → count_by (same_section q) (row_of section_at s.x s.z len) ≡ 0
+unfolding has_page
+none_run entries s len run none q here = elim (cases_Bool (is_same (page_of s.x) (page_of s.z) (page_of q.x) (page_of q.z))) [
+  | inr e ↦ count_off s len run q (λ on. true≢false (sym (same_self (page_of q.x) (page_of q.z)) ∙ (λ i. is_same (on.0 i) (on.1 i) (page_of q.x) (page_of q.z)) ∙ e))
+  | inl e ↦
+      let k = same_place (page_of s.x) (page_of s.z) (page_of q.x) (page_of q.z) e in
+      elim (cases_lt 0 (count_by (same_section q) (row_of section_at s.x s.z len))) [
+        | inl p ↦ absurd (true≢false (sym (here-page entries q (here p)) ∙ (λ i. has_page entries (sym k.0 i) (sym k.1 i)) ∙ ap is_some none))
+        | inr p ↦ omega arith
+      ]
+]
+
+-- a page that is written again changes nothing
+pub same_page : (entries : List ((ℤ × ℤ) × Page)) (s : SectionPos) (old : Page) → page_at entries (page_of s.x) (page_of s.z) ≡ Some old
+    → (a b : ℤ) → page_at entries a b ≡ cond (is_same (page_of s.x) (page_of s.z) a b) (Some old) (page_at entries a b)
+same_page entries s old was a b = elim (cases_Bool (is_same (page_of s.x) (page_of s.z) a b)) [
+  | inl e ↦ let k = same_place (page_of s.x) (page_of s.z) a b e in rw e ((λ i. page_at entries (sym k.0 i) (sym k.1 i)) ∙ was)
+  | inr e ↦ rw e refl
+]
+
+-- ---- one page changed
+module _ (before after : List ((ℤ × ℤ) × Page)) (s : SectionPos) (old new : Page) (was : page_at before (page_of s.x) (page_of s.z) ≡ Some old)
+    (step : (a b : ℤ) → page_at after a b ≡ cond (is_same (page_of s.x) (page_of s.z) a b) (Some new) (page_at before a b)) where
+  pub before_on : (q : SectionPos) → IsOnPage s q → counts_at before q ≡ counts_on old q
+  unfolding counts_at
+  before_on q on = (λ i. option_and_then (λ p. counts_on p q) (page_at before (on.0 i) (on.1 i))) ∙ ap (option_and_then (λ p. counts_on p q)) was
+
+  after_on : (q : SectionPos) → IsOnPage s q → counts_at after q ≡ counts_on new q
+  unfolding counts_at
+  after_on q on =
+      let e : is_same (page_of s.x) (page_of s.z) (page_of s.x) (page_of s.z) ≡ true = same_self (page_of s.x) (page_of s.z) in
+      (λ i. option_and_then (λ p. counts_on p q) (page_at after (on.0 i) (on.1 i)))
+      ∙ ap (option_and_then (λ p. counts_on p q)) (step (page_of s.x) (page_of s.z) ∙ ap (λ b. cond b (Some new) (page_at before (page_of s.x) (page_of s.z))) e)
+
+  after_off : (q : SectionPos) → is_same (page_of s.x) (page_of s.z) (page_of q.x) (page_of q.z) ≡ false → counts_at after q ≡ counts_at before q
+  unfolding counts_at
+  after_off q e = ap (option_and_then (λ p. counts_on p q)) (step (page_of q.x) (page_of q.z) ∙ ap (λ b. cond b (Some new) (page_at before (page_of q.x) (page_of q.z))) e)
+
+  on_page : (q : SectionPos) → is_same (page_of s.x) (page_of s.z) (page_of q.x) (page_of q.z) ≡ true → IsOnPage s q
+  on_page q e = let k = same_place (page_of s.x) (page_of s.z) (page_of q.x) (page_of q.z) e in (sym k.0, sym k.1)
+
+  off_page : (q : SectionPos) → is_same (page_of s.x) (page_of s.z) (page_of q.x) (page_of q.z) ≡ false → IsOnPage s q → ⊥
+  off_page q e on = true≢false (sym (same_self (page_of q.x) (page_of q.z)) ∙ (λ i. is_same (on.0 i) (on.1 i) (page_of q.x) (page_of q.z)) ∙ e)
+
+  module _ (keeps : KeepsOthers old new) where
+    pub run_here : (q : SectionPos) → is_here after q ≡ is_here before q
+    unfolding is_here
+    run_here q = elim (cases_Bool (is_same (page_of s.x) (page_of s.z) (page_of q.x) (page_of q.z))) [
+      | inl e ↦ ap is_some (after_on q (on_page q e)) ∙ keeps.here q ∙ sym (ap is_some (before_on q (on_page q e)))
+      | inr e ↦ ap is_some (after_off q e)
+    ]
+
+    pub run_chunks : (q : SectionPos) → chunks_at after q ≡ chunks_at before q
+    unfolding chunks_at
+    run_chunks q = elim (cases_Bool (is_same (page_of s.x) (page_of s.z) (page_of q.x) (page_of q.z))) [
+      | inl e ↦ ap (λ o. (unwrap_or o no_counts).loaded) (after_on q (on_page q e)) ∙ keeps.chunks q ∙ sym (ap (λ o. (unwrap_or o no_counts).loaded) (before_on q (on_page q e)))
+      | inr e ↦ ap (λ o. (unwrap_or o no_counts).loaded) (after_off q e)
+    ]
+
+    pub run_used : AllUsed before → AllUsed after
+    unfolding has_page
+    run_used used x z h =
+        let there : has_page before (page_of s.x) (page_of s.z) ≡ true = ap is_some was in
+        let w = used x z (sym (pages-same before after (page_of s.x) (page_of s.z) new step there x z) ∙ h) in
+        (w.0, w.1, w.2, run_here w.0 ∙ w.3)
+
+  pub before_near : (q : SectionPos) → IsOnPage s q → near_at before q ≡ near_on old q
+  unfolding near_at
+  before_near q on = ap (λ o. (unwrap_or o no_counts).near) (before_on q on)
+
+  after_near : (q : SectionPos) → IsOnPage s q → near_at after q ≡ near_on new q
+  unfolding near_at
+  after_near q on = ap (λ o. (unwrap_or o no_counts).near) (after_on q on)
+
+  same_near : (q : SectionPos) → is_same (page_of s.x) (page_of s.z) (page_of q.x) (page_of q.z) ≡ false → near_at after q ≡ near_at before q
+  unfolding near_at
+  same_near q e = ap (λ o. (unwrap_or o no_counts).near) (after_off q e)
+
+  pub run_near : (len : ℕ) (turn : Turn) → nat_abs (int_rem_euclid s.x (pos 8)) + len ≤ 8
+      → ((q : SectionPos) → IsOnPage s q → near_on new q + fall turn (count_by (same_section q) (row_of section_at s.x s.z len)) ≡ near_on old q + rise turn (count_by (same_section q) (row_of section_at s.x s.z len)))
+      → (q : SectionPos) → near_at after q + fall turn (count_by (same_section q) (row_of section_at s.x s.z len)) ≡ near_at before q + rise turn (count_by (same_section q) (row_of section_at s.x s.z len))
+  run_near len turn run near q = elim (cases_Bool (is_same (page_of s.x) (page_of s.z) (page_of q.x) (page_of q.z))) [
+    | inl e ↦ let on = on_page q e in rw (after_near q on, before_near q on) (near q on)
+    | inr e ↦
+        let n = count_off s len run q (off_page q e) in
+        rw (n, same_near q e) (omega (arith, rise_none turn, fall_none turn))
+  ]
+
+  -- a section of the run lies on the page
+  pub run_on : (len : ℕ) → nat_abs (int_rem_euclid s.x (pos 8)) + len ≤ 8 → (q : SectionPos) → 0 < count_by (same_section q) (row_of section_at s.x s.z len) → IsOnPage s q
+  run_on len run q some = elim (cases_Bool (is_same (page_of s.x) (page_of s.z) (page_of q.x) (page_of q.z))) [
+    | inl e ↦ on_page q e
+    | inr e ↦ let n = count_off s len run q (off_page q e) in absurd (omega arith)
+  ]

@@ -1,0 +1,15 @@
+use Rattle.std.proofs.Common.{◌≡◌, ◌+◌}
+use Rattle.std.specs.List.{count_by}
+use Rattle.fol_model.specs.declared.places.SectionPos.{SectionPos}
+use Rattle.fol_model.specs.Geometry.{same_section}
+use Rattle.fol_sections.specs.Pages.{IsOnPage, KeepsOthers, near_on}
+use Rattle.fol_sections.specs.Rows.{row_of, section_at}
+use Rattle.fol_sections.specs.Turns.{fall, rise}
+use Rattle.fol_sections.proofs.runs.turn_on.Given as goal
+
+abbrev pub invariant-loop-i : goal.invariant-loop-i
+invariant-loop-i l = record {
+  near : (q : SectionPos) → IsOnPage l.s q → near_on l.page q + fall l.turn (count_by (same_section q) (row_of section_at l.s.x l.s.z l.i))
+      ≡ near_on l.initial.page q + rise l.turn (count_by (same_section q) (row_of section_at l.s.x l.s.z l.i));
+  kept : KeepsOthers l.initial.page l.page;
+}

@@ -1,0 +1,132 @@
+//! Sections side by side in one page, for which the page is looked up once.
+
+ghost use Rattle.std.specs.Prelude.{◌≡◌, ◌+◌, ◌<◌, ◌≤◌, ◌^◌, false, not, ◌++◌, IsTrue, is_some, length, nat_abs, pos, ◌+ℤ◌};
+ghost use Rattle.std.specs.HashMap.{spare};
+ghost use Rattle.std.specs.Int.{int_rem_euclid};
+ghost use Rattle.std.specs.List.{count_by, filter};
+ghost use Rattle.std.specs.Vec.{vec_capacity};
+ghost use Rattle.fol_model.specs.declared.places.SectionPos.{SectionPos};
+ghost use Rattle.fol_model.specs.Geometry.{same_section};
+ghost use Rattle.fol_sections.specs.Pages.{AllUsed, IsOnPage, KeepsOthers, chunks_at, counts_on, is_here, near_at, near_on};
+ghost use Rattle.fol_sections.specs.Rows.{row_of, section_at};
+ghost use Rattle.fol_sections.specs.Turns.{fall, rise};
+
+use crate::pages::{Counts, Page, Pages, page_of, place_of};
+use crate::turns::{Turn, turned};
+use fol_model::SectionPos;
+
+/// How many sections from a column on lie in one page, of at most `most`.
+pub fn run_len(x: i32, most: u32) -> u32
+    ensures few { result ≤ most }
+    ensures some { 0 < most → 0 < result }
+    ensures within { nat_abs (int_rem_euclid x (pos 8)) + result ≤ 8 }
+{
+    most.min(8 - x.rem_euclid(8) as u32)
+}
+
+/// The section that many columns behind another one.
+fn behind(s: SectionPos, columns: u32) -> SectionPos
+    requires near { nat_abs s.x ≤ 1000040 }
+    requires few { columns ≤ 8 }
+    ensures { result ≡ section_at (s.x +ℤ pos columns) s.z }
+{
+    SectionPos {
+        x: s.x + columns as i32,
+        z: s.z,
+    }
+}
+
+/// Adds those of the sections from one on that are missing in their page.
+fn find_on(page: &Page, missing: &mut Vec<SectionPos>, s: SectionPos, len: u32)
+    requires near { nat_abs s.x ≤ 1000040 }
+    requires run { nat_abs (int_rem_euclid s.x (pos 8)) + len ≤ 8 }
+    requires room { length missing.old.items + len ≤ vec_capacity missing.old }
+    ensures found { missing.new.items ≡ missing.old.items
+        ++ filter (λ q. not (is_some (counts_on page.now q))) (row_of section_at s.x s.z len) }
+    ensures few { length missing.new.items ≤ length missing.old.items + len }
+    ensures room { vec_capacity missing.old ≤ vec_capacity missing.new }
+{
+    let place = place_of(s);
+    for i in 0..len {
+        if page.sections[place + i as usize].is_none() {
+            let _ = missing.push(behind(s, i));
+        }
+    }
+}
+
+/// A page with no present section.
+fn empty_page() -> Page
+    ensures { (q : SectionPos) → is_some (counts_on result q) ≡ false }
+{
+    Page {
+        sections: [None; 64],
+    }
+}
+
+/// Adds those of the sections from one on, all in one page, that are missing.
+pub fn find_run(pages: &Pages, missing: &mut Vec<SectionPos>, s: SectionPos, len: u32)
+    requires near { nat_abs s.x ≤ 1000040 }
+    requires run { nat_abs (int_rem_euclid s.x (pos 8)) + len ≤ 8 }
+    requires room { length missing.old.items + len ≤ vec_capacity missing.old }
+    ensures found { missing.new.items ≡ missing.old.items
+        ++ filter (λ q. not (is_here pages.now.entries q)) (row_of section_at s.x s.z len) }
+    ensures few { length missing.new.items ≤ length missing.old.items + len }
+    ensures room { vec_capacity missing.old ≤ vec_capacity missing.new }
+{
+    match pages.get(&page_of(s)) {
+        Some(page) => find_on(page, missing, s, len),
+        None => find_on(&empty_page(), missing, s, len),
+    }
+}
+
+/// Counts a turn at the sections from one on, which are present in their page.
+fn turn_on(page: &mut Page, s: SectionPos, len: u32, turn: Turn)
+    requires run { nat_abs (int_rem_euclid s.x (pos 8)) + len ≤ 8 }
+    requires here { (q : SectionPos) → 0 < count_by (same_section q) (row_of section_at s.x s.z len)
+        → IsTrue (is_some (counts_on page.old q)) }
+    requires low { (q : SectionPos) → IsOnPage s q
+        → fall turn (count_by (same_section q) (row_of section_at s.x s.z len)) ≤ near_on page.old q }
+    requires high { (q : SectionPos) → IsOnPage s q
+        → near_on page.old q + count_by (same_section q) (row_of section_at s.x s.z len) < 2 ^ 16 }
+    ensures near { (q : SectionPos) → IsOnPage s q
+        → near_on page.new q + fall turn (count_by (same_section q) (row_of section_at s.x s.z len))
+        ≡ near_on page.old q + rise turn (count_by (same_section q) (row_of section_at s.x s.z len)) }
+    ensures kept { KeepsOthers page.old page.new }
+{
+    for i in 0..len {
+        let at = place_of(s) + i as usize;
+        match page.sections[at] {
+            Some(counts) => {
+                let near = turned(counts.near, turn);
+                page.sections[at] = Some(Counts {
+                    loaded: counts.loaded,
+                    near,
+                });
+            }
+            None => {}
+        }
+    }
+}
+
+/// Counts a turn at the sections from one on, which are present and all in one page.
+pub fn turn_run(pages: &mut Pages, s: SectionPos, len: u32, turn: Turn)
+    requires run { nat_abs (int_rem_euclid s.x (pos 8)) + len ≤ 8 }
+    requires here { (q : SectionPos) → 0 < count_by (same_section q) (row_of section_at s.x s.z len)
+        → IsTrue (is_here pages.old.entries q) }
+    requires low { (q : SectionPos)
+        → fall turn (count_by (same_section q) (row_of section_at s.x s.z len)) ≤ near_at pages.old.entries q }
+    requires high { (q : SectionPos) → near_at pages.old.entries q
+        + count_by (same_section q) (row_of section_at s.x s.z len) < 2 ^ 16 }
+    ensures near { (q : SectionPos)
+        → near_at pages.new.entries q + fall turn (count_by (same_section q) (row_of section_at s.x s.z len))
+        ≡ near_at pages.old.entries q + rise turn (count_by (same_section q) (row_of section_at s.x s.z len)) }
+    ensures here { (q : SectionPos) → is_here pages.new.entries q ≡ is_here pages.old.entries q }
+    ensures chunks { (q : SectionPos) → chunks_at pages.new.entries q ≡ chunks_at pages.old.entries q }
+    ensures room { spare pages.new ≡ spare pages.old }
+    ensures used { AllUsed pages.old.entries → AllUsed pages.new.entries }
+{
+    match pages.get_mut(&page_of(s)) {
+        Some(page) => turn_on(page, s, len, turn),
+        None => {}
+    }
+}
