@@ -14,7 +14,7 @@ use Rattle.fol_model.specs.ActionStep.{Flat}
 use Rattle.fol_model.specs.Counting.{some_below}
 use Rattle.fol_model.specs.GridState.{GridState, is_dead, is_ticking}
 use Rattle.fol_model.specs.OpeningParts.{IsOpening}
-use Rattle.fol_model.specs.Outputs.{Outputs, block_rows, entity_rows, owner_rows, region_rows, task_rows}
+use Rattle.fol_model.specs.Outputs.{Outputs, block_rows, entity_rows, region_rows, task_rows}
 use Rattle.fol_model.specs.Run.{world}
 use Rattle.fol_model.specs.Universe.{numbers_below}
 use Rattle.fol_model.specs.World.{start}

@@ -1,5 +1,5 @@
 -- The bags after an added hold, once regions came and joined.
-use Rattle.std.proofs.Common.{◌≡◌, ◌≢◌, ℕ, ◌+◌, ◌<◌, refl, sym, ◌∙◌, ap, subst, arith, Bool, true, false, inl, inr, ◌⊎◌, ◌&&◌, ◌||◌, not, List, [], ◌∷◌, filter}
+use Rattle.std.proofs.Common.{◌≡◌, ◌≢◌, ℕ, ◌+◌, ◌<◌, refl, sym, ◌∙◌, ap, subst, arith, Bool, true, false, inl, inr, ◌&&◌, ◌||◌, not, List, [], ◌∷◌, filter}
 use Rattle.std.specs.Prelude.{nat_eq, nat_lt}
 use Rattle.std.proofs.lemmas.Bool.{cases_Bool, cases_eq, and_from, and_parts, eq-eqb, eqb-true, false_from_ne_true, lt-ltb, ltb-true, ne_eqb, or_right, true≢false}
 use Rattle.fol_model.specs.declared.places.ChunkPos.{ChunkPos}
@@ -24,9 +24,9 @@ use Rattle.fol_regions.specs.Changes.{Changes, add_change, drawn_in, into, nothi
 use Rattle.fol_chunks.specs.Contents.{is_recorded}
 use Rattle.fol_store.specs.Bag.{Bag, new_bag}
 use Rattle.fol_store.specs.Relisted.{IsInOrder}
-use Rattle.fol_core.specs.Bags.{Alike, AreInOrder, Joins, joined_bags, opened_bags, unsettled_at}
+use Rattle.fol_core.specs.Bags.{Alike, AreInOrder, joined_bags, unsettled_at}
 use Rattle.fol_core.specs.Begun.{Gathered}
-use Rattle.fol_core.specs.Follows.{CanGain, CanSettle, ChangesTo, IsKnown, Settle, Widens, changed_bags, is_added}
+use Rattle.fol_core.specs.Follows.{CanGain, CanSettle, ChangesTo, IsKnown, Settle, Widens, changed_bags}
 use Rattle.fol_core.proofs.AddBags as parts
 use Rattle.fol_core.proofs.AddBags.{filter_none}
 use Rattle.fol_core.proofs.Added.{add_counted, add_ext, add_full, change_counted, change_full, change_new, change_old, none_wanted}

@@ -1,6 +1,6 @@
 -- The rows of the owners, from the rows of each region's sections.
-use Rattle.std.proofs.Common.{◌≡◌, ℕ, ◌+◌, ◌<◌, refl, sym, ◌∙◌, ap, arith, Bool, true, false, cond, inl, inr, List, [], ◌∷◌, ◌++◌, length, get_or, take, not, append_assoc}
-use Rattle.std.specs.Prelude.{All, nat_eq, nat_lt, flat_map, map, filter}
+use Rattle.std.proofs.Common.{◌≡◌, ℕ, ◌+◌, ◌<◌, refl, sym, ◌∙◌, ap, arith, Bool, false, cond, inl, inr, List, [], ◌∷◌, ◌++◌, length, get_or, take, not, append_assoc}
+use Rattle.std.specs.Prelude.{nat_eq, nat_lt, flat_map, map, filter}
 use Rattle.std.specs.List.{AllByRecursion, list_any}
 use Rattle.std.specs.List.Sorted.{IsPermutation, IsSortedBy, IsStrictlySortedBy}
 use Rattle.std.specs.Cmp.{ranks}
@@ -13,7 +13,7 @@ use Rattle.std.proofs.lemmas.List.{append-nil, get_or-map, length-map, take_more
 use Rattle.std.proofs.lemmas.List.Concat.{flat_map-cons}
 use Rattle.std.proofs.lemmas.List.Elements.{All-from_recursion, recursion_from_All}
 use Rattle.std.proofs.lemmas.List.Kept.{IsStrictlySortedBy-filter}
-use Rattle.std.proofs.lemmas.List.Sorted.{All-permutation, IsPermutation-append_right, IsPermutation-map, IsPermutation-refl, IsPermutation-sym, IsPermutation-trans, length_permutation}
+use Rattle.std.proofs.lemmas.List.Sorted.{All-permutation, IsPermutation-append_right, IsPermutation-map, IsPermutation-refl, IsPermutation-sym, IsPermutation-trans}
 use Rattle.fol_model.specs.declared.places.SectionPos.{SectionPos}
 use Rattle.fol_model.specs.declared.closings.OwnerRow.{OwnerRow}
 use Rattle.fol_model.specs.GridState.{GridState, is_dead, is_present}

@@ -13,7 +13,7 @@ use Rattle.fol_model.specs.declared.events.Entry.{Entry}
 use Rattle.fol_model.specs.Geometry.{is_chunk}
 use Rattle.fol_model.specs.GridState.{GridState}
 use Rattle.fol_model.specs.Add.{add, is_full}
-use Rattle.fol_model.specs.ActionStep.{Recorded, at_id}
+use Rattle.fol_model.specs.ActionStep.{at_id}
 use Rattle.fol_model.specs.Holds.{posted, posting}
 use Rattle.fol_model.specs.Job.{Job, queued}
 use Rattle.fol_model.specs.Limits.{is_action, is_delay, may_post}
@@ -22,7 +22,6 @@ use Rattle.fol_model.specs.Run.{Allowed, world}
 use Rattle.fol_laws.proofs.FunctionsChanged.{at_here, at_other}
 use Rattle.fol_sections.specs.Places.{count_at}
 use Rattle.fol_regions.specs.Table.{grid_state}
-use Rattle.fol_regions.specs.Changes.{add_change}
 use Rattle.fol_store.specs.Stock.{bag_of, jobs_of, next_of}
 use Rattle.fol_core.specs.declared.tables.Course.{Course}
 use Rattle.fol_core.specs.declared.tables.Tables.{Tables}

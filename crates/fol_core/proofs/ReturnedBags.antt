@@ -1,5 +1,5 @@
 -- The bags after a release, once regions joined the one that came back.
-use Rattle.std.proofs.Common.{◌≡◌, ◌≢◌, ℕ, ◌<◌, refl, sym, ◌∙◌, ap, subst, arith, true, false, inl, inr, ◌&&◌, List, [], filter}
+use Rattle.std.proofs.Common.{◌≡◌, ◌≢◌, ℕ, ◌<◌, refl, sym, ◌∙◌, ap, subst, arith, true, false, inl, inr, ◌&&◌, List, filter}
 use Rattle.std.specs.Prelude.{nat_eq, nat_lt, ◌↔◌}
 use Rattle.std.proofs.Math.Path.{fun_ext}
 use Rattle.std.proofs.lemmas.Bool.{cases_Bool, cases_eq, and_from, and_parts, eq-eqb, eqb-false, eqb-true, ltb-true, true≢false}
@@ -30,7 +30,7 @@ use Rattle.fol_core.proofs.ChunkLists.{kept_sorted}
 use Rattle.fol_core.proofs.JoinedBags.{JoinedInto, among, joined_into}
 use Rattle.fol_core.proofs.ReleasedBags as rb
 use Rattle.fol_core.proofs.SettledBags.{gathered_self, settle_same}
-use Rattle.fol_core.proofs.UnitedBags.{IsPart, UnitedInto, alike_self, are_in_order, gathered_alike, joins_order, union_list, united_into}
+use Rattle.fol_core.proofs.UnitedBags.{IsPart, UnitedInto, are_in_order, gathered_alike, joins_order, union_list, united_into}
 
 module _ (g : GridState) (r : ℕ) (rules : Rules g) (ok : IsGrid g.grid) (ticks : g.state r ≡ Ticking) (tick owed : ℕ → ℕ) (recorded : ℕ → Recorded) (f : ℕ → Bag)
     (bags : (q : ℕ) → IsBagOf g tick owed recorded q (f q)) where

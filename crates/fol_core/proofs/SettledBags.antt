@@ -10,17 +10,15 @@ use Rattle.fol_model.specs.declared.places.ChunkPos.{ChunkPos}
 use Rattle.fol_model.specs.Geometry.{is_chunk, same_chunk, section_of}
 use Rattle.fol_model.specs.Universe.{all_chunks}
 use Rattle.fol_model.specs.declared.regions.State.TheVariants.{Dead}
-use Rattle.fol_model.specs.GridState.{GridState, present_count}
-use Rattle.fol_model.specs.Add.{add, counted, is_full, wanted}
+use Rattle.fol_model.specs.GridState.{GridState}
+use Rattle.fol_model.specs.Add.{counted}
 use Rattle.fol_model.specs.ActionStep.{Recorded}
 use Rattle.fol_model.specs.Outputs.{is_chunk_of}
 use Rattle.fol_model.specs.Drop.{drop_hold}
 use Rattle.fol_model.proofs.PlaceKeys.{chunk_cmp_total, chunk_cmp_tells}
 use Rattle.fol_laws.proofs.SamePlaces.{same_chunk-true, same_chunk-self}
 use Rattle.fol_laws.proofs.Listed.{Tells, own, same_by, sorted_same}
-use Rattle.fol_regions.specs.declared.answers.AddAnswer.TheVariants.{Counted, Changed, Full}
-use Rattle.fol_regions.specs.Answers.{add_answer, some_id}
-use Rattle.fol_regions.specs.Changes.{Changes, add_change, nothing}
+use Rattle.fol_regions.specs.Answers.{some_id}
 use Rattle.fol_chunks.specs.Contents.{is_recorded}
 use Rattle.fol_chunks.specs.Order.{chunk_cmp}
 use Rattle.fol_store.specs.Bag.{Bag, disturbed}
@@ -28,7 +26,7 @@ use Rattle.fol_store.specs.Relisted.{IsInOrder, Narrowed, Relisted, Widened}
 use Rattle.fol_core.specs.Agenda.{Covers, HaveBags}
 use Rattle.fol_core.specs.Bags.{IsBagOf, unsettled_at}
 use Rattle.fol_core.specs.Begun.{Gathered}
-use Rattle.fol_core.specs.Follows.{CanGain, IsKnown, Narrows, Settle, Widens, changed_bags}
+use Rattle.fol_core.specs.Follows.{IsKnown, Narrows, Settle, Widens}
 use Rattle.fol_core.proofs.ChunkLists.{in_all, kept_sorted, listed}
 use Rattle.fol_core.proofs.GatheredBags.{gathered_bag}
 

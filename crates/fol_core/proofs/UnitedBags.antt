@@ -1,12 +1,12 @@
 -- Bags that may be listed for the chunks of all regions that joined.
-use Rattle.std.proofs.Common.{◌≡◌, ◌≢◌, ℕ, refl, sym, ◌∙◌, ap, subst, Bool, true, false, inl, inr, ◌⊎◌, ◌&&◌, ◌||◌, not, List, [], ◌∷◌, filter}
+use Rattle.std.proofs.Common.{◌≡◌, ◌≢◌, ℕ, refl, sym, ◌∙◌, ap, subst, Bool, true, false, inl, inr, ◌⊎◌, ◌&&◌, ◌||◌, List, [], ◌∷◌, filter}
 use Rattle.std.specs.Prelude.{nat_eq}
 use Rattle.std.specs.List.Sorted.{IsStrictlySortedBy}
 use Rattle.std.proofs.lemmas.Bool.{cases_Bool, cases_eq, and_from, and_parts, eqb-false, eqb-true, or_cases, or_left, or_parts, or_right, true≢false}
 use Rattle.fol_model.specs.declared.places.ChunkPos.{ChunkPos}
 use Rattle.fol_model.specs.Universe.{all_chunks}
 use Rattle.fol_model.specs.declared.regions.State.TheVariants.{Dead}
-use Rattle.fol_model.specs.GridState.{GridState, is_dead, is_ticking}
+use Rattle.fol_model.specs.GridState.{GridState}
 use Rattle.fol_model.specs.ActionStep.{Recorded, at_id}
 use Rattle.fol_model.specs.Outputs.{is_chunk_of}
 use Rattle.fol_laws.proofs.Tests.{same_answer}

@@ -1,4 +1,4 @@
-use Rattle.std.proofs.Common.{◌≡◌, ℕ, ◌+◌, ◌≤◌, ◌∷◌, ◌<◌, length, drop, get_or, ◌∙◌, refl, arith, add-one, drop-cons}
+use Rattle.std.proofs.Common.{◌≡◌, ◌+◌, ◌∷◌, ◌<◌, length, drop, get_or, ◌∙◌, refl, arith, add-one, drop-cons}
 use Rattle.fol_regions.specs.declared.change.MergePair.{MergePair}
 use Rattle.fol_store.specs.Stock.{bag_of}
 use Rattle.fol_core.specs.Bags.{JoinsOne}
