@@ -6,6 +6,9 @@
 //!
 //! An event costs what is near it: the regions within the create and merge radius of a chunk, or the released region and those
 //! that join it. Dead regions cost nothing. No event takes memory: `new` takes it for 16,384 sections, and `reserve` for events.
+//!
+//! `fol_region_tables`, on which it stands, keeps who owns, may do and waits for what, and makes each single step. The tests are in
+//! `fol_region_tests`.
 #![tactic(auto)]
 
 mod add;
@@ -18,8 +21,6 @@ mod dying;
 mod near;
 mod regions;
 mod release;
-#[cfg(test)]
-mod tests;
 
 pub use answers::{AddAnswer, Begun};
 pub use change::{Change, MergePair};

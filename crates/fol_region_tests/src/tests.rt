@@ -1,18 +1,9 @@
-//! Small worlds, event by event.
+//! What no clause says: that memory is found, and that small worlds come out as worked out by hand.
 
-use crate::{AddAnswer, Begun, MergePair, Regions};
 use fol_model::{ChunkPos, Grid, SectionPos, State};
+use fol_regions::{MergePair, Regions};
 use std::alloc::Global;
 use std::process::Abort;
-
-/// An event of a small world, whose chunks lie in row 0.
-#[derive(Clone, Copy)]
-enum Step {
-    Load(i32),
-    Unload(i32),
-    Begin(u64),
-    Release(u64),
-}
 
 /// No region, on a grid of sections of one chunk with the create radius 1, where a region is cleaned from one dead section in 6 on.
 fn table(rt: &impl Abort, alloc: Global) -> Regions {
@@ -20,18 +11,19 @@ fn table(rt: &impl Abort, alloc: Global) -> Regions {
     Regions::new(alloc, grid).expect(rt, "memory")
 }
 
-/// Adds a hold.
-fn load(rt: &impl Abort, regions: &mut Regions, c: ChunkPos) -> AddAnswer {
+/// Adds a hold on a chunk with z 0.
+fn load(rt: &impl Abort, regions: &mut Regions, x: i32) {
+    let c = ChunkPos { x, z: 0 };
     regions.reserve(1).expect(rt, "memory");
     assert!(rt; regions.spare() >= 1 && c.in_range() && regions.holds(c) < 1_000_000);
     assert!(rt; regions.next_id() < 1_000_000);
-    regions.add(c)
+    regions.add(c);
 }
 
 /// Begins a tick.
-fn begin(rt: &impl Abort, regions: &mut Regions, id: u64) -> Begun {
+fn begin(rt: &impl Abort, regions: &mut Regions, id: u64) {
     assert!(rt; 0 < id && id < regions.next_id());
-    regions.begin(id)
+    regions.begin(id);
 }
 
 /// Ends a tick.
@@ -41,29 +33,6 @@ fn release(rt: &impl Abort, regions: &mut Regions, id: u64) {
     match regions.state(id) {
         Some(State::Ticking) => regions.release(id),
         _ => panic!(rt; "region {id} does not tick"),
-    }
-}
-
-/// One event.
-fn take(rt: &impl Abort, regions: &mut Regions, step: Step) {
-    match step {
-        Step::Load(x) => {
-            load(rt, regions, ChunkPos { x, z: 0 });
-        }
-        Step::Unload(x) => {
-            regions.remove(ChunkPos { x, z: 0 });
-        }
-        Step::Begin(id) => {
-            begin(rt, regions, id);
-        }
-        Step::Release(id) => release(rt, regions, id),
-    }
-}
-
-/// Some events, one after the other.
-fn play(rt: &impl Abort, regions: &mut Regions, steps: &[Step]) {
-    for step in steps {
-        take(rt, regions, *step);
     }
 }
 
@@ -92,17 +61,10 @@ fn live_are(rt: &impl Abort, alloc: Global, regions: &Regions, ids: &[u64]) {
     assert_eq!(rt; *live.as_slice(), *ids);
 }
 
-/// The last event made these regions, ended these, and merged these.
-fn last_is(
-    rt: &impl Abort,
-    regions: &Regions,
-    created: &[u64],
-    dead: &[u64],
-    merges: &[MergePair],
-) {
+/// The last event made these regions, and ended these.
+fn last_is(rt: &impl Abort, regions: &Regions, created: &[u64], dead: &[u64]) {
     assert_eq!(rt; *regions.last().created(), *created);
     assert_eq!(rt; *regions.last().dead(), *dead);
-    assert_eq!(rt; *regions.last().merges(), *merges);
 }
 
 /// The loaded chunks of a region are these.
@@ -114,16 +76,27 @@ fn chunks_are(rt: &impl Abort, alloc: Global, regions: &Regions, id: u64, chunks
     assert_eq!(rt; *listed.as_slice(), *chunks);
 }
 
+/// Loads two chunks that are far apart, and the one between them.
+fn three_chunks(rt: &impl Abort, alloc: Global) -> Regions {
+    let mut regions = table(rt, alloc);
+    load(rt, &mut regions, 0);
+    load(rt, &mut regions, 6);
+    load(rt, &mut regions, 3);
+    regions
+}
+
 #[test]
 fn a_region_between_two_joins_both(rt: HostRuntime) {
-    let mut regions = table(&rt, rt.alloc());
-    play(
-        &rt,
-        &mut regions,
-        &[Step::Load(0), Step::Load(6), Step::Load(3)],
-    );
-    last_is(&rt, &regions, &[], &[2], &[MergePair { from: 2, into: 1 }]);
+    let regions = three_chunks(&rt, rt.alloc());
+    last_is(&rt, &regions, &[], &[2]);
+    let merges = [MergePair { from: 2, into: 1 }];
+    assert_eq!(rt; regions.last().merges(), merges.as_slice());
     region_is(&rt, &regions, 1, State::Ready, 27, &[]);
+}
+
+#[test]
+fn lists_the_chunks_of_a_region(rt: HostRuntime) {
+    let regions = three_chunks(&rt, rt.alloc());
     let chunks = [
         ChunkPos { x: 0, z: 0 },
         ChunkPos { x: 3, z: 0 },
@@ -132,51 +105,65 @@ fn a_region_between_two_joins_both(rt: HostRuntime) {
     chunks_are(&rt, rt.alloc(), &regions, 1, &chunks);
 }
 
+/// A region that waits for two Ticking ones on both its sides.
+fn one_between_two(rt: &impl Abort, alloc: Global) -> Regions {
+    let mut regions = table(rt, alloc);
+    load(rt, &mut regions, 0);
+    load(rt, &mut regions, 6);
+    begin(rt, &mut regions, 1);
+    begin(rt, &mut regions, 2);
+    load(rt, &mut regions, 3);
+    regions
+}
+
+/// Ends the ticks of both regions for which the third one waits.
+fn end_both(rt: &impl Abort, regions: &mut Regions) {
+    release(rt, regions, 2);
+    region_is(rt, regions, 2, State::Transient, 18, &[1]);
+    release(rt, regions, 1);
+    region_is(rt, regions, 1, State::Ready, 27, &[]);
+}
+
 #[test]
 fn a_copy_goes_on_by_itself(rt: HostRuntime) {
-    let mut regions = table(&rt, rt.alloc());
-    play(
-        &rt,
-        &mut regions,
-        &[
-            Step::Load(0),
-            Step::Load(6),
-            Step::Begin(1),
-            Step::Begin(2),
-            Step::Load(3),
-        ],
-    );
-    let not_ready = Begun::NotReady(State::Transient);
-    assert_eq!(rt; begin(&rt, &mut regions, 3), not_ready);
+    let regions = one_between_two(&rt, rt.alloc());
     let mut copy = regions.copy(rt.alloc()).expect(&rt, "memory");
-    last_is(&rt, &copy, &[3], &[], &[]);
-    play(&rt, &mut copy, &[Step::Release(2)]);
-    region_is(&rt, &copy, 2, State::Transient, 18, &[1]);
-    play(&rt, &mut copy, &[Step::Release(1)]);
-    region_is(&rt, &copy, 1, State::Ready, 27, &[]);
+    last_is(&rt, &copy, &[3], &[]);
+    end_both(&rt, &mut copy);
     live_are(&rt, rt.alloc(), &copy, &[1]);
     region_is(&rt, &regions, 3, State::Transient, 9, &[1, 2]);
 }
 
+/// A region that fell apart at the end of its tick, since its middle chunk was unloaded.
+fn two_parts(rt: &impl Abort, alloc: Global) -> Regions {
+    let mut regions = table(rt, alloc);
+    load(rt, &mut regions, 0);
+    load(rt, &mut regions, 3);
+    load(rt, &mut regions, 6);
+    regions.remove(ChunkPos { x: 3, z: 0 });
+    begin(rt, &mut regions, 1);
+    release(rt, &mut regions, 1);
+    regions
+}
+
 #[test]
 fn a_region_falls_apart(rt: HostRuntime) {
-    let mut regions = table(&rt, rt.alloc());
-    play(
-        &rt,
-        &mut regions,
-        &[
-            Step::Load(0),
-            Step::Load(3),
-            Step::Load(6),
-            Step::Unload(3),
-            Step::Begin(1),
-            Step::Release(1),
-        ],
-    );
-    last_is(&rt, &regions, &[2, 3], &[1], &[]);
-    assert_eq!(rt; *regions.last().parts(), *[2, 3].as_slice());
+    let regions = two_parts(&rt, rt.alloc());
+    last_is(&rt, &regions, &[2, 3], &[1]);
+    let parts = [2, 3];
+    assert_eq!(rt; regions.last().parts(), parts.as_slice());
     region_is(&rt, &regions, 2, State::Ready, 9, &[]);
     region_is(&rt, &regions, 3, State::Ready, 9, &[]);
-    assert_eq!(rt; regions.owner(SectionPos { x: -1, z: -1 }), Some(2));
-    assert_eq!(rt; regions.owner(SectionPos { x: 5, z: -1 }), Some(3));
+}
+
+/// The section at a place is owned by this region.
+fn owner_is(rt: &impl Abort, regions: &Regions, x: i32, z: i32, id: u64) {
+    assert_eq!(rt; regions.owner(SectionPos { x, z }), Some(id));
+}
+
+#[test]
+fn each_part_owns_its_sections(rt: HostRuntime) {
+    let regions = two_parts(&rt, rt.alloc());
+    owner_is(&rt, &regions, -1, -1, 2);
+    owner_is(&rt, &regions, 5, -1, 3);
 }
