@@ -11,7 +11,8 @@ use std::alloc::{AllocError, Global};
 pub fn start(alloc: Global, seats: u32) -> Result<LiveAndSeats, AllocError>
     requires { (0 < seats) × (seats ≤ 65) }
     ensures many { IfOk result (λ made. vec_len made.seats ≡ seats) }
-    ensures own { IfOk result (λ made. All (λ seat. seat.lock ≡ live_id made.live) made.seats.items) }
+    ensures own { IfOk result (λ made. All (λ seat. seat.lock ≡ live_id made.live)
+        made.seats.items) }
     ensures new { IfOk result (λ made. All (λ seat. seat.mine ≡ []) made.seats.items) }
 {
     Live::start(alloc, bare_opening(alloc), seats)

@@ -33,7 +33,8 @@ pub(crate) struct Open {
 impl Open {
     /// Whether the next ask is this one.
     pub(crate) fn asks_for(&self, ask: Ask) -> bool
-        ensures { IsTrue result ↔ (slice_get self.now.asks.items (length self.now.answers.items) ≡ Some ask) }
+        ensures { IsTrue result ↔ (slice_get self.now.asks.items (length self.now.answers.items)
+            ≡ Some ask) }
     {
         is_next(self.asks.as_slice(), self.answers.len(), ask)
     }
@@ -74,7 +75,8 @@ fn same_ask(a: Ask, b: Ask) -> bool
 
 /// What the due tasks ask for, in order.
 pub(crate) fn asks_of(alloc: Global, due: &[Task]) -> Result<Vec<Ask>, AllocError>
-    ensures { IfOk result (λ asks. asks.items ≡ filter_map (λ t. ask_in (plain_action_of t.action)) due.now) }
+    ensures { IfOk result (λ asks. asks.items
+        ≡ filter_map (λ t. ask_in (plain_action_of t.action)) due.now) }
 {
     due.iter().filter_map(|t| ask_of(&t.action)).collect(alloc)
 }

@@ -57,7 +57,8 @@ pub(crate) fn posts(
     delay: u32,
     action: &Action,
 ) -> bool
-    ensures { IsTrue result ↔ (next_order commands.now next ≡ Some (post_task chunk delay action.now)) }
+    ensures { IsTrue result
+        ↔ (next_order commands.now next ≡ Some (post_task chunk delay action.now)) }
 {
     match commands.get(next) {
         Some(command) => posts_task(command, chunk, delay, action),

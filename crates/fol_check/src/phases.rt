@@ -64,7 +64,8 @@ impl Replay {
         requires delay { IsTrue (is_delay delay) }
         requires action { IsTrue (is_action action) }
         requires may_be_posted { IsTrue (may_post action) }
-        ensures { IfOk result (λ went. Goes self.old self.new (events.Post 0 chunk delay action answer) went) }
+        ensures { IfOk result (λ went.
+            Goes self.old self.new (events.Post 0 chunk delay action answer) went) }
     {
         let commands = self.commands();
         if !posts(commands, self.next, chunk, delay, &action) {

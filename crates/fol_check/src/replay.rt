@@ -92,7 +92,8 @@ impl Replay {
     fn load_by(&mut self, caller: u32, chunk: ChunkPos, answer: Loaded) -> Result<bool, AllocError>
         requires stands { Stands self.old }
         requires in_range { IsTrue (is_chunk chunk) }
-        ensures { IfOk result (λ went. Goes self.old self.new (events.Load caller chunk answer) went) }
+        ensures { IfOk result (λ went. Goes self.old self.new (events.Load caller chunk answer)
+            went) }
     {
         if caller == 0 {
             self.load(chunk, answer)
@@ -110,7 +111,8 @@ impl Replay {
     ) -> Result<bool, AllocError>
         requires stands { Stands self.old }
         requires in_range { IsTrue (is_chunk chunk) }
-        ensures { IfOk result (λ went. Goes self.old self.new (events.Unload caller chunk answer) went) }
+        ensures { IfOk result (λ went. Goes self.old self.new (events.Unload caller chunk answer)
+            went) }
     {
         if caller == 0 {
             self.unload(chunk, answer)
@@ -133,7 +135,8 @@ impl Replay {
         requires delay { IsTrue (is_delay delay) }
         requires action { IsTrue (is_action action) }
         requires may_be_posted { IsTrue (may_post action) }
-        ensures { IfOk result (λ went. Goes self.old self.new (events.Post caller chunk delay action answer) went) }
+        ensures { IfOk result (λ went.
+            Goes self.old self.new (events.Post caller chunk delay action answer) went) }
     {
         if caller == 0 {
             self.post(chunk, delay, action, answer)

@@ -26,7 +26,8 @@ impl Replay {
         requires stands { Stands self.old }
         requires in_range { IsTrue (is_chunk chunk) }
         requires worker { 0 < caller }
-        ensures { IfOk result (λ went. Goes self.old self.new (events.Load caller chunk answer) went) }
+        ensures { IfOk result (λ went. Goes self.old self.new (events.Load caller chunk answer)
+            went) }
     {
         if !self.asks(caller, Ask::Load(chunk)) {
             return Ok(false);
@@ -48,7 +49,8 @@ impl Replay {
         requires stands { Stands self.old }
         requires in_range { IsTrue (is_chunk chunk) }
         requires worker { 0 < caller }
-        ensures { IfOk result (λ went. Goes self.old self.new (events.Unload caller chunk answer) went) }
+        ensures { IfOk result (λ went. Goes self.old self.new (events.Unload caller chunk answer)
+            went) }
     {
         if !self.asks(caller, Ask::Unload(chunk)) {
             return Ok(false);
@@ -130,7 +132,8 @@ impl Replay {
         accepts: Sequence<Accept>,
     ) -> Result<bool, AllocError>
         requires stands { Stands self.old }
-        ensures { IfOk result (λ went. Goes self.old self.new (events.End worker region tick ran accepts) went) }
+        ensures { IfOk result (λ went.
+            Goes self.old self.new (events.End worker region tick ran accepts) went) }
     {
         if worker == 0 || worker > WORKERS {
             return Ok(false);
@@ -175,7 +178,8 @@ fn note_in(place: &mut Option<Open>, answer: HostAnswer) -> Result<(), AllocErro
 
 /// Whether the last entry is an End with this counter, these outcomes and these answers.
 fn ends(history: &[Entry], tick: u64, ran: &Sequence<Ran>, accepts: &Sequence<Accept>) -> bool
-    ensures { (hs : List EntryOf) (e : EntryOf) → history.now ≡ hs ++ e ∷ [] → IsTrue result ↔ EndsWith e.event tick ran.now accepts.now }
+    ensures { (hs : List EntryOf) (e : EntryOf) → history.now ≡ hs ++ e ∷ [] → IsTrue result
+        ↔ EndsWith e.event tick ran.now accepts.now }
 {
     match history.last() {
         Some(entry) => is_end_with(&entry.event, tick, ran, accepts),

@@ -53,7 +53,8 @@ pub(crate) fn replay_events(
 impl Replay {
     /// Whether the last event is Finish.
     fn is_finished(&self) -> bool
-        ensures some { (hs : List EntryOf) (e : EntryOf) → self.now.core.history ≡ hs ++ e ∷ [] → result ≡ is_last e.event }
+        ensures some { (hs : List EntryOf) (e : EntryOf) → self.now.core.history ≡ hs ++ e ∷ []
+            → result ≡ is_last e.event }
         ensures none { self.now.core.history ≡ [] → result ≡ false }
     {
         match self.core.history().last() {

@@ -19,7 +19,10 @@ use std::alloc::AllocError;
 /// Where the block stands in the list, or where it would stand.
 pub fn place_of(blocks: &[BlockAt], at: BlockPos) -> Result<usize, usize>
     requires { IsStrictlySortedBy by_place blocks.now }
-    ensures { MatchResult result (λ i. (i < length blocks.now) × ((d : BlockAt) → (slice_index_or blocks.now i d).at ≡ at)) (λ i. (i ≤ length blocks.now) × IsPartitionPoint (λ x. block_cmp x.at at ≡ Less) (λ x. block_cmp x.at at ≡ Greater) blocks.now i) }
+    ensures { MatchResult result (λ i. (i < length blocks.now)
+        × ((d : BlockAt) → (slice_index_or blocks.now i d).at ≡ at)) (λ i. (i ≤ length blocks.now)
+        × IsPartitionPoint (λ x. block_cmp x.at at ≡ Less) (λ x. block_cmp x.at at
+        ≡ Greater) blocks.now i) }
 {
     blocks.binary_search_by(|block| compare_blocks(block.at, at))
 }
@@ -75,7 +78,8 @@ pub fn keep_filled(blocks: &mut Vec<BlockAt>)
 
 /// How many of the blocks with a number lie in the chunks of the list.
 pub fn count_listed(blocks: &[BlockAt], list: &ChunkList) -> usize
-    ensures { result ≡ count_by (λ (b : BlockAt). nat_lt 0 b.id && is_listed list.now.chunks.now (chunk_around b.at)) blocks.now }
+    ensures { result ≡ count_by (λ (b : BlockAt).
+        nat_lt 0 b.id && is_listed list.now.chunks.now (chunk_around b.at)) blocks.now }
 {
     blocks
         .iter()
@@ -99,14 +103,26 @@ pub fn add_filled(blocks: &[BlockAt], list: &mut Vec<BlockAt>) -> Result<(), All
 pub fn move_listed(blocks: &mut Vec<BlockAt>, list: &ChunkList, into: &mut Vec<BlockAt>)
     requires kept { IsBlocks blocks.old.items }
     requires into_kept { IsBlocks into.old.items }
-    requires apart { (b : BlockPos) → IsTrue (nat_eq (block_in into.old.items b) 0 || nat_eq (if is_listed list.now.chunks.now (chunk_around b) then block_in blocks.old.items b else 0) 0) }
-    requires room { vec_len into.old + count_by (λ (b : BlockAt). is_listed list.now.chunks.now (chunk_around b.at)) blocks.old.items ≤ vec_capacity into.old }
-    ensures left { block_in blocks.new.items ≡ λ b. if not (is_listed list.now.chunks.now (chunk_around b)) then block_in blocks.old.items b else 0 }
-    ensures moved { block_in into.new.items ≡ λ b. if nat_eq (block_in into.old.items b) 0 then (if is_listed list.now.chunks.now (chunk_around b) then block_in blocks.old.items b else 0) else block_in into.old.items b }
+    requires apart { (b : BlockPos)
+        → IsTrue (nat_eq (block_in into.old.items b) 0
+        || nat_eq (if is_listed list.now.chunks.now (chunk_around b)
+        then block_in blocks.old.items b else 0) 0) }
+    requires room { vec_len into.old + count_by (λ (b : BlockAt).
+        is_listed list.now.chunks.now (chunk_around b.at)) blocks.old.items
+        ≤ vec_capacity into.old }
+    ensures left { block_in blocks.new.items ≡ λ b.
+        if not (is_listed list.now.chunks.now (chunk_around b)) then block_in blocks.old.items b
+        else 0 }
+    ensures moved { block_in into.new.items ≡ λ b. if nat_eq (block_in into.old.items b) 0
+        then (if is_listed list.now.chunks.now (chunk_around b) then block_in blocks.old.items b
+        else 0) else block_in into.old.items b }
     ensures kept { IsBlocks blocks.new.items }
     ensures into_kept { IsBlocks into.new.items }
-    ensures len { vec_len blocks.new + count_by (λ (b : BlockAt). is_listed list.now.chunks.now (chunk_around b.at)) blocks.old.items ≡ vec_len blocks.old }
-    ensures into_len { vec_len into.new ≡ vec_len into.old + count_by (λ (b : BlockAt). is_listed list.now.chunks.now (chunk_around b.at)) blocks.old.items }
+    ensures len { vec_len blocks.new + count_by (λ (b : BlockAt).
+        is_listed list.now.chunks.now (chunk_around b.at)) blocks.old.items ≡ vec_len blocks.old }
+    ensures into_len { vec_len into.new ≡ vec_len into.old
+        + count_by (λ (b : BlockAt). is_listed list.now.chunks.now (chunk_around b.at))
+        blocks.old.items }
     ensures capacity { vec_capacity blocks.old ≤ vec_capacity blocks.new }
     ensures into_capacity { vec_capacity into.old ≤ vec_capacity into.new }
 {

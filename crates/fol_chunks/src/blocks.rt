@@ -103,7 +103,8 @@ impl Blocks {
     /// How many blocks with a number lie in the chunks of the list.
     pub fn count_listed(&self, list: &ChunkList) -> usize
         requires { IsKept self.now }
-        ensures { result ≡ count_by (λ (b : BlockAt). is_listed list.now.chunks.now (chunk_around b.at)) (blocks_of self.now) }
+        ensures { result ≡ count_by (λ (b : BlockAt).
+            is_listed list.now.chunks.now (chunk_around b.at)) (blocks_of self.now) }
     {
         block_list::count_listed(&self.settled, list) + block_list::count_listed(&self.fresh, list)
     }
@@ -121,7 +122,8 @@ impl Blocks {
         requires kept { IsKept self.old }
         requires room { 1 ≤ room_of self.old }
         ensures kept { IsKept self.new }
-        ensures number { block_in (blocks_of self.new) ≡ at_block (block_in (blocks_of self.old)) block.at block.id }
+        ensures number { block_in (blocks_of self.new)
+            ≡ at_block (block_in (blocks_of self.old)) block.at block.id }
         ensures len { length (blocks_of self.new) ≤ length (blocks_of self.old) + 1 }
         ensures room { room_of self.old ≤ room_of self.new + 1 }
     {
@@ -151,7 +153,8 @@ impl Blocks {
         requires place { i < vec_len self.old.settled }
         requires same { (d : BlockAt) → (slice_index_or self.old.settled.items i d).at ≡ block.at }
         ensures kept { IsKept self.new }
-        ensures number { block_in (blocks_of self.new) ≡ at_block (block_in (blocks_of self.old)) block.at block.id }
+        ensures number { block_in (blocks_of self.new)
+            ≡ at_block (block_in (blocks_of self.old)) block.at block.id }
         ensures len { length (blocks_of self.new) ≤ length (blocks_of self.old) + 1 }
         ensures room { room_of self.old ≤ room_of self.new + 1 }
     {
@@ -166,7 +169,8 @@ impl Blocks {
         requires place { j < vec_len self.old.fresh }
         requires same { (d : BlockAt) → (slice_index_or self.old.fresh.items j d).at ≡ block.at }
         ensures kept { IsKept self.new }
-        ensures number { block_in (blocks_of self.new) ≡ at_block (block_in (blocks_of self.old)) block.at block.id }
+        ensures number { block_in (blocks_of self.new)
+            ≡ at_block (block_in (blocks_of self.old)) block.at block.id }
         ensures len { length (blocks_of self.new) ≤ length (blocks_of self.old) + 1 }
         ensures room { room_of self.old ≤ room_of self.new + 1 }
     {
@@ -180,9 +184,11 @@ impl Blocks {
         requires kept { IsKept self.old }
         requires room { 1 ≤ room_of self.old }
         requires place { i ≤ vec_len self.old.settled }
-        requires absent { IsPartitionPoint (λ x. block_cmp x.at block.at ≡ Less) (λ x. block_cmp x.at block.at ≡ Greater) self.old.settled.items i }
+        requires absent { IsPartitionPoint (λ x. block_cmp x.at block.at ≡ Less) (λ x.
+            block_cmp x.at block.at ≡ Greater) self.old.settled.items i }
         ensures kept { IsKept self.new }
-        ensures number { block_in (blocks_of self.new) ≡ at_block (block_in (blocks_of self.old)) block.at block.id }
+        ensures number { block_in (blocks_of self.new)
+            ≡ at_block (block_in (blocks_of self.old)) block.at block.id }
         ensures len { length (blocks_of self.new) ≤ length (blocks_of self.old) + 1 }
         ensures room { room_of self.old ≤ room_of self.new + 1 }
     {
@@ -202,11 +208,14 @@ impl Blocks {
         requires room { 1 ≤ room_of self.old }
         requires filled { 0 < block.id }
         requires place { i ≤ vec_len self.old.settled }
-        requires absent { IsPartitionPoint (λ x. block_cmp x.at block.at ≡ Less) (λ x. block_cmp x.at block.at ≡ Greater) self.old.settled.items i }
+        requires absent { IsPartitionPoint (λ x. block_cmp x.at block.at ≡ Less) (λ x.
+            block_cmp x.at block.at ≡ Greater) self.old.settled.items i }
         requires fresh_place { j ≤ vec_len self.old.fresh }
-        requires fresh_absent { IsPartitionPoint (λ x. block_cmp x.at block.at ≡ Less) (λ x. block_cmp x.at block.at ≡ Greater) self.old.fresh.items j }
+        requires fresh_absent { IsPartitionPoint (λ x. block_cmp x.at block.at ≡ Less) (λ x.
+            block_cmp x.at block.at ≡ Greater) self.old.fresh.items j }
         ensures kept { IsKept self.new }
-        ensures number { block_in (blocks_of self.new) ≡ at_block (block_in (blocks_of self.old)) block.at block.id }
+        ensures number { block_in (blocks_of self.new)
+            ≡ at_block (block_in (blocks_of self.old)) block.at block.id }
         ensures len { length (blocks_of self.new) ≤ length (blocks_of self.old) + 1 }
         ensures room { room_of self.old ≤ room_of self.new + 1 }
     {
@@ -254,16 +263,33 @@ impl Blocks {
     pub fn move_listed(&mut self, list: &ChunkList, into: &mut Blocks)
         requires kept { IsKept self.old }
         requires into_kept { IsKept into.old }
-        requires apart { (b : BlockPos) → IsTrue (nat_eq (block_in (blocks_of into.old) b) 0 || nat_eq (if is_listed list.now.chunks.now (chunk_around b) then block_in (blocks_of self.old) b else 0) 0) }
-        requires room { count_by (λ (b : BlockAt). is_listed list.now.chunks.now (chunk_around b.at)) (blocks_of self.old) ≤ room_of into.old }
+        requires apart { (b : BlockPos)
+            → IsTrue (nat_eq (block_in (blocks_of into.old) b) 0
+            || nat_eq (if is_listed list.now.chunks.now (chunk_around b)
+            then block_in (blocks_of self.old) b else 0) 0) }
+        requires room { count_by (λ (b : BlockAt).
+            is_listed list.now.chunks.now (chunk_around b.at)) (blocks_of self.old)
+            ≤ room_of into.old }
         ensures kept { IsKept self.new }
         ensures into_kept { IsKept into.new }
-        ensures left { block_in (blocks_of self.new) ≡ λ b. if not (is_listed list.now.chunks.now (chunk_around b)) then block_in (blocks_of self.old) b else 0 }
-        ensures moved { block_in (blocks_of into.new) ≡ λ b. if nat_eq (block_in (blocks_of into.old) b) 0 then (if is_listed list.now.chunks.now (chunk_around b) then block_in (blocks_of self.old) b else 0) else block_in (blocks_of into.old) b }
-        ensures len { length (blocks_of self.new) + count_by (λ (b : BlockAt). is_listed list.now.chunks.now (chunk_around b.at)) (blocks_of self.old) ≡ length (blocks_of self.old) }
-        ensures into_len { length (blocks_of into.new) ≡ length (blocks_of into.old) + count_by (λ (b : BlockAt). is_listed list.now.chunks.now (chunk_around b.at)) (blocks_of self.old) }
+        ensures left { block_in (blocks_of self.new) ≡ λ b.
+            if not (is_listed list.now.chunks.now (chunk_around b))
+            then block_in (blocks_of self.old) b else 0 }
+        ensures moved { block_in (blocks_of into.new) ≡ λ b.
+            if nat_eq (block_in (blocks_of into.old) b) 0
+            then (if is_listed list.now.chunks.now (chunk_around b)
+            then block_in (blocks_of self.old) b else 0) else block_in (blocks_of into.old) b }
+        ensures len { length (blocks_of self.new)
+            + count_by (λ (b : BlockAt). is_listed list.now.chunks.now (chunk_around b.at))
+            (blocks_of self.old) ≡ length (blocks_of self.old) }
+        ensures into_len { length (blocks_of into.new)
+            ≡ length (blocks_of into.old)
+            + count_by (λ (b : BlockAt). is_listed list.now.chunks.now (chunk_around b.at))
+            (blocks_of self.old) }
         ensures room { room_of self.old ≤ room_of self.new }
-        ensures into_room { room_of into.old ≤ room_of into.new + count_by (λ (b : BlockAt). is_listed list.now.chunks.now (chunk_around b.at)) (blocks_of self.old) }
+        ensures into_room { room_of into.old
+            ≤ room_of into.new + count_by (λ (b : BlockAt).
+            is_listed list.now.chunks.now (chunk_around b.at)) (blocks_of self.old) }
     {
         self.settle();
         into.settle();

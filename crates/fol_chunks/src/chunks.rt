@@ -92,7 +92,8 @@ impl Chunks {
     /// Gives a block a number; 0 takes its number away. Takes no memory.
     pub fn set(&mut self, at: BlockPos, id: u16)
         requires { 1 ≤ self.old.spare }
-        ensures blocks { flat_of self.new ≡ record (flat_of self.old) { blocks = at_block (flat_of self.old).blocks at id } }
+        ensures blocks { flat_of self.new
+            ≡ record (flat_of self.old) { blocks = at_block (flat_of self.old).blocks at id } }
         ensures size { size_of self.new ≤ size_of self.old + 1 }
         ensures spare { self.old.spare ≤ self.new.spare + 1 }
     {
@@ -109,7 +110,8 @@ impl Chunks {
     /// Takes the entity out, where it is there.
     pub fn take_entity(&mut self, id: u32) -> Option<Entity>
         ensures entity { result ≡ option_map (entity_of id) ((flat_of self.old).standing id) }
-        ensures left { flat_of self.new ≡ record (flat_of self.old) { standing = at_id (flat_of self.old).standing id None } }
+        ensures left { flat_of self.new
+            ≡ record (flat_of self.old) { standing = at_id (flat_of self.old).standing id None } }
         ensures size { size_of self.new + option_len result ≡ size_of self.old }
         ensures spare { self.old.spare ≤ self.new.spare }
     {
@@ -120,7 +122,11 @@ impl Chunks {
     pub fn put_entity(&mut self, e: Entity)
         requires spare { 1 ≤ self.old.spare }
         requires fresh { IsNone ((flat_of self.old).standing e.id) }
-        ensures entity { flat_of self.new ≡ record (flat_of self.old) { standing = at_id (flat_of self.old).standing e.id (Some (standing_of e)) } }
+        ensures entity { flat_of self.new
+            ≡ record (flat_of self.old) {
+              standing = at_id (flat_of self.old).standing e.id
+                  (Some (standing_of e));
+            } }
         ensures size { size_of self.new ≡ size_of self.old + 1 }
         ensures spare { self.old.spare ≤ self.new.spare + 1 }
     {
@@ -150,14 +156,19 @@ impl Chunks {
     /// Moves what lies in the chunks, which stand by z, and then by x. Takes no memory.
     pub fn move_listed(&mut self, chunks: &[ChunkPos], into: &mut Chunks)
         requires order { IsStrictlySortedBy chunk_cmp chunks.now }
-        requires apart { Apart (flat_of into.old) (within (is_listed chunks.now) (flat_of self.old)) }
+        requires apart { Apart (flat_of into.old)
+            (within (is_listed chunks.now) (flat_of self.old)) }
         requires room { size_within (is_listed chunks.now) self.old ≤ into.old.spare }
         ensures stayed { flat_of self.new ≡ outside (is_listed chunks.now) (flat_of self.old) }
-        ensures moved { flat_of into.new ≡ joined (flat_of into.old) (within (is_listed chunks.now) (flat_of self.old)) }
-        ensures size { size_of self.new + size_within (is_listed chunks.now) self.old ≡ size_of self.old }
-        ensures into_size { size_of into.new ≡ size_of into.old + size_within (is_listed chunks.now) self.old }
+        ensures moved { flat_of into.new
+            ≡ joined (flat_of into.old) (within (is_listed chunks.now) (flat_of self.old)) }
+        ensures size { size_of self.new + size_within (is_listed chunks.now) self.old
+            ≡ size_of self.old }
+        ensures into_size { size_of into.new
+            ≡ size_of into.old + size_within (is_listed chunks.now) self.old }
         ensures spare { self.old.spare ≤ self.new.spare }
-        ensures into_spare { into.old.spare ≤ into.new.spare + size_within (is_listed chunks.now) self.old }
+        ensures into_spare { into.old.spare
+            ≤ into.new.spare + size_within (is_listed chunks.now) self.old }
     {
         let list = ChunkList::of(chunks);
         self.blocks.move_listed(&list, &mut into.blocks);

@@ -20,7 +20,10 @@ use fol_model::{BlockPos, Entity};
 /// Where the entity stands in the list, or where it would stand.
 fn place_of(entities: &[Entity], id: u32) -> Result<usize, usize>
     requires { IsStrictlySortedBy by_id entities.now }
-    ensures { MatchResult result (λ i. (i < length entities.now) × ((d : Entity) → (slice_index_or entities.now i d).id ≡ id)) (λ i. (i ≤ length entities.now) × IsPartitionPoint (λ x. nat_cmp x.id id ≡ Less) (λ x. nat_cmp x.id id ≡ Greater) entities.now i) }
+    ensures { MatchResult result (λ i. (i < length entities.now)
+        × ((d : Entity) → (slice_index_or entities.now i d).id ≡ id)) (λ i.
+        (i ≤ length entities.now) × IsPartitionPoint (λ x. nat_cmp x.id id ≡ Less) (λ x.
+        nat_cmp x.id id ≡ Greater) entities.now i) }
 {
     entities.binary_search_by(|entity| entity.id.cmp(&id))
 }
@@ -56,7 +59,8 @@ pub fn put(entities: &mut Vec<Entity>, entity: Entity)
     requires order { IsStrictlySortedBy by_id entities.old.items }
     requires room { vec_len entities.old < vec_capacity entities.old }
     requires fresh { IsNone (standing_in entities.old.items entity.id) }
-    ensures entity { standing_in entities.new.items ≡ at_id (standing_in entities.old.items) entity.id (Some (standing_of entity)) }
+    ensures entity { standing_in entities.new.items
+        ≡ at_id (standing_in entities.old.items) entity.id (Some (standing_of entity)) }
     ensures order { IsStrictlySortedBy by_id entities.new.items }
     ensures len { vec_len entities.new ≡ vec_len entities.old + 1 }
     ensures capacity { vec_capacity entities.old ≤ vec_capacity entities.new }
@@ -74,14 +78,28 @@ pub fn put(entities: &mut Vec<Entity>, entity: Entity)
 pub fn move_listed(entities: &mut Vec<Entity>, list: &ChunkList, into: &mut Vec<Entity>)
     requires order { IsStrictlySortedBy by_id entities.old.items }
     requires into_order { IsStrictlySortedBy by_id into.old.items }
-    requires apart { (id : ℕ) → IsTrue (is_none (standing_in into.old.items id) || is_none (option_filter (λ s. is_listed list.now.chunks.now (chunk_around s.at)) (standing_in entities.old.items id))) }
-    requires room { vec_len into.old + count_by (λ (e : Entity). is_listed list.now.chunks.now (chunk_around e.at)) entities.old.items ≤ vec_capacity into.old }
-    ensures left { standing_in entities.new.items ≡ λ id. option_filter (λ s. not (is_listed list.now.chunks.now (chunk_around s.at))) (standing_in entities.old.items id) }
-    ensures moved { standing_in into.new.items ≡ λ id. option_or (standing_in into.old.items id) (option_filter (λ s. is_listed list.now.chunks.now (chunk_around s.at)) (standing_in entities.old.items id)) }
+    requires apart { (id : ℕ)
+        → IsTrue (is_none (standing_in into.old.items id)
+        || is_none (option_filter (λ s. is_listed list.now.chunks.now (chunk_around s.at))
+        (standing_in entities.old.items id))) }
+    requires room { vec_len into.old + count_by (λ (e : Entity).
+        is_listed list.now.chunks.now (chunk_around e.at)) entities.old.items
+        ≤ vec_capacity into.old }
+    ensures left { standing_in entities.new.items ≡ λ id.
+        option_filter (λ s. not (is_listed list.now.chunks.now (chunk_around s.at)))
+        (standing_in entities.old.items id) }
+    ensures moved { standing_in into.new.items ≡ λ id.
+        option_or (standing_in into.old.items id)
+        (option_filter (λ s. is_listed list.now.chunks.now (chunk_around s.at))
+        (standing_in entities.old.items id)) }
     ensures order { IsStrictlySortedBy by_id entities.new.items }
     ensures into_order { IsStrictlySortedBy by_id into.new.items }
-    ensures len { vec_len entities.new + count_by (λ (e : Entity). is_listed list.now.chunks.now (chunk_around e.at)) entities.old.items ≡ vec_len entities.old }
-    ensures into_len { vec_len into.new ≡ vec_len into.old + count_by (λ (e : Entity). is_listed list.now.chunks.now (chunk_around e.at)) entities.old.items }
+    ensures len { vec_len entities.new + count_by (λ (e : Entity).
+        is_listed list.now.chunks.now (chunk_around e.at)) entities.old.items
+        ≡ vec_len entities.old }
+    ensures into_len { vec_len into.new ≡ vec_len into.old
+        + count_by (λ (e : Entity). is_listed list.now.chunks.now (chunk_around e.at))
+        entities.old.items }
     ensures capacity { vec_capacity entities.old ≤ vec_capacity entities.new }
     ensures into_capacity { vec_capacity into.old ≤ vec_capacity into.new }
 {

@@ -37,7 +37,9 @@ fn step<S: ChunkSet>(entity: Entity, recorded: &S) -> Entity
 
 /// The entity at a block, where its chunk and the block's are recorded.
 fn moved_to<S: ChunkSet>(entity: Entity, at: BlockPos, recorded: &S) -> Entity
-    ensures { result ≡ (if is_recorded (S.listed recorded.now) (chunk_around entity.at) && is_recorded (S.listed recorded.now) (chunk_around at) then record entity { at = at } else entity) }
+    ensures { result ≡ (if is_recorded (S.listed recorded.now) (chunk_around entity.at)
+        && is_recorded (S.listed recorded.now) (chunk_around at) then record entity { at = at }
+        else entity) }
 {
     if has_both(recorded, chunk_of(entity.at), chunk_of(at)) {
         Entity {
@@ -53,7 +55,8 @@ fn moved_to<S: ChunkSet>(entity: Entity, at: BlockPos, recorded: &S) -> Entity
 
 /// Whether both chunks are recorded. Often they are the same.
 fn has_both<S: ChunkSet>(recorded: &S, here: ChunkPos, there: ChunkPos) -> bool
-    ensures { result ≡ (is_recorded (S.listed recorded.now) here && is_recorded (S.listed recorded.now) there) }
+    ensures { result
+        ≡ (is_recorded (S.listed recorded.now) here && is_recorded (S.listed recorded.now) there) }
 {
     recorded.contains(here) && (here == there || recorded.contains(there))
 }

@@ -102,12 +102,16 @@ fn due_list(
 ) -> Result<Vec<Task>, AllocError>
     requires given { IsGivenIn (grid_state regions.now) id }
     requires bags { HaveBags (grid_state regions.now) (bag_of store.old) }
-    requires at_home { owes_tick (grid_state regions.now) (bag_of store.old) id ≡ true → (bag_of store.old id).taken ≡ false }
-    requires free { owes_tick (grid_state regions.now) (bag_of store.old) id ≡ true → AreFree (bag_of store.old) (filter (is_chunk_of (grid_state regions.now) id) all_chunks) }
-    ensures bags { (r : ℕ) → Gathered (grid_state regions.now) r (bag_of store.old r) (bag_of store.new r) }
+    requires at_home { owes_tick (grid_state regions.now) (bag_of store.old) id ≡ true
+        → (bag_of store.old id).taken ≡ false }
+    requires free { owes_tick (grid_state regions.now) (bag_of store.old) id ≡ true
+        → AreFree (bag_of store.old) (filter (is_chunk_of (grid_state regions.now) id) all_chunks) }
+    ensures bags { (r : ℕ)
+        → Gathered (grid_state regions.now) r (bag_of store.old r) (bag_of store.new r) }
     ensures things { SameThings store.old store.new }
     ensures next { next_of store.new ≡ next_of store.old }
-    ensures room { IfOk result (λ due. DueRoom due store.new (owes_tick (grid_state regions.now) (bag_of store.old) id) id) }
+    ensures room { IfOk result (λ due.
+        DueRoom due store.new (owes_tick (grid_state regions.now) (bag_of store.old) id) id) }
 {
     if !owes(regions, store, id) {
         return Ok(Vec::new(alloc));
@@ -123,8 +127,10 @@ fn settle(alloc: Global, regions: &Regions, store: &mut Store, id: u64) -> Resul
     requires given { IsGivenIn (grid_state regions.now) id }
     requires here { (bag_of store.old id).here ≡ true }
     requires at_home { (bag_of store.old id).taken ≡ false }
-    requires free { AreFree (bag_of store.old) (filter (is_chunk_of (grid_state regions.now) id) all_chunks) }
-    ensures bags { (r : ℕ) → Gathered (grid_state regions.now) r (bag_of store.old r) (bag_of store.new r) }
+    requires free { AreFree (bag_of store.old)
+        (filter (is_chunk_of (grid_state regions.now) id) all_chunks) }
+    ensures bags { (r : ℕ)
+        → Gathered (grid_state regions.now) r (bag_of store.old r) (bag_of store.new r) }
     ensures whole { OnOk result (is_whole (bag_of store.new id) ≡ true) }
     ensures things { SameThings store.old store.new }
     ensures next { next_of store.new ≡ next_of store.old }
@@ -159,22 +165,34 @@ fn hand_out(tables: &mut Tables, id: u64, room: Vec<Task>) -> Begun
     requires whole { is_whole (bag_of tables.old.store id) ≡ true }
     requires empty { room.items ≡ [] }
     requires room { due_of tables.old.store id ≤ vec_capacity room }
-    requires bags { HaveBags (begin (grid_state tables.old.regions) id) (at_id (bag_of tables.old.store) id (taken_out (bag_of tables.old.store id))) }
-    requires covers { Covers tables.old.agenda.items (begin (grid_state tables.old.regions) id) (at_id (bag_of tables.old.store) id (taken_out (bag_of tables.old.store id))) }
+    requires bags { HaveBags (begin (grid_state tables.old.regions) id)
+        (at_id (bag_of tables.old.store) id (taken_out (bag_of tables.old.store id))) }
+    requires covers { Covers tables.old.agenda.items (begin (grid_state tables.old.regions) id)
+        (at_id (bag_of tables.old.store) id (taken_out (bag_of tables.old.store id))) }
     ensures chunks { result.chunks.items ≡ (bag_of tables.old.store id).chunks }
     ensures counter { result.body.tick ≡ (bag_of tables.old.store id).tick }
     ensures owed { result.body.owed ≡ (bag_of tables.old.store id).owed - 1 }
-    ensures contents { contents_of result.body.chunks ≡ within (is_recorded (bag_of tables.old.store id).chunks) (flat_of tables.old.store) }
-    ensures left { queued_of result.body.queues (result.body.tick + 1) ≡ λ n. left_job (is_recorded (bag_of tables.old.store id).chunks) (jobs_of tables.old.store n) }
-    ensures due { task_in result.due.items ≡ λ n. due_task (is_recorded (bag_of tables.old.store id).chunks) n (jobs_of tables.old.store n) }
+    ensures contents { contents_of result.body.chunks
+        ≡ within (is_recorded (bag_of tables.old.store id).chunks) (flat_of tables.old.store) }
+    ensures left { queued_of result.body.queues (result.body.tick + 1) ≡ λ n.
+        left_job (is_recorded (bag_of tables.old.store id).chunks) (jobs_of tables.old.store n) }
+    ensures due { task_in result.due.items ≡ λ n.
+        due_task (is_recorded (bag_of tables.old.store id).chunks) n (jobs_of tables.old.store n) }
     ensures order { Rising result.due.items }
-    ensures flat { flat_of tables.new.store ≡ outside (is_recorded (bag_of tables.old.store id).chunks) (flat_of tables.old.store) }
-    ensures jobs { jobs_of tables.new.store ≡ λ n. option_filter (λ j. not (is_recorded (bag_of tables.old.store id).chunks j.chunk)) (jobs_of tables.old.store n) }
-    ensures taken { bag_of tables.new.store ≡ at_id (bag_of tables.old.store) id (taken_out (bag_of tables.old.store id)) }
+    ensures flat { flat_of tables.new.store
+        ≡ outside (is_recorded (bag_of tables.old.store id).chunks) (flat_of tables.old.store) }
+    ensures jobs { jobs_of tables.new.store ≡ λ n.
+        option_filter (λ j. not (is_recorded (bag_of tables.old.store id).chunks j.chunk))
+        (jobs_of tables.old.store n) }
+    ensures taken { bag_of tables.new.store
+        ≡ at_id (bag_of tables.old.store) id (taken_out (bag_of tables.old.store id)) }
     ensures next { next_of tables.new.store ≡ next_of tables.old.store }
     ensures regions { grid_state tables.new.regions ≡ begin (grid_state tables.old.regions) id }
-    ensures agenda { IsAgenda tables.new.agenda.items (grid_state tables.new.regions) (bag_of tables.new.store) }
-    ensures others { (tables.new.grid ≡ tables.old.grid) × (tables.new.tickets.entries ≡ tables.old.tickets.entries) × (tables.new.course ≡ tables.old.course) }
+    ensures agenda { IsAgenda tables.new.agenda.items (grid_state tables.new.regions)
+        (bag_of tables.new.store) }
+    ensures others { (tables.new.grid ≡ tables.old.grid)
+        × (tables.new.tickets.entries ≡ tables.old.tickets.entries)
+        × (tables.new.course ≡ tables.old.course) }
 {
     let Taken { chunks, mut body } = tables.store.take(id);
     tables.regions.begin(id);

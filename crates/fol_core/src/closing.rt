@@ -51,7 +51,8 @@ impl Core {
     /// lowest such one. All is dropped after a fault.
     pub fn closing(self, alloc: Global) -> Result<Closing, CloseFault>
         ensures rows { IfOk result (λ c. Outputs self.opening self.history c) }
-        ensures rests { OnOk result (some_below (is_ticking_in (world_of self)) (world_of self).grid.next ≡ false) }
+        ensures rests { OnOk result (some_below (is_ticking_in (world_of self))
+            (world_of self).grid.next ≡ false) }
         ensures fault { IfErr result (Faults (world_of self)) }
     {
         let Core {
@@ -84,7 +85,8 @@ fn closing_of(
     live: &[u64],
 ) -> Result<Closing, AllocError>
     requires stands { Stands opening history.items tables }
-    requires live { live.now ≡ filter (λ r. not (is_dead ((grid_state tables.regions).state r))) (numbers_below (grid_state tables.regions).next) }
+    requires live { live.now ≡ filter (λ r. not (is_dead ((grid_state tables.regions).state r)))
+        (numbers_below (grid_state tables.regions).next) }
     requires calm { find (ticks_in (grid_state tables.regions)) live.now ≡ Option.None }
     ensures { IfOk result (λ c. Outputs opening history.items c) }
 {
@@ -101,8 +103,10 @@ fn grid_rows(
     live: &[u64],
 ) -> Result<GridRows, AllocError>
     requires have { All (HasRow (grid_state regions.now) (bag_of store.now)) live.now }
-    requires live { live.now ≡ filter (λ r. not (is_dead ((grid_state regions.now).state r))) (numbers_below (grid_state regions.now).next) }
-    ensures regions { IfOk result (λ rows. rows.regions.items ≡ map (row_in (grid_state regions.now) (bag_of store.now)) live.now) }
+    requires live { live.now ≡ filter (λ r. not (is_dead ((grid_state regions.now).state r)))
+        (numbers_below (grid_state regions.now).next) }
+    ensures regions { IfOk result (λ rows. rows.regions.items
+        ≡ map (row_in (grid_state regions.now) (bag_of store.now)) live.now) }
     ensures owners { IfOk result (λ rows. rows.owners.items ≡ owners_in (grid_state regions.now)) }
 {
     let region_list = region_rows(alloc, regions, store, live)?;
@@ -130,7 +134,8 @@ fn store_of(tables: Tables) -> Store
 
 /// The rows of what lies in a store.
 fn thing_rows(alloc: Global, store: Store) -> Result<ThingRows, AllocError>
-    ensures { IfOk result (λ rows. AreThings store rows.blocks.items rows.entities.items rows.tasks.items) }
+    ensures { IfOk result (λ rows. AreThings store rows.blocks.items rows.entities.items
+        rows.tasks.items) }
 {
     let rows = store.into_rows(alloc)?;
     let Rows {
@@ -193,7 +198,8 @@ fn region_rows(
     live: &[u64],
 ) -> Result<Vec<RegionRow>, AllocError>
     requires have { All (HasRow (grid_state regions.now) (bag_of store.now)) live.now }
-    ensures { IfOk result (λ v. v.items ≡ map (row_in (grid_state regions.now) (bag_of store.now)) live.now) }
+    ensures { IfOk result (λ v. v.items ≡ map (row_in (grid_state regions.now) (bag_of store.now))
+        live.now) }
 {
     let mut rows = Vec::new(alloc);
     for id in live {
@@ -224,7 +230,8 @@ fn entity_rows(
     entities: &[Entity],
     tasks: &[TaskRow],
 ) -> Result<Vec<EntityRow>, AllocError>
-    ensures { IfOk result (λ v. (f : ℕ → Option Place) → ArePlaces f entities.now tasks.now → v.items ≡ places_in f) }
+    ensures { IfOk result (λ v. (f : ℕ → Option Place) → ArePlaces f entities.now tasks.now
+        → v.items ≡ places_in f) }
 {
     let mut places = BTreeMap::new(alloc);
     put_standing(&mut places, entities)?;
@@ -234,7 +241,8 @@ fn entity_rows(
 
 /// Puts where these entities stand into a map.
 fn put_standing(places: &mut Places, entities: &[Entity]) -> Result<(), AllocError>
-    ensures { OnOk result (PutsAll nat_cmp places.old places.new (map standing_entry entities.now)) }
+    ensures { OnOk result (PutsAll nat_cmp places.old places.new
+        (map standing_entry entities.now)) }
 {
     for e in entities {
         places.insert(e.id, Place::At(e.at))?;
@@ -244,7 +252,8 @@ fn put_standing(places: &mut Places, entities: &[Entity]) -> Result<(), AllocErr
 
 /// Puts the entities that these tasks bring into a map.
 fn put_arrivals(places: &mut Places, tasks: &[TaskRow]) -> Result<(), AllocError>
-    ensures { OnOk result (PutsAll nat_cmp places.old places.new (flat_map arrival_entries tasks.now)) }
+    ensures { OnOk result (PutsAll nat_cmp places.old places.new
+        (flat_map arrival_entries tasks.now)) }
 {
     for row in tasks {
         if let Action::Arrive(e) = &row.task.action {

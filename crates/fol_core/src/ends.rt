@@ -45,8 +45,12 @@ pub(crate) fn end_tick(tables: &mut Tables, tick: Tick, mut accepts: Vec<Accept>
     requires may { MayEnd tables.old tick }
     requires empty { accepts.items ≡ [] }
     requires room { length tick.log.wishes ≤ vec_capacity accepts }
-    ensures event { (o : Opening) (h : List Entry) (m : Option ℕ) → Stands o h tables.old → IsOut (record { opening = o; history = h; room = m }) tick → result ≡ end_event (world o h) tick.worker tick.region tick.log.ran }
-    ensures ended { (o : Opening) (h : List Entry) (m : Option ℕ) → Stands o h tables.old → IsOut (record { opening = o; history = h; room = m }) tick → Fits tables.new (ended (world o h) tick.region tick.log.ran) (since o h) }
+    ensures event { (o : Opening) (h : List Entry) (m : Option ℕ) → Stands o h tables.old
+        → IsOut (record { opening = o; history = h; room = m }) tick
+        → result ≡ end_event (world o h) tick.worker tick.region tick.log.ran }
+    ensures ended { (o : Opening) (h : List Entry) (m : Option ℕ) → Stands o h tables.old
+        → IsOut (record { opening = o; history = h; room = m }) tick
+        → Fits tables.new (ended (world o h) tick.region tick.log.ran) (since o h) }
     ensures course { tables.new.course.size ≡ tables.old.course.size }
 {
     let Tick {
@@ -86,7 +90,8 @@ fn drop_due(tables: &mut Tables, region: u64, due: &[Task])
 fn drop_holds(regions: &mut Regions, store: &mut Store, region: u64, due: &[Task])
     requires out { (bag_of store.old region).taken ≡ true }
     ensures regions { grid_state regions.new ≡ drop_each (grid_state regions.old) due.now }
-    ensures bags { Loosens (grid_state regions.old) (grid_state regions.new) region (bag_of store.old) (bag_of store.new) }
+    ensures bags { Loosens (grid_state regions.old) (grid_state regions.new) region
+        (bag_of store.old) (bag_of store.new) }
     ensures things { SameThings store.old store.new }
     ensures next { next_of store.new ≡ next_of store.old }
     ensures spare { regions.new.spare ≡ regions.old.spare }
@@ -102,7 +107,8 @@ fn drop_holds(regions: &mut Regions, store: &mut Store, region: u64, due: &[Task
 fn drop_hold(regions: &mut Regions, store: &mut Store, region: u64, chunk: ChunkPos)
     requires out { (bag_of store.old region).taken ≡ true }
     ensures regions { grid_state regions.new ≡ drop (grid_state regions.old) chunk }
-    ensures bags { Loosens (grid_state regions.old) (grid_state regions.new) region (bag_of store.old) (bag_of store.new) }
+    ensures bags { Loosens (grid_state regions.old) (grid_state regions.new) region
+        (bag_of store.old) (bag_of store.new) }
     ensures things { SameThings store.old store.new }
     ensures next { next_of store.new ≡ next_of store.old }
     ensures spare { regions.new.spare ≡ regions.old.spare }

@@ -83,7 +83,9 @@ fn loaded(tables: &mut Tables, c: ChunkPos) -> Loaded
     requires { CanHold tables.old c }
     ensures answer { result ≡ load_answer_in (grid_state tables.old.regions) c }
     ensures held { Holds tables.old tables.new c }
-    ensures tickets { (q : ChunkPos) → count_at tables.new.tickets.entries q ≡ tickets_after (is_full (grid_state tables.old.regions) c) (count_at tables.old.tickets.entries) c q }
+    ensures tickets { (q : ChunkPos) → count_at tables.new.tickets.entries q
+        ≡ tickets_after (is_full (grid_state tables.old.regions) c)
+        (count_at tables.old.tickets.entries) c q }
 {
     match hold(tables, c) {
         AddAnswer::Full { present, wanted } => Loaded::Full { present, wanted },
@@ -96,10 +98,15 @@ fn loaded(tables: &mut Tables, c: ChunkPos) -> Loaded
 
 /// Takes a ticket, where the chunk has one. With its last hold the chunk's region loses the chunk.
 fn unloaded(tables: &mut Tables, c: ChunkPos) -> Unloaded
-    requires known { IsKnown (bag_of tables.old.store) ((grid_state tables.old.regions).owner (section_around tables.old.grid c)) }
-    requires near { CanLose (grid_state tables.old.regions) c ((grid_state tables.old.regions).owner (section_around tables.old.grid c)) (bag_of tables.old.store) }
-    ensures answer { result ≡ (if nat_eq (count_at tables.old.tickets.entries c) 0 then Unloaded.NoTicket else Unloaded.Lowered) }
-    ensures done { Drops tables.old tables.new c (nat_eq (count_at tables.old.tickets.entries c) 0) }
+    requires known { IsKnown (bag_of tables.old.store)
+        ((grid_state tables.old.regions).owner (section_around tables.old.grid c)) }
+    requires near { CanLose (grid_state tables.old.regions) c
+        ((grid_state tables.old.regions).owner (section_around tables.old.grid c))
+        (bag_of tables.old.store) }
+    ensures answer { result ≡ (if nat_eq (count_at tables.old.tickets.entries c) 0
+        then Unloaded.NoTicket else Unloaded.Lowered) }
+    ensures done { Drops tables.old tables.new c
+        (nat_eq (count_at tables.old.tickets.entries c) 0) }
 {
     if drop_hold(&mut tables.tickets, c) == 0 {
         return Unloaded::NoTicket;
@@ -112,9 +119,12 @@ fn unloaded(tables: &mut Tables, c: ChunkPos) -> Unloaded
 /// Takes a hold from a chunk of a section. With the last hold the region of the section has a chunk less.
 fn lower(regions: &mut Regions, store: &mut Store, home: SectionPos, c: ChunkPos)
     requires known { IsKnown (bag_of store.old) ((grid_state regions.old).owner home) }
-    requires near { CanLose (grid_state regions.old) c ((grid_state regions.old).owner home) (bag_of store.old) }
+    requires near { CanLose (grid_state regions.old) c ((grid_state regions.old).owner home)
+        (bag_of store.old) }
     ensures regions { grid_state regions.new ≡ drop (grid_state regions.old) c }
-    ensures bags { Settle (grid_state regions.new) (unsettled_at (losing home (grid_state regions.old) c) (bag_of store.old)) (bag_of store.new) }
+    ensures bags { Settle (grid_state regions.new)
+        (unsettled_at (losing home (grid_state regions.old) c) (bag_of store.old))
+        (bag_of store.new) }
     ensures things { SameThings store.old store.new }
     ensures next { next_of store.new ≡ next_of store.old }
 {
@@ -128,8 +138,11 @@ fn lower(regions: &mut Regions, store: &mut Store, home: SectionPos, c: ChunkPos
 /// The region of the section, if there is one, has the chunk less.
 fn lose_chunk(regions: &Regions, store: &mut Store, s: SectionPos, c: ChunkPos)
     requires known { IsKnown (bag_of store.old) ((grid_state regions.now).owner s) }
-    requires near { 0 < (grid_state regions.now).owner s → Narrows (grid_state regions.now) c ((grid_state regions.now).owner s) (bag_of store.old ((grid_state regions.now).owner s)) }
-    ensures bags { Settle (grid_state regions.now) (unsettled_at ((grid_state regions.now).owner s) (bag_of store.old)) (bag_of store.new) }
+    requires near { 0 < (grid_state regions.now).owner s
+        → Narrows (grid_state regions.now) c ((grid_state regions.now).owner s)
+        (bag_of store.old ((grid_state regions.now).owner s)) }
+    ensures bags { Settle (grid_state regions.now)
+        (unsettled_at ((grid_state regions.now).owner s) (bag_of store.old)) (bag_of store.new) }
     ensures things { SameThings store.old store.new }
     ensures next { next_of store.new ≡ next_of store.old }
 {
@@ -146,7 +159,8 @@ pub(crate) fn hold(tables: &mut Tables, c: ChunkPos) -> AddAnswer
     ensures answer { result ≡ add_answer (grid_state tables.old.regions) c }
     ensures held { Holds tables.old tables.new c }
     ensures tickets { tables.new.tickets ≡ tables.old.tickets }
-    ensures left { LeavesRoom tables.old tables.new (length (add_change (grid_state tables.old.regions) c).created) }
+    ensures left { LeavesRoom tables.old tables.new
+        (length (add_change (grid_state tables.old.regions) c).created) }
 {
     let held = tables.regions.holds(c) > 0;
     let answer = tables.regions.add(c);
@@ -167,8 +181,12 @@ fn follow(
     answer: AddAnswer,
 )
     requires can { CanFollow store.old regions.now.last }
-    requires settles { (h : ℕ → Bag) → ChangesTo regions.now.last (bag_of store.old) h → CanSettle held answer (grid_state regions.now) c ((grid_state regions.now).owner s) (changed_bags regions.now.last (bag_of store.old)) h }
-    ensures bags { Settle (grid_state regions.now) (followed (if held then 0 else (grid_state regions.now).owner s) regions.now.last (bag_of store.old)) (bag_of store.new) }
+    requires settles { (h : ℕ → Bag) → ChangesTo regions.now.last (bag_of store.old) h
+        → CanSettle held answer (grid_state regions.now) c ((grid_state regions.now).owner s)
+        (changed_bags regions.now.last (bag_of store.old)) h }
+    ensures bags { Settle (grid_state regions.now)
+        (followed (if held then 0 else (grid_state regions.now).owner s) regions.now.last
+        (bag_of store.old)) (bag_of store.new) }
     ensures things { SameThings store.old store.new }
     ensures next { next_of store.new ≡ next_of store.old + length regions.now.last.created }
     ensures spare { store.old.spare ≤ store.new.spare }
@@ -198,8 +216,10 @@ fn change_bags(regions: &Regions, store: &mut Store)
 /// Where the hold was added, the region of the section, if there is one, has the chunk more.
 fn gain_chunk(regions: &Regions, store: &mut Store, s: SectionPos, c: ChunkPos, answer: AddAnswer)
     requires known { IsKnown (bag_of store.old) ((grid_state regions.now).owner s) }
-    requires near { CanGain answer (grid_state regions.now) c ((grid_state regions.now).owner s) (bag_of store.old ((grid_state regions.now).owner s)) }
-    ensures bags { Settle (grid_state regions.now) (unsettled_at ((grid_state regions.now).owner s) (bag_of store.old)) (bag_of store.new) }
+    requires near { CanGain answer (grid_state regions.now) c ((grid_state regions.now).owner s)
+        (bag_of store.old ((grid_state regions.now).owner s)) }
+    ensures bags { Settle (grid_state regions.now)
+        (unsettled_at ((grid_state regions.now).owner s) (bag_of store.old)) (bag_of store.new) }
     ensures things { SameThings store.old store.new }
     ensures next { next_of store.new ≡ next_of store.old }
     ensures spare { store.new.spare ≡ store.old.spare }
@@ -217,8 +237,11 @@ fn gain_chunk(regions: &Regions, store: &mut Store, s: SectionPos, c: ChunkPos, 
 /// The region of the section, if there is one, has the chunk more.
 fn gain_owner(regions: &Regions, store: &mut Store, s: SectionPos, c: ChunkPos)
     requires known { IsKnown (bag_of store.old) ((grid_state regions.now).owner s) }
-    requires near { 0 < (grid_state regions.now).owner s → Widens (grid_state regions.now) c ((grid_state regions.now).owner s) (bag_of store.old ((grid_state regions.now).owner s)) }
-    ensures bags { Settle (grid_state regions.now) (unsettled_at ((grid_state regions.now).owner s) (bag_of store.old)) (bag_of store.new) }
+    requires near { 0 < (grid_state regions.now).owner s
+        → Widens (grid_state regions.now) c ((grid_state regions.now).owner s)
+        (bag_of store.old ((grid_state regions.now).owner s)) }
+    ensures bags { Settle (grid_state regions.now)
+        (unsettled_at ((grid_state regions.now).owner s) (bag_of store.old)) (bag_of store.new) }
     ensures things { SameThings store.old store.new }
     ensures next { next_of store.new ≡ next_of store.old }
     ensures spare { store.new.spare ≡ store.old.spare }
@@ -233,7 +256,8 @@ fn gain_owner(regions: &Regions, store: &mut Store, s: SectionPos, c: ChunkPos)
 /// The region of the section, if there is one, has other chunks.
 fn unsettle_owner(regions: &Regions, store: &mut Store, s: SectionPos)
     requires { IsKnown (bag_of store.old) ((grid_state regions.now).owner s) }
-    ensures bags { bag_of store.new ≡ unsettled_at ((grid_state regions.now).owner s) (bag_of store.old) }
+    ensures bags { bag_of store.new ≡ unsettled_at ((grid_state regions.now).owner s)
+        (bag_of store.old) }
     ensures things { SameThings store.old store.new }
     ensures next { next_of store.new ≡ next_of store.old }
     ensures spare { store.new.spare ≡ store.old.spare }

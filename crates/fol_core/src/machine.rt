@@ -94,7 +94,8 @@ impl Core {
     pub fn next_owing(&self, first: u64) -> Option<u64>
         ensures first { is_owing (world_of self.now) first ≡ true → result ≡ Some first }
         ensures some { IfSome result (λ r. is_owing (world_of self.now) r ≡ true) }
-        ensures none { IfNone result ((r : ℕ) → 0 < r → r < (world_of self.now).grid.next → is_owing (world_of self.now) r ≡ false) }
+        ensures none { IfNone result ((r : ℕ) → 0 < r → r < (world_of self.now).grid.next
+            → is_owing (world_of self.now) r ≡ false) }
     {
         if owes(&self.tables.regions, &self.tables.store, first) {
             return Some(first);
@@ -129,7 +130,8 @@ impl Core {
 pub(crate) fn record(history: &mut Vec<Entry>, course: &mut Course, by: u32, event: Event)
     requires room { vec_len history.old < vec_capacity history.old }
     requires few { course.old.size ≤ 2 ^ 50 }
-    ensures entries { history.new.items ≡ history.old.items ++ (record { by = by; event = event }) ∷ [] }
+    ensures entries { history.new.items ≡ history.old.items
+        ++ (record { by = by; event = event }) ∷ [] }
     ensures len { vec_len history.new ≡ vec_len history.old + 1 }
     ensures capacity { vec_capacity history.new ≡ vec_capacity history.old }
     ensures size { course.new ≡ record course.old { size = course.old.size + 1 } }

@@ -31,7 +31,8 @@ pub(crate) fn list_owners(
     regions: &Regions,
     live: &[u64],
 ) -> Result<Vec<OwnerRow>, AllocError>
-    requires live { live.now ≡ filter (λ r. not (is_dead ((grid_state regions.now).state r))) (numbers_below (grid_state regions.now).next) }
+    requires live { live.now ≡ filter (λ r. not (is_dead ((grid_state regions.now).state r)))
+        (numbers_below (grid_state regions.now).next) }
     ensures { IfOk result (λ rows. rows.items ≡ owners_in (grid_state regions.now)) }
 {
     regions.keeps_rules();
@@ -45,7 +46,8 @@ pub(crate) fn list_owners(
 /// Adds a row for each section of each of these regions, one region behind the other.
 fn add_regions(rows: &mut Vec<OwnerRow>, regions: &Regions, live: &[u64]) -> Result<(), AllocError>
     requires given { All (λ id. (0 < id) × (id < (grid_state regions.now).next)) live.now }
-    ensures { OnOk result (rows.new.items ≡ rows.old.items ++ flat_map (owners_of (grid_state regions.now)) live.now) }
+    ensures { OnOk result (rows.new.items
+        ≡ rows.old.items ++ flat_map (owners_of (grid_state regions.now)) live.now) }
 {
     for id in live {
         add_sections(rows, regions.sections(*id), *id)?;

@@ -82,7 +82,8 @@ impl Core {
 /// The first region of a list that ticks, or is Ready and owes a tick.
 fn first_busy(tables: &Tables, live: &[u64]) -> Option<u64>
     requires bags { HaveBags (grid_state tables.now.regions) (bag_of tables.now.store) }
-    ensures { result ≡ find (is_busy_in (grid_state tables.now.regions) (bag_of tables.now.store)) live.now }
+    ensures { result ≡ find (is_busy_in (grid_state tables.now.regions) (bag_of tables.now.store))
+        live.now }
 {
     live.iter().copied().find(|id| is_busy(tables, *id))
 }

@@ -38,7 +38,8 @@ impl Core {
         requires action { IsTrue (is_action action) }
         requires may_be_posted { IsTrue (may_post action) }
         ensures answer { IfOk result (λ a. a ≡ post_result (world_of self.old) c action) }
-        ensures recorded { IfOk result (λ a. PostRecords self.old self.new caller c delay action a) }
+        ensures recorded { IfOk result (λ a.
+            PostRecords self.old self.new caller c delay action a) }
         ensures back { IfErr result (λ a. a ≡ action) }
         ensures refused { OnErr result (Stays self.old self.new) }
     {
@@ -74,8 +75,10 @@ pub(crate) fn posted(tables: &mut Tables, c: ChunkPos, delay: u32, action: Actio
     requires fresh { IsNone (jobs_of tables.old.store tables.old.course.next_job) }
     requires few { tables.old.course.next_job < 2 ^ 62 }
     requires delay { IsTrue (is_delay delay) }
-    ensures answer { result ≡ accept_in (grid_state tables.old.regions) tables.old.course.next_job c }
-    ensures done { PostsUnless (is_full (grid_state tables.old.regions) c) tables.old tables.new c delay action }
+    ensures answer { result ≡ accept_in (grid_state tables.old.regions) tables.old.course.next_job
+        c }
+    ensures done { PostsUnless (is_full (grid_state tables.old.regions) c) tables.old tables.new c
+        delay action }
 {
     match hold(tables, c) {
         AddAnswer::Full { present, wanted } => Accept::Full { present, wanted },
@@ -92,10 +95,14 @@ fn accepted(tables: &mut Tables, c: ChunkPos, delay: u32, action: Action) -> Acc
     ensures answer { result ≡ Accept.Posted tables.old.course.next_job }
     ensures bags { bag_of tables.new.store ≡ λ r. disturbed c (bag_of tables.old.store r) }
     ensures flat { flat_of tables.new.store ≡ flat_of tables.old.store }
-    ensures jobs { jobs_of tables.new.store ≡ at_id (jobs_of tables.old.store) tables.old.course.next_job (Some (queued c delay action)) }
+    ensures jobs { jobs_of tables.new.store
+        ≡ at_id (jobs_of tables.old.store) tables.old.course.next_job
+        (Some (queued c delay action)) }
     ensures next { next_of tables.new.store ≡ next_of tables.old.store }
-    ensures others { (tables.new.grid ≡ tables.old.grid) × (tables.new.regions ≡ tables.old.regions) × (tables.new.tickets ≡ tables.old.tickets) × (tables.new.agenda ≡ tables.old.agenda) }
-    ensures course { tables.new.course ≡ record tables.old.course { next_job = tables.old.course.next_job + 1 } }
+    ensures others { (tables.new.grid ≡ tables.old.grid) × (tables.new.regions ≡ tables.old.regions)
+        × (tables.new.tickets ≡ tables.old.tickets) × (tables.new.agenda ≡ tables.old.agenda) }
+    ensures course { tables.new.course
+        ≡ record tables.old.course { next_job = tables.old.course.next_job + 1 } }
 {
     Accept::Posted(queue(tables, c, delay, action))
 }

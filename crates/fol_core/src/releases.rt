@@ -26,7 +26,8 @@ impl Core {
     pub fn release(&mut self, alloc: Global, tick: Tick) -> Result<u64, Tick>
         requires out { IsOut self.old tick }
         ensures length { IfOk result (λ n. n ≡ length self.new.history) }
-        ensures recorded { OnOk result (Records self.old self.new tick.worker (end_event (world_of self.old) tick.worker tick.region tick.log.ran)) }
+        ensures recorded { OnOk result (Records self.old self.new tick.worker
+            (end_event (world_of self.old) tick.worker tick.region tick.log.ran)) }
         ensures back { IfErr result (λ t. SameTick tick t) }
         ensures refused { OnErr result (Stays self.old self.new) }
     {

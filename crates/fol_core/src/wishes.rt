@@ -26,8 +26,14 @@ pub(crate) fn accept_all(
 )
     requires may { MayAcceptAll tables.old chunks.old wishes.items }
     requires room { vec_len answers.old + length wishes.items ≤ vec_capacity answers.old }
-    ensures accepted { (w : World) (since : ℕ → ℕ) (r n : ℕ) → Underway tables.old chunks.old w since r (length wishes.items + n) → AreFit (w.recorded r) w wishes.items → Underway tables.new chunks.new (all_accepted w wishes.items) since r n }
-    ensures answers { (w : World) (since : ℕ → ℕ) (r n : ℕ) → Underway tables.old chunks.old w since r (length wishes.items + n) → AreFit (w.recorded r) w wishes.items → answers.new.items ≡ answers.old.items ++ answers_to w wishes.items }
+    ensures accepted { (w : World) (since : ℕ → ℕ) (r n : ℕ)
+        → Underway tables.old chunks.old w since r (length wishes.items + n)
+        → AreFit (w.recorded r) w wishes.items
+        → Underway tables.new chunks.new (all_accepted w wishes.items) since r n }
+    ensures answers { (w : World) (since : ℕ → ℕ) (r n : ℕ)
+        → Underway tables.old chunks.old w since r (length wishes.items + n)
+        → AreFit (w.recorded r) w wishes.items
+        → answers.new.items ≡ answers.old.items ++ answers_to w wishes.items }
     ensures size { tables.new.course.size ≡ tables.old.course.size }
 {
     while let Some(wish) = wishes.pop_front() {
@@ -39,8 +45,11 @@ pub(crate) fn accept_all(
 /// Accepts a wish, and returns under which number, or why not.
 fn accept_one(tables: &mut Tables, chunks: &mut Chunks, wish: Wish) -> Accept
     requires { MayAccept tables.old chunks.old wish }
-    ensures accepted { (w : World) (since : ℕ → ℕ) (r n : ℕ) → Underway tables.old chunks.old w since r (n + 1) → WishOk (w.recorded r) wish → IsFree w wish → Underway tables.new chunks.new (accepted w wish) since r n }
-    ensures answer { (w : World) (since : ℕ → ℕ) (r n : ℕ) → Underway tables.old chunks.old w since r (n + 1) → result ≡ posting w wish.chunk }
+    ensures accepted { (w : World) (since : ℕ → ℕ) (r n : ℕ)
+        → Underway tables.old chunks.old w since r (n + 1) → WishOk (w.recorded r) wish
+        → IsFree w wish → Underway tables.new chunks.new (accepted w wish) since r n }
+    ensures answer { (w : World) (since : ℕ → ℕ) (r n : ℕ)
+        → Underway tables.old chunks.old w since r (n + 1) → result ≡ posting w wish.chunk }
     ensures size { tables.new.course.size ≡ tables.old.course.size }
 {
     match hold(tables, wish.chunk) {

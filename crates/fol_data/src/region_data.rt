@@ -81,31 +81,55 @@ impl RegionData {
         requires tick { self.old.tick ≤ 2 ^ 62 }
         requires into_tick { into.old.tick ≤ 2 ^ 62 }
         requires in_time { (n : ℕ) → ForSome (dated self.old.queues n) (IsInTime self.old.tick) }
-        requires into_in_time { (n : ℕ) → ForSome (dated into.old.queues n) (IsInTime into.old.tick) }
-        requires tasks_apart { (n : ℕ) → IsTrue (is_none (dated into.old.queues n) || is_none (option_filter (lies_listed chunks.now) (dated self.old.queues n))) }
-        requires contents_apart { Apart (flat_of into.old.chunks) (within (is_listed chunks.now) (flat_of self.old.chunks)) }
+        requires into_in_time { (n : ℕ)
+            → ForSome (dated into.old.queues n) (IsInTime into.old.tick) }
+        requires tasks_apart { (n : ℕ)
+            → IsTrue (is_none (dated into.old.queues n)
+            || is_none (option_filter (lies_listed chunks.now) (dated self.old.queues n))) }
+        requires contents_apart { Apart (flat_of into.old.chunks)
+            (within (is_listed chunks.now) (flat_of self.old.chunks)) }
         requires room_for_tasks { count_listed chunks.now self.old.queues ≤ into.old.queues.spare }
-        requires room_for_things { size_within (is_listed chunks.now) self.old.chunks ≤ into.old.chunks.spare }
+        requires room_for_things { size_within (is_listed chunks.now) self.old.chunks
+            ≤ into.old.chunks.spare }
         ensures tick { self.new.tick ≡ self.old.tick }
         ensures owed { self.new.owed ≡ self.old.owed }
         ensures into_tick { into.new.tick ≡ into.old.tick }
         ensures into_owed { into.new.owed ≡ into.old.owed }
-        ensures stayed_tasks { dated self.new.queues ≡ λ n. option_filter (λ d. not (lies_listed chunks.now d)) (dated self.old.queues n) }
-        ensures moved_tasks { dated into.new.queues ≡ λ n. option_or (dated into.old.queues n) (option_map (raised (offset_between self.old.tick into.old.tick)) (option_filter (lies_listed chunks.now) (dated self.old.queues n))) }
-        ensures stayed_rests { rests_of self.new ≡ λ n. option_filter (λ j. not (is_job_listed chunks.now j)) (rests_of self.old n) }
-        ensures moved_rests { rests_of into.new ≡ λ n. option_or (rests_of into.old n) (option_filter (is_job_listed chunks.now) (rests_of self.old n)) }
+        ensures stayed_tasks { dated self.new.queues ≡ λ n.
+            option_filter (λ d. not (lies_listed chunks.now d)) (dated self.old.queues n) }
+        ensures moved_tasks { dated into.new.queues ≡ λ n.
+            option_or (dated into.old.queues n)
+            (option_map (raised (offset_between self.old.tick into.old.tick))
+            (option_filter (lies_listed chunks.now) (dated self.old.queues n))) }
+        ensures stayed_rests { rests_of self.new ≡ λ n.
+            option_filter (λ j. not (is_job_listed chunks.now j)) (rests_of self.old n) }
+        ensures moved_rests { rests_of into.new ≡ λ n.
+            option_or (rests_of into.old n)
+            (option_filter (is_job_listed chunks.now) (rests_of self.old n)) }
         ensures in_time { (n : ℕ) → ForSome (dated self.new.queues n) (IsInTime self.new.tick) }
-        ensures into_in_time { (n : ℕ) → ForSome (dated into.new.queues n) (IsInTime into.new.tick) }
-        ensures stayed_contents { flat_of self.new.chunks ≡ outside (is_listed chunks.now) (flat_of self.old.chunks) }
-        ensures moved_contents { flat_of into.new.chunks ≡ joined (flat_of into.old.chunks) (within (is_listed chunks.now) (flat_of self.old.chunks)) }
-        ensures tasks_len { len_of self.new.queues + count_listed chunks.now self.old.queues ≡ len_of self.old.queues }
-        ensures into_tasks_len { len_of into.new.queues ≡ len_of into.old.queues + count_listed chunks.now self.old.queues }
-        ensures things_len { size_of_contents self.new.chunks + size_within (is_listed chunks.now) self.old.chunks ≡ size_of_contents self.old.chunks }
-        ensures into_things_len { size_of_contents into.new.chunks ≡ size_of_contents into.old.chunks + size_within (is_listed chunks.now) self.old.chunks }
+        ensures into_in_time { (n : ℕ)
+            → ForSome (dated into.new.queues n) (IsInTime into.new.tick) }
+        ensures stayed_contents { flat_of self.new.chunks
+            ≡ outside (is_listed chunks.now) (flat_of self.old.chunks) }
+        ensures moved_contents { flat_of into.new.chunks
+            ≡ joined (flat_of into.old.chunks)
+            (within (is_listed chunks.now) (flat_of self.old.chunks)) }
+        ensures tasks_len { len_of self.new.queues + count_listed chunks.now self.old.queues
+            ≡ len_of self.old.queues }
+        ensures into_tasks_len { len_of into.new.queues
+            ≡ len_of into.old.queues + count_listed chunks.now self.old.queues }
+        ensures things_len { size_of_contents self.new.chunks
+            + size_within (is_listed chunks.now) self.old.chunks
+            ≡ size_of_contents self.old.chunks }
+        ensures into_things_len { size_of_contents into.new.chunks
+            ≡ size_of_contents into.old.chunks
+            + size_within (is_listed chunks.now) self.old.chunks }
         ensures spare_for_tasks { self.old.queues.spare ≤ self.new.queues.spare }
         ensures spare_for_things { self.old.chunks.spare ≤ self.new.chunks.spare }
-        ensures into_spare_for_tasks { into.old.queues.spare ≤ into.new.queues.spare + count_listed chunks.now self.old.queues }
-        ensures into_spare_for_things { into.old.chunks.spare ≤ into.new.chunks.spare + size_within (is_listed chunks.now) self.old.chunks }
+        ensures into_spare_for_tasks { into.old.queues.spare
+            ≤ into.new.queues.spare + count_listed chunks.now self.old.queues }
+        ensures into_spare_for_things { into.old.chunks.spare
+            ≤ into.new.chunks.spare + size_within (is_listed chunks.now) self.old.chunks }
     {
         let offset = offset(self.tick, into.tick);
         self.queues.move_listed(chunks, &mut into.queues, offset);

@@ -102,7 +102,8 @@ fn plain_behind(key: Keyword, words: &mut Words) -> Result<Action, Fault>
 
 /// The action that this word begins, with nothing round it.
 fn plain(words: &mut Words, word: &[u8]) -> Result<Action, Fault>
-    ensures found { IfOk result (λ a. IsSimple 0 (deed_of a) × (word.now ∷ words.old ≡ deed_words (deed_of a))) }
+    ensures found { IfOk result (λ a. IsSimple 0 (deed_of a)
+        × (word.now ∷ words.old ≡ deed_words (deed_of a))) }
     ensures none { OnErr result (NotSpelt deed_words (IsSimple 0) (word.now ∷ words.old)) }
 {
     match key_of(word) {
@@ -120,8 +121,10 @@ fn is_post(word: &[u8], posts: u8) -> bool
 
 /// The action that this word begins, with at most so many posts round it.
 fn simple(alloc: Global, words: &mut Words, word: &[u8], posts: u8) -> Result<Action, Fault>
-    ensures found { IfOk result (λ a. IsSimple posts (deed_of a) × (word.now ∷ words.old ≡ deed_words (deed_of a))) }
-    ensures none { result ≡ Err Unspelled → NotSpelt deed_words (IsSimple posts) (word.now ∷ words.old) }
+    ensures found { IfOk result (λ a. IsSimple posts (deed_of a)
+        × (word.now ∷ words.old ≡ deed_words (deed_of a))) }
+    ensures none { result ≡ Err Unspelled
+        → NotSpelt deed_words (IsSimple posts) (word.now ∷ words.old) }
 {
     if !is_post(word, posts) {
         return plain(words, word);
@@ -139,8 +142,10 @@ fn simple(alloc: Global, words: &mut Words, word: &[u8], posts: u8) -> Result<Ac
 
 /// What follows `every`.
 fn every(alloc: Global, words: &mut Words) -> Result<Action, Fault>
-    ensures found { IfOk result (λ a. IsPostable a × (key_spelled keys.Every ∷ words.old ≡ posted_words a)) }
-    ensures none { result ≡ Err Unspelled → NotSpelt posted_words IsPostable (key_spelled keys.Every ∷ words.old) }
+    ensures found { IfOk result (λ a. IsPostable a
+        × (key_spelled keys.Every ∷ words.old ≡ posted_words a)) }
+    ensures none { result ≡ Err Unspelled
+        → NotSpelt posted_words IsPostable (key_spelled keys.Every ∷ words.old) }
 {
     let period = words.positive(MOST_DELAY)?;
     let left = words.positive(MOST_TIMES)?;

@@ -16,8 +16,10 @@ use std::alloc::Global;
 
 /// How many tasks ran, and what each came to.
 fn rans(alloc: Global, words: &mut Words) -> Result<Sequence<Ran>, Fault>
-    ensures found { IfOk result (λ v. CountInRange RanInRange v × (words.old ≡ counted ran_words v ++ words.new)) }
-    ensures none { result ≡ Err Unspelled → NoneIn (counted ran_words) (CountInRange RanInRange) words.old }
+    ensures found { IfOk result (λ v. CountInRange RanInRange v
+        × (words.old ≡ counted ran_words v ++ words.new)) }
+    ensures none { result ≡ Err Unspelled
+        → NoneIn (counted ran_words) (CountInRange RanInRange) words.old }
 {
     let count = words.wide()?;
     let mut items = Sequence::new(alloc);
@@ -30,8 +32,10 @@ fn rans(alloc: Global, words: &mut Words) -> Result<Sequence<Ran>, Fault>
 
 /// How many tasks were asked for, and what became of each.
 fn accepts(alloc: Global, words: &mut Words) -> Result<Sequence<Accept>, Fault>
-    ensures found { IfOk result (λ v. CountInRange AcceptInRange v × (words.old ≡ counted accept_words v ++ words.new)) }
-    ensures none { result ≡ Err Unspelled → NoneIn (counted accept_words) (CountInRange AcceptInRange) words.old }
+    ensures found { IfOk result (λ v. CountInRange AcceptInRange v
+        × (words.old ≡ counted accept_words v ++ words.new)) }
+    ensures none { result ≡ Err Unspelled
+        → NoneIn (counted accept_words) (CountInRange AcceptInRange) words.old }
 {
     let count = words.wide()?;
     let mut items = Sequence::new(alloc);

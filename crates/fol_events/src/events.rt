@@ -149,7 +149,8 @@ fn read_words(alloc: Global, words: &mut Words) -> Result<Event, Fault>
 /// The event of a line, which is without its end.
 pub fn read_event(alloc: Global, line: &[u8]) -> Result<Event, Fault>
     ensures found { IfOk result (λ e. InRange e × (line.now ≡ line_of (event_words e))) }
-    ensures none { result ≡ Err Unspelled → (e : Event) → InRange e → line.now ≡ line_of (event_words e) → ⊥ }
+    ensures none { result ≡ Err Unspelled → (e : Event) → InRange e
+        → line.now ≡ line_of (event_words e) → ⊥ }
 {
     let mut words = Words::of(line);
     read_words(alloc, &mut words)

@@ -28,7 +28,8 @@ fn line_end(bytes: &[u8]) -> Option<usize>
 
 /// The first line without its end, and the bytes behind its end.
 pub fn cut_line(bytes: &[u8]) -> Result<(&[u8], &[u8]), Fault>
-    ensures found { IfOk result (λ r. (has_no_feed r.0.now ≡ true) × (bytes.now ≡ r.0.now ++ 10 ∷ r.1.now)) }
+    ensures found { IfOk result (λ r. (has_no_feed r.0.now ≡ true)
+        × (bytes.now ≡ r.0.now ++ 10 ∷ r.1.now)) }
     ensures none { OnErr result (has_no_feed bytes.now ≡ true) }
 {
     match line_end(bytes) {
@@ -52,8 +53,10 @@ pub fn behind_head(bytes: &[u8]) -> Result<&[u8], Fault>
 
 /// The number of event lines that a line tells.
 fn read_count(line: &[u8]) -> Result<u64, Fault>
-    ensures found { IfOk result (λ n. (n ≤ 16777216) × (line.now ≡ line_of (codes "events" ∷ decimal n ∷ []))) }
-    ensures none { OnErr result ((n : ℕ) → n ≤ 16777216 → line.now ≡ line_of (codes "events" ∷ decimal n ∷ []) → ⊥) }
+    ensures found { IfOk result (λ n. (n ≤ 16777216)
+        × (line.now ≡ line_of (codes "events" ∷ decimal n ∷ []))) }
+    ensures none { OnErr result ((n : ℕ) → n ≤ 16777216
+        → line.now ≡ line_of (codes "events" ∷ decimal n ∷ []) → ⊥) }
 {
     let mut words = Words::of(line);
     words.pass(b"events")?;
@@ -64,7 +67,8 @@ fn read_count(line: &[u8]) -> Result<u64, Fault>
 
 /// The number of event lines, and what follows the line that tells it.
 pub fn count_line(bytes: &[u8]) -> Result<(u64, &[u8]), Fault>
-    ensures found { IfOk result (λ r. (r.0 ≤ 16777216) × (bytes.now ≡ told.count_line r.0 ++ r.1.now)) }
+    ensures found { IfOk result (λ r. (r.0 ≤ 16777216)
+        × (bytes.now ≡ told.count_line r.0 ++ r.1.now)) }
     ensures none { OnErr result (told.NoCount bytes.now) }
 {
     let (line, rest) = cut_line(bytes)?;
@@ -74,7 +78,8 @@ pub fn count_line(bytes: &[u8]) -> Result<(u64, &[u8]), Fault>
 
 /// The event of the first line, and what follows that line.
 pub fn event_line(alloc: Global, bytes: &[u8]) -> Result<(Event, &[u8]), Fault>
-    ensures found { IfOk result (λ r. InRange r.0 × (bytes.now ≡ line (event_words r.0) ++ r.1.now)) }
+    ensures found { IfOk result (λ r. InRange r.0
+        × (bytes.now ≡ line (event_words r.0) ++ r.1.now)) }
     ensures none { result ≡ Err Unspelled → told.NoEvent bytes.now }
 {
     let (line, rest) = cut_line(bytes)?;

@@ -29,7 +29,8 @@ fn value_of(digits: &[u8]) -> Option<u64>
 
 /// The number up to `most` that a word spells.
 pub fn read_natural(word: &[u8], most: u64) -> Option<u64>
-    ensures { MatchOption result ((n : ℕ) → n ≤ most → word.now ≡ decimal n → ⊥) (λ n. (n ≤ most) × (word.now ≡ decimal n)) }
+    ensures { MatchOption result ((n : ℕ) → n ≤ most → word.now ≡ decimal n
+        → ⊥) (λ n. (n ≤ most) × (word.now ≡ decimal n)) }
 {
     if !is_natural(word) {
         return None;

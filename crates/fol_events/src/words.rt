@@ -102,7 +102,8 @@ impl<'a> Words<'a> {
 
     /// A number from 1 to `most`.
     pub fn positive(&mut self, most: u64) -> Result<u64, Fault>
-        ensures found { IfOk result (λ n. (1 ≤ n) × (n ≤ most) × (self.old ≡ decimal n ∷ self.new)) }
+        ensures found { IfOk result (λ n. (1 ≤ n) × (n ≤ most)
+            × (self.old ≡ decimal n ∷ self.new)) }
         ensures none { OnErr result (NoneIn one_word (λ n. (1 ≤ n) × (n ≤ most)) self.old) }
     {
         let n = self.natural(most)?;
@@ -130,7 +131,8 @@ impl<'a> Words<'a> {
     pub fn integer(&mut self, low: i64, high: i64) -> Result<i32, Fault>
         requires low { negsuc 2147483647 ≤ℤ low }
         requires high { high ≤ℤ pos 2147483647 }
-        ensures found { IfOk result (λ z. (low ≤ℤ z) × (z ≤ℤ high) × (self.old ≡ signed_decimal z ∷ self.new)) }
+        ensures found { IfOk result (λ z. (low ≤ℤ z) × (z ≤ℤ high)
+            × (self.old ≡ signed_decimal z ∷ self.new)) }
         ensures none { OnErr result (NoneIn signed_word (λ z. (low ≤ℤ z) × (z ≤ℤ high)) self.old) }
     {
         let word = self.next()?;
@@ -142,7 +144,8 @@ impl<'a> Words<'a> {
 
     /// A chunk.
     pub fn chunk(&mut self) -> Result<ChunkPos, Fault>
-        ensures found { IfOk result (λ c. (is_chunk c ≡ true) × (self.old ≡ chunk_words c ++ self.new)) }
+        ensures found { IfOk result (λ c. (is_chunk c ≡ true)
+            × (self.old ≡ chunk_words c ++ self.new)) }
         ensures none { OnErr result (NoneIn chunk_words (λ c. is_chunk c ≡ true) self.old) }
     {
         let x = self.integer(-1_000_000, 1_000_000)?;
@@ -152,7 +155,8 @@ impl<'a> Words<'a> {
 
     /// A block.
     pub fn block(&mut self) -> Result<BlockPos, Fault>
-        ensures found { IfOk result (λ b. (is_block b ≡ true) × (self.old ≡ block_words b ++ self.new)) }
+        ensures found { IfOk result (λ b. (is_block b ≡ true)
+            × (self.old ≡ block_words b ++ self.new)) }
         ensures none { OnErr result (NoneIn block_words (λ b. is_block b ≡ true) self.old) }
     {
         let x = self.integer(-16_000_000, 16_000_015)?;

@@ -55,7 +55,8 @@ impl Asks {
 
     /// No ask, of these entities.
     pub fn new(alloc: Global, entities: &[Entity]) -> Result<Asks, AllocError>
-        ensures known { IfOk result (λ a. (id : ℕ) → is_some (visits_in a.counts id) ≡ is_some (standing_in entities.now id)) }
+        ensures known { IfOk result (λ a. (id : ℕ)
+            → is_some (visits_in a.counts id) ≡ is_some (standing_in entities.now id)) }
         ensures counts { IfOk result (λ a. (id : ℕ) → count_of a id ≡ 0) }
         ensures none { IfOk result (λ a. a.rows ≡ []) }
     {
@@ -92,7 +93,8 @@ impl Asks {
         requires counts { AreAtMost (2 ^ 62) self.old }
         requires rows { length self.old.rows < 2 ^ 62 }
         requires delay { (0 < delay) × (delay ≤ 1000000) }
-        ensures answer { IfOk result (λ n. Answered self.old self.new entity delay (Asked.Queued n)) }
+        ensures answer { IfOk result (λ n.
+            Answered self.old self.new entity delay (Asked.Queued n)) }
         ensures same { OnErr result (self.new ≡ self.old) }
     {
         let due = self.count(entity) + u64::from(delay);
@@ -121,7 +123,8 @@ impl Asks {
         alloc: Global,
         entities: &[Entity],
     ) -> Result<Vec<EntityAt>, AllocError>
-        ensures { IfOk result (λ here. here.items ≡ map entity_at (filter (λ e. is_some (visits_in self.now.counts e.id)) entities.now)) }
+        ensures { IfOk result (λ here. here.items
+            ≡ map entity_at (filter (λ e. is_some (visits_in self.now.counts e.id)) entities.now)) }
     {
         entities
             .iter()
@@ -148,9 +151,14 @@ impl Asks {
     fn collect(&self, place: EntityAt, visits: &mut Vec<Visit>) -> Result<(), AllocError>
         requires counts { AreAtMost (2 ^ 62) self.now }
         requires distinct { IsDistinct same_number visits.old.items }
-        requires apart { (k : ℕ) → waits_for place.id (count_of self.now place.id + 1) (slice_get self.now.rows k) ≡ true → IsNone (visit_in visits.old.items (suc k)) }
+        requires apart { (k : ℕ)
+            → waits_for place.id (count_of self.now place.id + 1) (slice_get self.now.rows k) ≡ true
+            → IsNone (visit_in visits.old.items (suc k)) }
         ensures distinct { OnOk result (IsDistinct same_number visits.new.items) }
-        ensures visits { OnOk result ((n : ℕ) → visit_in visits.new.items n ≡ collected self.now.rows place (count_of self.now place.id + 1) 0 n (visit_in visits.old.items n)) }
+        ensures visits { OnOk result ((n : ℕ)
+            → visit_in visits.new.items n
+            ≡ collected self.now.rows place (count_of self.now place.id + 1) 0 n
+            (visit_in visits.old.items n)) }
     {
         let due = self.count(place.id) + 1;
         let mut number = self.head(place.id, due);
@@ -172,7 +180,8 @@ impl Asks {
         requires known { All (λ e. is_some (visits_in self.old.counts e.id) ≡ true) here.now }
         requires counts { AreAtMost (2 ^ 62) self.old }
         ensures asks { pending self.new ≡ λ n. lowered here.now (pending self.old n) }
-        ensures known { (id : ℕ) → is_some (visits_in self.new.counts id) ≡ is_some (visits_in self.old.counts id) }
+        ensures known { (id : ℕ) → is_some (visits_in self.new.counts id)
+            ≡ is_some (visits_in self.old.counts id) }
         ensures counts { (id : ℕ) → count_of self.new id ≤ count_of self.old id + 1 }
         ensures rows { self.new.rows ≡ self.old.rows }
     {
@@ -185,7 +194,9 @@ impl Asks {
     fn count_visit(&mut self, entity: u32)
         requires known { is_some (visits_in self.old.counts entity) ≡ true }
         requires few { count_of self.old entity < 2 ^ 63 }
-        ensures counts { (id : ℕ) → visits_in self.new.counts id ≡ (if nat_eq entity id then Some (count_of self.old entity + 1) else visits_in self.old.counts id) }
+        ensures counts { (id : ℕ) → visits_in self.new.counts id
+            ≡ (if nat_eq entity id then Some (count_of self.old entity + 1)
+            else visits_in self.old.counts id) }
         ensures rows { self.new.rows ≡ self.old.rows }
     {
         let count = self.count(entity) + 1;

@@ -41,7 +41,8 @@ impl Book {
     pub fn start(alloc: Global, opening: &Opening, seats: u32) -> Result<BookAndSeats, AllocError>
         requires count { (0 < seats) × (seats ≤ 64) }
         ensures count { IfOk result (λ made. seat_count made.book.lock ≡ seats) }
-        ensures seats { IfOk result (λ made. AreNew (book_id made.book) opening.now seats made.seats.items) }
+        ensures seats { IfOk result (λ made.
+            AreNew (book_id made.book) opening.now seats made.seats.items) }
     {
         let ledger = Ledger::start(alloc, opening)?;
         let LockAndSeats { lock, seats } = Lock::new(alloc, ledger, seats)?;

@@ -77,8 +77,10 @@ impl Ledger {
         ensures opening { self.new.opening ≡ self.old.opening }
         ensures before { IsRun self.old.opening self.old.history }
         ensures after { IsRun self.new.opening self.new.history }
-        ensures answer { IfOk result (λ a. a ≡ answer_to self.old.opening (book_after self.old.history) entity) }
-        ensures recorded { IfOk result (λ a. Records self.old self.new by (BookEvent.Ask entity delay a)) }
+        ensures answer { IfOk result (λ a.
+            a ≡ answer_to self.old.opening (book_after self.old.history) entity) }
+        ensures recorded { IfOk result (λ a.
+            Records self.old self.new by (BookEvent.Ask entity delay a)) }
         ensures refused { OnErr result (Stays self.old self.new) }
     {
         reserve_entry(&mut self.history)?;

@@ -14,7 +14,8 @@ const STRIDE: u32 = 12;
 #[tactic(auto, unfolding(fol_model::specs::Universe::numbers_below))]
 pub fn put_clusters(out: &mut String, n: u32) -> Result<(), AllocError>
     requires { n ≤ 500 }
-    ensures { IfOk result (λ _. string_bytes out.new ≡ string_bytes out.old ++ text_of (flat_map cluster_lines (numbers_below n))) }
+    ensures { IfOk result (λ _. string_bytes out.new
+        ≡ string_bytes out.old ++ text_of (flat_map cluster_lines (numbers_below n))) }
 {
     for cluster in 0..n {
         put_cluster(out, cluster)?;
@@ -25,7 +26,8 @@ pub fn put_clusters(out: &mut String, n: u32) -> Result<(), AllocError>
 /// Puts the lines of a cluster: three tickets and four tasks.
 fn put_cluster(out: &mut String, cluster: u32) -> Result<(), AllocError>
     requires { cluster < 500 }
-    ensures { IfOk result (λ _. string_bytes out.new ≡ string_bytes out.old ++ text_of (cluster_lines cluster)) }
+    ensures { IfOk result (λ _. string_bytes out.new
+        ≡ string_bytes out.old ++ text_of (cluster_lines cluster)) }
 {
     let first = STRIDE * cluster;
     put_load(out, first)?;
@@ -36,7 +38,8 @@ fn put_cluster(out: &mut String, cluster: u32) -> Result<(), AllocError>
 
 /// Puts the line of a ticket.
 fn put_load(out: &mut String, chunk: u32) -> Result<(), AllocError>
-    ensures { IfOk result (λ _. string_bytes out.new ≡ string_bytes out.old ++ line (load_line chunk)) }
+    ensures { IfOk result (λ _. string_bytes out.new
+        ≡ string_bytes out.old ++ line (load_line chunk)) }
 {
     write!(out, "load {chunk} 0\n")
 }
@@ -45,7 +48,8 @@ fn put_load(out: &mut String, chunk: u32) -> Result<(), AllocError>
 #[tactic(auto, unfolding(fol_model::specs::Universe::numbers_below))]
 fn put_posts(out: &mut String, cluster: u32) -> Result<(), AllocError>
     requires { cluster < 500 }
-    ensures { IfOk result (λ _. string_bytes out.new ≡ string_bytes out.old ++ text_of (map (post_line cluster) (numbers_below 4))) }
+    ensures { IfOk result (λ _. string_bytes out.new
+        ≡ string_bytes out.old ++ text_of (map (post_line cluster) (numbers_below 4))) }
 {
     for place in 0u32..4 {
         put_post(out, cluster, place)?;
@@ -57,7 +61,8 @@ fn put_posts(out: &mut String, cluster: u32) -> Result<(), AllocError>
 fn put_post(out: &mut String, cluster: u32, place: u32) -> Result<(), AllocError>
     requires in_range { cluster < 500 }
     requires in_chunk { place < 4 }
-    ensures { IfOk result (λ _. string_bytes out.new ≡ string_bytes out.old ++ line (post_line cluster place)) }
+    ensures { IfOk result (λ _. string_bytes out.new
+        ≡ string_bytes out.old ++ line (post_line cluster place)) }
 {
     let chunk = STRIDE * cluster;
     let delay = place + 1;
@@ -70,7 +75,8 @@ fn put_post(out: &mut String, cluster: u32, place: u32) -> Result<(), AllocError
 #[tactic(auto, unfolding(fol_model::specs::Universe::numbers_below))]
 pub fn put_unloads(out: &mut String, n: u32) -> Result<(), AllocError>
     requires { n ≤ 500 }
-    ensures { IfOk result (λ _. string_bytes out.new ≡ string_bytes out.old ++ text_of (map unload_line (numbers_below n))) }
+    ensures { IfOk result (λ _. string_bytes out.new
+        ≡ string_bytes out.old ++ text_of (map unload_line (numbers_below n))) }
 {
     for cluster in 0..n {
         let middle = STRIDE * cluster + 3;
@@ -81,7 +87,8 @@ pub fn put_unloads(out: &mut String, n: u32) -> Result<(), AllocError>
 
 /// Puts the lines of a phase of so many ticks.
 pub fn put_run(out: &mut String, ticks: u32) -> Result<(), AllocError>
-    ensures { IfOk result (λ _. string_bytes out.new ≡ string_bytes out.old ++ text_of (run_lines ticks)) }
+    ensures { IfOk result (λ _. string_bytes out.new
+        ≡ string_bytes out.old ++ text_of (run_lines ticks)) }
 {
     write!(out, "run {ticks}\nend\n")
 }

@@ -94,7 +94,8 @@ impl Inbox {
         ensures seat { result.seat ≡ drainer.seat }
         ensures no_tick { is_busy result.seat.mine ≡ false }
         ensures posted { AreReceipts drainer }
-        ensures law { InboxLaw drainer.senders senders.items ((drainer.letters ++ held_list result.held) ++ result.rest) }
+        ensures law { InboxLaw drainer.senders senders.items
+            ((drainer.letters ++ held_list result.held) ++ result.rest) }
     {
         let queue = self.into_queue();
         let Drainer {

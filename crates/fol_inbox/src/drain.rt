@@ -111,7 +111,8 @@ impl Inbox {
     /// The letter that is held, or else the next one of the queue.
     fn next_letter<R: Wait>(&self, rt: &R, pass: &mut Pass, held: Option<Letter>) -> Option<Letter>
         requires pass { IsSegPassOf self.now.queue pass.old }
-        requires notes { pass.old.me.view.client ≡ drainer_notes pass.old.me.view.client.dealt pass.old.me.view.client.taken [] }
+        requires notes { pass.old.me.view.client
+            ≡ drainer_notes pass.old.me.view.client.dealt pass.old.me.view.client.taken [] }
         requires may { IfSome held CanPost }
         ensures pass { IsSegPassOf self.now.queue pass.new }
         ensures may { IfSome result CanPost }

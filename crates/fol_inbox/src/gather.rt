@@ -15,10 +15,13 @@ use std::sync::Wait;
 /// The drainer's pass, joined with those of these senders.
 pub(crate) fn gather(queue: &Queue, mut pass: Pass, mut senders: Vec<Sender>) -> Pass
     requires pass { IsSegPassOf queue.now pass }
-    requires notes { pass.me.view.client ≡ drainer_notes pass.me.view.client.dealt pass.me.view.client.taken [] }
+    requires notes { pass.me.view.client
+        ≡ drainer_notes pass.me.view.client.dealt pass.me.view.client.taken [] }
     requires senders { All (λ (s : Sending). s.inbox ≡ queue.now) senders.items }
     ensures pass { IsSegPassOf queue.now result }
-    ensures notes { result.me.view.client ≡ drainer_notes pass.me.view.client.dealt pass.me.view.client.taken result.me.view.client.claims }
+    ensures notes { result.me.view.client
+        ≡ drainer_notes pass.me.view.client.dealt pass.me.view.client.taken
+        result.me.view.client.claims }
     ensures claims { All (HasClaim result.me.view.client.claims) senders.items }
 {
     while let Some(sender) = senders.pop() {
@@ -35,7 +38,9 @@ pub(crate) fn gather(queue: &Queue, mut pass: Pass, mut senders: Vec<Sender>) ->
 /// The first letter that is left, taken by a pass that was joined with those of all senders: what is left then is known.
 pub(crate) fn take_first<R: Wait>(rt: &R, queue: &Queue, pass: &mut Pass) -> Option<Letter>
     requires pass { IsSegPassOf queue.now pass.old }
-    requires notes { pass.old.me.view.client ≡ drainer_notes pass.old.me.view.client.dealt pass.old.me.view.client.taken pass.old.me.view.client.claims }
+    requires notes { pass.old.me.view.client
+        ≡ drainer_notes pass.old.me.view.client.dealt pass.old.me.view.client.taken
+        pass.old.me.view.client.claims }
     requires all { ClaimsAll pass.old.me.view.client.dealt pass.old.me.view.client.claims }
     ensures pass { IsSegPassOf queue.now pass.new }
     ensures taken { TakesOne pass.old.me.view.client pass.new.me.view.client result }

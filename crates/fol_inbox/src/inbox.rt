@@ -42,9 +42,12 @@ impl Inbox {
     pub fn start(alloc: Global, seat: Seat, senders: u32) -> Result<InboxParts, Seat>
         requires count { (1 ≤ senders) × (senders ≤ 64) }
         requires no_tick { is_busy seat.mine ≡ false }
-        ensures senders { IfOk result (λ parts. AreNewSenders (inbox_id parts.inbox) senders parts.senders.items) }
-        ensures inboxes { IfOk result (λ parts. All (λ (s : Sending). s.inbox ≡ inbox_id parts.inbox) parts.senders.items) }
-        ensures drainer { IfOk result (λ parts. IsNewDrainer (inbox_id parts.inbox) senders seat parts.drainer) }
+        ensures senders { IfOk result (λ parts.
+            AreNewSenders (inbox_id parts.inbox) senders parts.senders.items) }
+        ensures inboxes { IfOk result (λ parts.
+            All (λ (s : Sending). s.inbox ≡ inbox_id parts.inbox) parts.senders.items) }
+        ensures drainer { IfOk result (λ parts.
+            IsNewDrainer (inbox_id parts.inbox) senders seat parts.drainer) }
         ensures back { IfErr result (λ s. s ≡ seat) }
     {
         let Ok(room) = Vec::with_capacity(alloc, senders as usize) else {
@@ -80,9 +83,11 @@ impl Inbox {
 
     /// A sender for each number below the count, in a vector with room for them.
     fn deal(&self, first: &mut Pass, count: u32, mut senders: Vec<Sender>) -> Vec<Sender>
-        requires first { IsSegPassOf self.now.queue first.old × (first.old.me.view.client ≡ first_notes) }
+        requires first { IsSegPassOf self.now.queue first.old
+            × (first.old.me.view.client ≡ first_notes) }
         requires room { (senders.items ≡ []) × (count ≤ vec_capacity senders) }
-        ensures first { IsSegPassOf self.now.queue first.new × (first.new.me.view.client ≡ drainer_notes count [] []) }
+        ensures first { IsSegPassOf self.now.queue first.new
+            × (first.new.me.view.client ≡ drainer_notes count [] []) }
         ensures senders { AreNewSenders (inbox_id self.now) count result.items }
     {
         for number in 0..count {

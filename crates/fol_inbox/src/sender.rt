@@ -61,7 +61,8 @@ impl Inbox {
         ensures inbox { sender.new.inbox ≡ sender.old.inbox }
         ensures number { sender.new.number ≡ sender.old.number }
         ensures place { IfOk result (λ n. n ≡ length sender.old.sends) }
-        ensures sent { IfOk result (λ n. sender.new.sends ≡ sender.old.sends ++ letter sender.old.number n c delay action ∷ []) }
+        ensures sent { IfOk result (λ n. sender.new.sends
+            ≡ sender.old.sends ++ letter sender.old.number n c delay action ∷ []) }
         ensures refused { IfErr result (λ a. (a ≡ action) × (sender.new.sends ≡ sender.old.sends)) }
     {
         let place = sender.next;

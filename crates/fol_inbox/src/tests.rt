@@ -75,7 +75,8 @@ fn make_scene(rt: &impl Abort, alloc: Global) -> Scene
     ensures caller { result.caller.lock ≡ live_id result.live }
     ensures zero { (result.zero.inbox ≡ inbox_id result.inbox) × (result.zero.number ≡ 0) }
     ensures one { (result.one.inbox ≡ inbox_id result.inbox) × (result.one.number ≡ 1) }
-    ensures drainer { (result.drainer.inbox ≡ inbox_id result.inbox) × (result.drainer.senders ≡ 2) }
+    ensures drainer { (result.drainer.inbox ≡ inbox_id result.inbox)
+        × (result.drainer.senders ≡ 2) }
     ensures world { result.drainer.seat.lock ≡ live_id result.live }
 {
     let LiveAndSeats { live, mut seats } = Live::start(alloc, opening(alloc), 2).expect(

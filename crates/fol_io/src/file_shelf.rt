@@ -71,7 +71,8 @@ pub(crate) fn read_to_limit<S: Source>(alloc: Global, source: &mut S, limit: u64
     ensures too_long { OnTooLong result.read (limit < result.count) }
 
     // Where the source tells what it has left, these are its bytes, all of them.
-    ensures bytes { IfWhole result.read (λ bytes. IfSome (S.remaining source.old) (λ left. bytes ≡ left)) }
+    ensures bytes { IfWhole result.read (λ bytes.
+        IfSome (S.remaining source.old) (λ left. bytes ≡ left)) }
 {
     let mut bytes = Vec::new(alloc);
     let mut piece = [0u8; PIECE_SIZE];
@@ -114,8 +115,10 @@ impl<'a, R: Files> Shelf for FileShelf<'a, R> {
         ensures taken_never_falls { self.old.taken ≤ self.new.taken }
 
         // A fault is counted at each answer `Failed`, and at no other.
-        ensures counts { self.new.faults ≡ (if is_failed result then raised 1 self.old.faults else self.old.faults) }
-        ensures took_the_whole { IfWhole result (λ bytes. self.new.taken ≡ raised (length bytes) self.old.taken) }
+        ensures counts { self.new.faults
+            ≡ (if is_failed result then raised 1 self.old.faults else self.old.faults) }
+        ensures took_the_whole { IfWhole result (λ bytes. self.new.taken
+            ≡ raised (length bytes) self.old.taken) }
         ensures numbers { self.new.reads ≡ raised 1 self.old.reads }
     {
         let Taken { read, count } = match fs::open(self.rt, name) {

@@ -73,8 +73,10 @@ fn place_of(files: &[NamedBytes], name: &str) -> Option<usize>
 /// Counts a fault for the file under a name, and returns whether there is one.
 fn count_fault(files: &mut [NamedBytes], name: &str) -> bool
     ensures held { result ≡ is_some (file_under files.old name.now) }
-    ensures named { file_under files.new name.now ≡ option_map with_fault (file_under files.old name.now) }
-    ensures others { (n : List ℕ) → bytes_eq name.now n ≡ false → file_under files.new n ≡ file_under files.old n }
+    ensures named { file_under files.new name.now
+        ≡ option_map with_fault (file_under files.old name.now) }
+    ensures others { (n : List ℕ) → bytes_eq name.now n ≡ false
+        → file_under files.new n ≡ file_under files.old n }
     ensures in_range { IfSome (file_under files.old name.now) (λ file. file.faults < 2 ^ 64) }
 {
     match place_of(files, name) {
@@ -106,7 +108,13 @@ impl MemShelf {
     /// A shelf of these files that has not been read. The numbers in `failing` are those of the reads that
     /// fail. Takes no memory.
     pub fn of(files: Vec<NamedBytes>, failing: Vec<u64>) -> MemShelf
-        ensures { result ≡ record { files = files.items; failing = failing.items; reads = 0; unheld_faults = 0; taken = 0 } }
+        ensures { result ≡ record {
+          files = files.items;
+          failing = failing.items;
+          reads = 0;
+          unheld_faults = 0;
+          taken = 0;
+        } }
     {
         MemShelf {
             files,
@@ -131,7 +139,8 @@ impl MemShelf {
     fn answer(&self, alloc: Global, name: &str, limit: u64) -> Read
         ensures whole { IfWhole result (λ bytes. held_under self.now name.now ≡ Some bytes) }
         ensures within { IfWhole result (λ bytes. length bytes ≤ limit) }
-        ensures too_long { OnTooLong result (IfSome (held_under self.now name.now) (λ held. limit < length held)) }
+        ensures too_long { OnTooLong result
+            (IfSome (held_under self.now name.now) (λ held. limit < length held)) }
         ensures held { OnTooLong result (IsSome (held_under self.now name.now)) }
         ensures fails { IsTrue (is_failed result) ↔ FailsAt self.now name.now }
     {
@@ -146,8 +155,11 @@ impl MemShelf {
 
     /// Counts a fault for a name.
     fn fail(&mut self, name: &str)
-        ensures counts { (n : List ℕ) → faults_under self.new n ≡ (if shares_count self.old name.now n then raised 1 (faults_under self.old n) else faults_under self.old n) }
-        ensures faults_never_fall { (n : List ℕ) → faults_under self.old n ≤ faults_under self.new n }
+        ensures counts { (n : List ℕ) → faults_under self.new n
+            ≡ (if shares_count self.old name.now n then raised 1 (faults_under self.old n)
+            else faults_under self.old n) }
+        ensures faults_never_fall { (n : List ℕ)
+            → faults_under self.old n ≤ faults_under self.new n }
         ensures holds_the_same { (n : List ℕ) → held_under self.new n ≡ held_under self.old n }
         ensures same_failing { self.new.failing ≡ self.old.failing }
         ensures same_reads { self.new.reads ≡ self.old.reads }
@@ -173,15 +185,20 @@ impl Shelf for MemShelf {
     fn read_whole(&mut self, alloc: Global, name: &str, limit: u64) -> Read
         ensures whole { IfWhole result (λ bytes. held_under self.old name.now ≡ Some bytes) }
         ensures within { IfWhole result (λ bytes. length bytes ≤ limit) }
-        ensures too_long { OnTooLong result (IsTooLong (held_under self.old name.now) limit self.old.taken self.new.taken) }
+        ensures too_long { OnTooLong result
+            (IsTooLong (held_under self.old name.now) limit self.old.taken self.new.taken) }
 
         // It fails exactly at its numbers and at a name that it does not hold.
         ensures fails { IsTrue (is_failed result) ↔ FailsAt self.old name.now }
 
         // The names that share the count of the name that was asked have one fault more then, and no others.
-        ensures counts { (n : List ℕ) → faults_under self.new n ≡ (if is_failed result && shares_count self.old name.now n then raised 1 (faults_under self.old n) else faults_under self.old n) }
-        ensures failed { OnFailed result (Rose (faults_under self.old name.now) (faults_under self.new name.now)) }
-        ensures faults_never_fall { (n : List ℕ) → faults_under self.old n ≤ faults_under self.new n }
+        ensures counts { (n : List ℕ) → faults_under self.new n
+            ≡ (if is_failed result && shares_count self.old name.now n
+            then raised 1 (faults_under self.old n) else faults_under self.old n) }
+        ensures failed { OnFailed result
+            (Rose (faults_under self.old name.now) (faults_under self.new name.now)) }
+        ensures faults_never_fall { (n : List ℕ)
+            → faults_under self.old n ≤ faults_under self.new n }
 
         ensures holds_the_same { (n : List ℕ) → held_under self.new n ≡ held_under self.old n }
         ensures taken { self.new.taken ≡ raised (byte_count result) self.old.taken }

@@ -37,7 +37,13 @@ impl MemSink {
     /// `failing` are those of the puts that fail. Takes no memory.
     pub fn of(room: Vec<u8>, failing: Vec<u64>) -> MemSink
         requires { room.items ≡ [] }
-        ensures { result ≡ record { bytes = []; room = vec_capacity room; failing = failing.items; puts = 0; faults = 0 } }
+        ensures { result ≡ record {
+          bytes = [];
+          room = vec_capacity room;
+          failing = failing.items;
+          puts = 0;
+          faults = 0;
+        } }
     {
         MemSink {
             room: room.capacity(),
@@ -73,7 +79,8 @@ impl Sink for MemSink {
     ghost puts = { λ s. s.puts };
 
     fn put(&mut self, bytes: &[u8]) -> Put
-        ensures takes { Takes (Some self.old.bytes) (Some self.new.bytes) self.old.faults self.new.faults bytes.now result }
+        ensures takes { Takes (Some self.old.bytes) (Some self.new.bytes) self.old.faults
+            self.new.faults bytes.now result }
         ensures faults_never_fall { self.old.faults ≤ self.new.faults }
         ensures empty { bytes.now ≡ [] → result ≡ Put.Ok }
 

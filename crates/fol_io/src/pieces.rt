@@ -14,8 +14,11 @@ const PIECE_SIZE: usize = 4096;
 /// After `Ok` the sink has received all the bytes besides. After `Failed` it has received whole pieces of them
 /// besides and a prefix of the next, and its count rose. An empty output makes no put.
 pub fn put_in_pieces<K: Sink>(sink: &mut K, bytes: &[u8]) -> Put
-    ensures takes { Takes (K.received sink.old) (K.received sink.new) (K.faults sink.old) (K.faults sink.new) bytes.now result }
-    ensures pieces { result ≡ Put.Failed → ReceivedInPieces (K.received sink.old) (K.received sink.new) (K.puts sink.old) (K.puts sink.new) bytes.now }
+    ensures takes { Takes (K.received sink.old) (K.received sink.new) (K.faults sink.old)
+        (K.faults sink.new) bytes.now result }
+    ensures pieces { result ≡ Put.Failed
+        → ReceivedInPieces (K.received sink.old) (K.received sink.new) (K.puts sink.old)
+        (K.puts sink.new) bytes.now }
     ensures faults_never_fall { K.faults sink.old ≤ K.faults sink.new }
     ensures empty { bytes.now ≡ [] → result ≡ Put.Ok }
     ensures empty_makes_no_put { bytes.now ≡ [] → sink.new ≡ sink.old }

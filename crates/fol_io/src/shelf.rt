@@ -66,8 +66,10 @@ pub trait Shelf {
     fn read_whole(&mut self, alloc: Global, name: &str, limit: u64) -> Read
         ensures whole { IfWhole result (λ bytes. IsHeld (held self.old name.now) bytes) }
         ensures within { IfWhole result (λ bytes. length bytes ≤ limit) }
-        ensures too_long { OnTooLong result (IsTooLong (held self.old name.now) limit (taken self.old) (taken self.new)) }
-        ensures failed { OnFailed result (Rose (faults self.old name.now) (faults self.new name.now)) }
+        ensures too_long { OnTooLong result
+            (IsTooLong (held self.old name.now) limit (taken self.old) (taken self.new)) }
+        ensures failed { OnFailed result
+            (Rose (faults self.old name.now) (faults self.new name.now)) }
 
         // What it holds stays, and no count falls.
         ensures holds_the_same { (n : List ℕ) → held self.new n ≡ held self.old n }

@@ -32,7 +32,8 @@ pub trait Sink {
     /// received a prefix of the piece besides, and its count rose. An empty piece is always `Ok`. Takes
     /// no memory.
     fn put(&mut self, bytes: &[u8]) -> Put
-        ensures takes { Takes (received self.old) (received self.new) (faults self.old) (faults self.new) bytes.now result }
+        ensures takes { Takes (received self.old) (received self.new) (faults self.old)
+            (faults self.new) bytes.now result }
         ensures faults_never_fall { faults self.old ≤ faults self.new }
         ensures empty { bytes.now ≡ [] → result ≡ Put.Ok }
         ensures numbers { bytes.now ≢ [] → puts self.new ≡ raised 1 (puts self.old) }

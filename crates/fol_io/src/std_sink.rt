@@ -62,8 +62,10 @@ impl<'a> StdSink<'a> {
 
 /// Writes all the bytes to the stream, and returns whether each write took a byte at least.
 fn write_whole<W: Write>(stream: &mut W, bytes: &[u8]) -> bool
-    ensures whole { IsTrue result → Appends (W.contents stream.old) (W.contents stream.new) bytes.now }
-    ensures prefix { (n : ℕ) × Appends (W.contents stream.old) (W.contents stream.new) (take n bytes.now) }
+    ensures whole { IsTrue result
+        → Appends (W.contents stream.old) (W.contents stream.new) bytes.now }
+    ensures prefix { (n : ℕ) × Appends (W.contents stream.old) (W.contents stream.new)
+        (take n bytes.now) }
     ensures empty { bytes.now ≡ [] → IsTrue result }
 {
     let mut done = 0;

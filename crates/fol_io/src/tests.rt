@@ -26,11 +26,15 @@ fn read_both<F: Shelf>(
     ensures first { IfWhole result.0 (λ bytes. IsHeld (F.held shelf.old first.now) bytes) }
     ensures second { IfWhole result.1 (λ bytes. IsHeld (F.held shelf.old second.now) bytes) }
 
-    ensures first_failed { OnFailed result.0 (Rose (F.faults shelf.old first.now) (F.faults shelf.new first.now)) }
-    ensures second_failed { OnFailed result.1 (Rose (F.faults shelf.old second.now) (F.faults shelf.new second.now)) }
+    ensures first_failed { OnFailed result.0
+        (Rose (F.faults shelf.old first.now) (F.faults shelf.new first.now)) }
+    ensures second_failed { OnFailed result.1
+        (Rose (F.faults shelf.old second.now) (F.faults shelf.new second.now)) }
 
-    ensures first_too_long { OnTooLong result.0 (IsTooLong (F.held shelf.old first.now) limit (F.taken shelf.old) (F.taken shelf.new)) }
-    ensures second_too_long { OnTooLong result.1 (IsTooLong (F.held shelf.old second.now) limit (F.taken shelf.old) (F.taken shelf.new)) }
+    ensures first_too_long { OnTooLong result.0
+        (IsTooLong (F.held shelf.old first.now) limit (F.taken shelf.old) (F.taken shelf.new)) }
+    ensures second_too_long { OnTooLong result.1
+        (IsTooLong (F.held shelf.old second.now) limit (F.taken shelf.old) (F.taken shelf.new)) }
 
     ensures holds_the_same { (n : List ℕ) → F.held shelf.new n ≡ F.held shelf.old n }
     ensures faults_never_fall { (n : List ℕ) → F.faults shelf.old n ≤ F.faults shelf.new n }

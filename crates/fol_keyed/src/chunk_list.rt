@@ -122,7 +122,8 @@ fn is_behind(chunks: &[ChunkPos], i: usize, c: ChunkPos) -> bool
 fn is_ahead(chunks: &[ChunkPos], i: usize, c: ChunkPos) -> bool
     requires order { IsStrictlySortedBy chunk_cmp chunks.now }
     requires range { i ≤ length chunks.now }
-    ensures { result ≡ true → AllWithin (λ x. chunk_cmp x c ≡ Greater) chunks.now i (length chunks.now) }
+    ensures { result ≡ true
+        → AllWithin (λ x. chunk_cmp x c ≡ Greater) chunks.now i (length chunks.now) }
 {
     i == chunks.len() || compare_chunks(chunks[i], c).is_gt()
 }

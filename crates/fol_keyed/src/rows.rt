@@ -65,12 +65,16 @@ fn is_after<T: Row>(row: &T, other: &T) -> bool
 
 /// Moves the rows that lie in the chunks of the list into another list, in which none ties with them.
 pub fn move_listed<T: Row>(rows: &mut Vec<T>, list: &ChunkList, into: &mut Vec<T>)
-    requires room { vec_len into.old + count_by (λ r. is_listed list.now.chunks.now (T.place r)) rows.old.items ≤ vec_capacity into.old }
+    requires room { vec_len into.old + count_by (λ r. is_listed list.now.chunks.now (T.place r))
+        rows.old.items ≤ vec_capacity into.old }
     requires order { IsStrictlySortedBy T.order rows.old.items }
     requires into_order { IsStrictlySortedBy T.order into.old.items }
-    requires apart { Untied T.order into.old.items (filter (λ r. is_listed list.now.chunks.now (T.place r)) rows.old.items) }
-    ensures left { rows.new.items ≡ filter (λ r. not (is_listed list.now.chunks.now (T.place r))) rows.old.items }
-    ensures moved { IsPermutation (into.old.items ++ filter (λ r. is_listed list.now.chunks.now (T.place r)) rows.old.items) into.new.items }
+    requires apart { Untied T.order into.old.items
+        (filter (λ r. is_listed list.now.chunks.now (T.place r)) rows.old.items) }
+    ensures left { rows.new.items ≡ filter (λ r. not (is_listed list.now.chunks.now (T.place r)))
+        rows.old.items }
+    ensures moved { IsPermutation (into.old.items
+        ++ filter (λ r. is_listed list.now.chunks.now (T.place r)) rows.old.items) into.new.items }
     ensures into_order { IsStrictlySortedBy T.order into.new.items }
     ensures capacity { vec_capacity rows.old ≤ vec_capacity rows.new }
     ensures into_capacity { vec_capacity into.old ≤ vec_capacity into.new }
@@ -89,8 +93,10 @@ pub fn move_listed<T: Row>(rows: &mut Vec<T>, list: &ChunkList, into: &mut Vec<T
 
 /// Copies the rows that lie in the chunks of the list behind those of another list.
 fn copy_listed<T: Row>(rows: &[T], list: &ChunkList, into: &mut Vec<T>)
-    requires { vec_len into.old + count_by (λ r. is_listed list.now.chunks.now (T.place r)) rows.now ≤ vec_capacity into.old }
-    ensures items { into.new.items ≡ into.old.items ++ filter (λ r. is_listed list.now.chunks.now (T.place r)) rows.now }
+    requires { vec_len into.old + count_by (λ r. is_listed list.now.chunks.now (T.place r)) rows.now
+        ≤ vec_capacity into.old }
+    ensures items { into.new.items ≡ into.old.items
+        ++ filter (λ r. is_listed list.now.chunks.now (T.place r)) rows.now }
     ensures capacity { vec_capacity into.new ≡ vec_capacity into.old }
 {
     for row in rows.iter() {

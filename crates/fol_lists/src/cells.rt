@@ -11,7 +11,8 @@ use std::mem;
 /// Writes one list behind those of another vector, and says where it is there.
 fn write<T: Copy>(cells: &[T], span: Span, into: &mut Vec<T>) -> Span
     requires fit { IsSpan (length cells.now) span }
-    requires room { length into.old.items + length (piece_of cells.now span) ≤ vec_capacity into.old }
+    requires room { length into.old.items + length (piece_of cells.now span)
+        ≤ vec_capacity into.old }
     ensures written { into.new.items ≡ into.old.items ++ piece_of cells.now span }
     ensures from { result.from ≡ length into.old.items }
     ensures to { result.to ≡ length into.new.items }
@@ -82,12 +83,16 @@ fn write_again<T: Copy>(cells: &mut Vec<T>, span: Span)
 fn make_last<T: Copy>(cells: &mut Vec<T>, spans: &mut [Span], n: usize)
     requires fit { All (IsSpan (length cells.old.items)) spans.old }
     requires number { n < length spans.old }
-    requires room { length cells.old.items + length (slice_index_or (pieces_of cells.old.items spans.old) n []) ≤ vec_capacity cells.old }
+    requires room { length cells.old.items
+        + length (slice_index_or (pieces_of cells.old.items spans.old) n [])
+        ≤ vec_capacity cells.old }
     ensures same { pieces_of cells.new.items spans.new ≡ pieces_of cells.old.items spans.old }
     ensures fit { All (IsSpan (length cells.new.items)) spans.new }
     ensures end { (d : Span) → (slice_index_or spans.new n d).to ≡ length cells.new.items }
     ensures last { IsLast spans.new n }
-    ensures used { length cells.new.items ≤ length cells.old.items + length (slice_index_or (pieces_of cells.old.items spans.old) n []) }
+    ensures used { length cells.new.items
+        ≤ length cells.old.items + length
+        (slice_index_or (pieces_of cells.old.items spans.old) n []) }
     ensures capacity { vec_capacity cells.old ≤ vec_capacity cells.new }
 {
     let from = cells.len();
@@ -113,7 +118,8 @@ fn open<T: Copy>(
     requires none { spare.old.items ≡ [] }
     requires memory { HasRoom room (vec_capacity cells.old) (vec_capacity spare.old) }
     requires number { n < length spans.old }
-    requires more { length (slice_index_or (pieces_of cells.old.items spans.old) n []) + more ≤ room }
+    requires more { length (slice_index_or (pieces_of cells.old.items spans.old) n []) + more
+        ≤ room }
     ensures same { pieces_of cells.new.items spans.new ≡ pieces_of cells.old.items spans.old }
     ensures fit { All (IsSpan (length cells.new.items)) spans.new }
     ensures end { (d : Span) → (slice_index_or spans.new n d).to ≡ length cells.new.items }
@@ -146,7 +152,9 @@ pub fn grow<T: Copy>(
     requires memory { HasRoom room (vec_capacity cells.old) (vec_capacity spare.old) }
     requires number { n < length spans.old }
     requires room { sum_by length (pieces_of cells.old.items spans.old) + length xs.now ≤ room }
-    ensures grown { pieces_of cells.new.items spans.new ≡ slice_set (pieces_of cells.old.items spans.old) n (slice_index_or (pieces_of cells.old.items spans.old) n [] ++ xs.now) }
+    ensures grown { pieces_of cells.new.items spans.new
+        ≡ slice_set (pieces_of cells.old.items spans.old) n
+        (slice_index_or (pieces_of cells.old.items spans.old) n [] ++ xs.now) }
     ensures lists { AreSpans cells.new.items spans.new room }
     ensures last { IsLast spans.new n }
     ensures none { spare.new.items ≡ [] }
@@ -163,8 +171,11 @@ pub fn cut<T: Copy>(cells: &mut Vec<T>, spans: &mut [Span], last: usize, n: usiz
     requires last { IsLast spans.old last }
     requires number { n < length spans.old }
     requires few { len ≤ length (slice_index_or (pieces_of cells.old.items spans.old) n []) }
-    ensures cut { pieces_of cells.new.items spans.new ≡ slice_set (pieces_of cells.old.items spans.old) n (take len (slice_index_or (pieces_of cells.old.items spans.old) n [])) }
-    ensures lists { (room : ℕ) → AreSpans cells.old.items spans.old room → AreSpans cells.new.items spans.new room }
+    ensures cut { pieces_of cells.new.items spans.new
+        ≡ slice_set (pieces_of cells.old.items spans.old) n
+        (take len (slice_index_or (pieces_of cells.old.items spans.old) n [])) }
+    ensures lists { (room : ℕ) → AreSpans cells.old.items spans.old room
+        → AreSpans cells.new.items spans.new room }
     ensures last { IsLast spans.new last }
     ensures capacity { vec_capacity cells.new ≡ vec_capacity cells.old }
 {

@@ -125,7 +125,8 @@ impl<T: Copy> Lists<T> {
     pub fn put_behind(&mut self, n: usize, len: usize, xs: &[T])
         requires number { n < length self.old.lists }
         requires few { len ≤ length (list_at self.old n) }
-        requires room { total (with_list self.old n (take len (list_at self.old n) ++ xs.now)) ≤ self.old.room }
+        requires room { total (with_list self.old n (take len (list_at self.old n) ++ xs.now))
+            ≤ self.old.room }
         ensures { self.new ≡ with_list self.old n (take len (list_at self.old n) ++ xs.now) }
     {
         self.truncate(n, len);

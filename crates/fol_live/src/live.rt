@@ -43,7 +43,8 @@ impl Live {
     pub fn start(alloc: Global, opening: Opening, callers: u32) -> Result<LiveAndSeats, AllocError>
         requires count { (0 < callers) × (callers ≤ 65) }
         ensures count { IfOk result (λ made. seat_count made.live.lock ≡ callers) }
-        ensures seats { IfOk result (λ made. AreNewSeats (live_id made.live) opening callers made.seats.items) }
+        ensures seats { IfOk result (λ made.
+            AreNewSeats (live_id made.live) opening callers made.seats.items) }
     {
         let world = World::start(alloc, opening)?;
         let mut dealt = Vec::with_capacity(alloc, callers as usize)?;
@@ -296,7 +297,8 @@ impl Live {
 /// These owners after so much of the history, or out of memory.
 fn owners_after(front: u64, answer: Result<Vec<OwnerRow>, AllocError>) -> Result<Owners, AllocError>
     ensures front { IfOk result (λ o. o.front ≡ front) }
-    ensures rows { (list : List OwnerRow) → IfOk answer (λ v. v.items ≡ list) → IfOk result (λ o. o.rows.items ≡ list) }
+    ensures rows { (list : List OwnerRow) → IfOk answer (λ v. v.items ≡ list)
+        → IfOk result (λ o. o.rows.items ≡ list) }
 {
     match answer {
         Ok(rows) => Ok(Owners { front, rows }),

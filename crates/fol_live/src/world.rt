@@ -242,7 +242,8 @@ impl World {
         ensures before { Keeps self.old.opening self.old.history }
         ensures after { Keeps self.new.opening self.new.history }
         ensures length { IfOk result (λ n. n ≡ length self.new.history) }
-        ensures recorded { OnOk result (Records self.old self.new tick.worker (end_event (world_of self.old) tick.worker tick.region tick.log.ran)) }
+        ensures recorded { OnOk result (Records self.old self.new tick.worker
+            (end_event (world_of self.old) tick.worker tick.region tick.log.ran)) }
         ensures back { IfErr result (λ t. SameTick tick t) }
         ensures refused { OnErr result (Stays self.old self.new) }
     {

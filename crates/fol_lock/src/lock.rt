@@ -60,7 +60,8 @@ impl<S: Kept> Lock<S> {
         requires count { (0 < seats) × (seats < 65536) }
         requires empty { S.log state ≡ [] }
         ensures count { IfOk result (λ made. seat_count made.lock ≡ seats) }
-        ensures seats { IfOk result (λ made. AreNew (lock_id made.lock) (S.origin state) seats made.seats) }
+        ensures seats { IfOk result (λ made.
+            AreNew (lock_id made.lock) (S.origin state) seats made.seats) }
     {
         let dealt = Vec::with_capacity(alloc, seats as usize)?;
         let mut slots = Vec::with_capacity(alloc, 1)?;
@@ -83,7 +84,8 @@ impl<S: Kept> Lock<S> {
 
     // A seat for each number: the first pass deals the others, and keeps the last number.
     fn deal(&self, mut first: Pass<S>, count: u32, mut seats: Vec<Seat<S>>) -> Vec<Seat<S>>
-        requires first { (first.table_id ≡ lock_id self.now) × (first.me ≡ (first_view (lock_origin S.origin self.now), [])) }
+        requires first { (first.table_id ≡ lock_id self.now)
+            × (first.me ≡ (first_view (lock_origin S.origin self.now), [])) }
         requires count { count ≡ seat_count self.now }
         requires room { (seats.items ≡ []) × (count ≤ vec_capacity seats) }
         ensures { AreNew (lock_id self.now) (lock_origin S.origin self.now) count result.items }
@@ -153,7 +155,8 @@ impl<S: Kept> Lock<S> {
         ensures number { seat.new.number ≡ seat.old.number }
         ensures origin { seat.new.origin ≡ seat.old.origin }
         ensures seen { seat.new.seen ≡ S.log (state_of turn) }
-        ensures mine { (added : List S.Entry) → S.log (state_of turn) ≡ seat.old.seen ++ added → seat.new.mine ≡ seat.old.mine ++ added }
+        ensures mine { (added : List S.Entry) → S.log (state_of turn) ≡ seat.old.seen ++ added
+            → seat.new.mine ≡ seat.old.mine ++ added }
     {
         let Turn { state } = turn;
         let shared = &self.table.shared;

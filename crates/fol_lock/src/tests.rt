@@ -79,8 +79,10 @@ fn count_up<R: Wait>(rt: &R, lock: &Lock<Notes>, mut seat: Seat<Notes>, times: u
 // A lock over an empty list, with the seats 0 and 1.
 fn open_two(alloc: Global) -> Result<(Lock<Notes>, Seat<Notes>, Seat<Notes>), AllocError>
     ensures count { IfOk result (λ opened. seat_count opened.0 ≡ 2) }
-    ensures first { IfOk result (λ opened. IsIdle (lock_id opened.0) opened.1 × (opened.1.number ≡ 0)) }
-    ensures second { IfOk result (λ opened. IsIdle (lock_id opened.0) opened.2 × (opened.2.number ≡ 1)) }
+    ensures first { IfOk result (λ opened. IsIdle (lock_id opened.0) opened.1
+        × (opened.1.number ≡ 0)) }
+    ensures second { IfOk result (λ opened. IsIdle (lock_id opened.0) opened.2
+        × (opened.2.number ≡ 1)) }
 {
     let state = Notes {
         title: 7,

@@ -20,7 +20,8 @@ pub enum Axis {
 #[tactic(auto, unfolding(crate::specs::Legends::column_number))]
 fn put_column_number(out: &mut String, at: u128, number: i32) -> Result<(), AllocError>
     requires { at < 2 ^ 100 }
-    ensures { IfOk result (λ _. string_bytes out.new ≡ string_bytes out.old ++ column_number at number) }
+    ensures { IfOk result (λ _. string_bytes out.new
+        ≡ string_bytes out.old ++ column_number at number) }
 {
     let middle = at + 256;
     write!(
@@ -33,7 +34,8 @@ fn put_column_number(out: &mut String, at: u128, number: i32) -> Result<(), Allo
 #[tactic(auto, unfolding(crate::specs::Legends::row_number))]
 fn put_row_number(out: &mut String, at: u128, number: i32) -> Result<(), AllocError>
     requires { at < 2 ^ 100 }
-    ensures { IfOk result (λ _. string_bytes out.new ≡ string_bytes out.old ++ row_number at number) }
+    ensures { IfOk result (λ _. string_bytes out.new
+        ≡ string_bytes out.old ++ row_number at number) }
 {
     let base = at + 296;
     write!(out, "<text class='z' x='688' y='{base}'>{number}</text>\n")
@@ -42,7 +44,8 @@ fn put_row_number(out: &mut String, at: u128, number: i32) -> Result<(), AllocEr
 /// Puts the number of a column or row that begins here.
 fn put_number(out: &mut String, axis: Axis, at: u128, number: i32) -> Result<(), AllocError>
     requires { at < 2 ^ 100 }
-    ensures { IfOk result (λ _. string_bytes out.new ≡ string_bytes out.old ++ number_mark axis at number) }
+    ensures { IfOk result (λ _. string_bytes out.new
+        ≡ string_bytes out.old ++ number_mark axis at number) }
 {
     match axis {
         Axis::Columns => put_column_number(out, at, number),
@@ -53,7 +56,8 @@ fn put_number(out: &mut String, axis: Axis, at: u128, number: i32) -> Result<(),
 /// Puts a line down the picture behind the column that begins here, and how many are left out.
 fn put_column_cut(out: &mut String, at: u128, across: u128, count: u32) -> Result<(), AllocError>
     requires { at < 2 ^ 100 }
-    ensures { IfOk result (λ _. string_bytes out.new ≡ string_bytes out.old ++ column_cut at across count) }
+    ensures { IfOk result (λ _. string_bytes out.new
+        ≡ string_bytes out.old ++ column_cut at across count) }
 {
     let middle = at + 768;
     write!(out, "<path class='g' d='M{middle} 512v{across}'/>")?;
@@ -66,7 +70,8 @@ fn put_column_cut(out: &mut String, at: u128, across: u128, count: u32) -> Resul
 /// Puts a line across the picture behind the row that begins here, and how many are left out.
 fn put_row_cut(out: &mut String, at: u128, across: u128, count: u32) -> Result<(), AllocError>
     requires { at < 2 ^ 100 }
-    ensures { IfOk result (λ _. string_bytes out.new ≡ string_bytes out.old ++ row_cut at across count) }
+    ensures { IfOk result (λ _. string_bytes out.new
+        ≡ string_bytes out.old ++ row_cut at across count) }
 {
     let middle = at + 768;
     let base = at + 808;
@@ -83,7 +88,8 @@ fn put_cut(
     count: u32,
 ) -> Result<(), AllocError>
     requires { at < 2 ^ 100 }
-    ensures { IfOk result (λ _. string_bytes out.new ≡ string_bytes out.old ++ cut_mark axis at across count) }
+    ensures { IfOk result (λ _. string_bytes out.new
+        ≡ string_bytes out.old ++ cut_mark axis at across count) }
 {
     match axis {
         Axis::Columns => put_column_cut(out, at, across, count),
@@ -100,7 +106,8 @@ fn put_gap(
     apart: u32,
 ) -> Result<(), AllocError>
     requires { at < 2 ^ 100 }
-    ensures { IfOk result (λ _. string_bytes out.new ≡ string_bytes out.old ++ gap_mark axis at across apart) }
+    ensures { IfOk result (λ _. string_bytes out.new
+        ≡ string_bytes out.old ++ gap_mark axis at across apart) }
 {
     if apart <= 4 {
         Ok(())
@@ -119,7 +126,8 @@ fn put_between(
     more: &[i32],
 ) -> Result<(), AllocError>
     requires { at < 2 ^ 100 }
-    ensures { IfOk result (λ _. string_bytes out.new ≡ string_bytes out.old ++ between axis at across place more.now) }
+    ensures { IfOk result (λ _. string_bytes out.new
+        ≡ string_bytes out.old ++ between axis at across place more.now) }
 {
     match more {
         [] => Ok(()),
@@ -138,7 +146,8 @@ fn put_place(
     more: &[i32],
 ) -> Result<(), AllocError>
     requires { at < 2 ^ 100 }
-    ensures { IfOk result (λ _. string_bytes out.new ≡ string_bytes out.old ++ place_marks axis at across place more.now) }
+    ensures { IfOk result (λ _. string_bytes out.new
+        ≡ string_bytes out.old ++ place_marks axis at across place more.now) }
 {
     put_number(out, axis, at, place)?;
     put_between(out, axis, at, across, place, more)
@@ -165,7 +174,8 @@ pub fn put_axis(
     places: &[i32],
 ) -> Result<(), AllocError>
     requires { start < 2 ^ 90 }
-    ensures { IfOk result (λ _. string_bytes out.new ≡ string_bytes out.old ++ axis_marks axis start across places.now) }
+    ensures { IfOk result (λ _. string_bytes out.new
+        ≡ string_bytes out.old ++ axis_marks axis start across places.now) }
 {
     let mut rest = places;
     let mut at = start;

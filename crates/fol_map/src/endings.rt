@@ -87,7 +87,8 @@ fn report_text(alloc: Global, line: u64) -> Result<String, AllocError>
 /// is out of memory. A fault of the sink changes nothing.
 pub fn complain<E: Sink>(alloc: Global, ending: Ending, err: &mut E) -> Ending
     ensures told { IsTold ending result }
-    ensures text { Complains (E.received err.old) (E.received err.new) (E.faults err.old) (E.faults err.new) result }
+    ensures text { Complains (E.received err.old) (E.received err.new) (E.faults err.old)
+        (E.faults err.new) result }
 {
     match ending {
         Ending::Written => ending,
@@ -111,7 +112,8 @@ pub fn complain<E: Sink>(alloc: Global, ending: Ending, err: &mut E) -> Ending
 fn put_text<E: Sink>(ending: Ending, text: &str, err: &mut E) -> Ending
     requires { text.now ≡ text_of ending }
     ensures same { result ≡ ending }
-    ensures puts { Puts (E.received err.old) (E.received err.new) (E.faults err.old) (E.faults err.new) (text_of result) }
+    ensures puts { Puts (E.received err.old) (E.received err.new) (E.faults err.old)
+        (E.faults err.new) (text_of result) }
 {
     let _answer = err.put(text.as_bytes());
     ending
@@ -122,7 +124,8 @@ fn put_line<E: Sink>(ending: Ending, text: Result<String, AllocError>, err: &mut
     requires number { has_number ending ≡ true }
     requires text { IfOk text (λ t. string_bytes t ≡ text_of ending) }
     ensures told { IsTold ending result }
-    ensures puts { Puts (E.received err.old) (E.received err.new) (E.faults err.old) (E.faults err.new) (text_of result) }
+    ensures puts { Puts (E.received err.old) (E.received err.new) (E.faults err.old)
+        (E.faults err.new) (text_of result) }
 {
     match text {
         Ok(text) => put_text(ending, text.as_str(), err),

@@ -32,7 +32,8 @@ fn raise(counts: &mut Counts, chunk: ChunkPos) -> Result<(), AllocError>
     requires room { count_in counts.old chunk < 2 ^ 100 }
     requires counted { AreCounted counts.old }
     ensures counted { OnOk result (AreCounted counts.new) }
-    ensures raised { OnOk result ((c : ChunkPos) → count_in counts.new c ≡ count_in counts.old c + one_at chunk c) }
+    ensures raised { OnOk result ((c : ChunkPos)
+        → count_in counts.new c ≡ count_in counts.old c + one_at chunk c) }
 {
     let count = count(counts, chunk);
     counts.insert(chunk, count + 1)?;
@@ -43,7 +44,8 @@ fn raise(counts: &mut Counts, chunk: ChunkPos) -> Result<(), AllocError>
 fn lower(counts: &mut Counts, chunk: ChunkPos) -> Result<(), AllocError>
     requires counted { AreCounted counts.old }
     ensures counted { OnOk result (AreCounted counts.new) }
-    ensures lowered { OnOk result ((c : ChunkPos) → count_in counts.new c ≡ count_in counts.old c - one_at chunk c) }
+    ensures lowered { OnOk result ((c : ChunkPos)
+        → count_in counts.new c ≡ count_in counts.old c - one_at chunk c) }
 {
     let count = count(counts, chunk);
     if count > 1 {
@@ -59,7 +61,8 @@ fn count_event(counts: &mut Counts, event: &Event) -> Result<(), AllocError>
     requires room { (c : ChunkPos) → count_in counts.old c < 2 ^ 100 }
     requires counted { AreCounted counts.old }
     ensures counted { OnOk result (AreCounted counts.new) }
-    ensures tickets { OnOk result ((c : ChunkPos) → count_in counts.new c ≡ ticketed (count_in counts.old) event.now c) }
+    ensures tickets { OnOk result ((c : ChunkPos)
+        → count_in counts.new c ≡ ticketed (count_in counts.old) event.now c) }
 {
     match event {
         Event::Load {
@@ -92,7 +95,8 @@ fn count_tickets(alloc: Global, history: &[Entry]) -> Result<Counts, AllocError>
 /// The holds of each chunk after a history with these tasks queued.
 fn count_holds(alloc: Global, history: &[Entry], tasks: &[TaskRow]) -> Result<Counts, AllocError>
     ensures counted { IfOk result AreCounted }
-    ensures holds { IfOk result (λ m. (c : ChunkPos) → count_in m c ≡ holds history.now tasks.now c) }
+    ensures holds { IfOk result (λ m. (c : ChunkPos)
+        → count_in m c ≡ holds history.now tasks.now c) }
 {
     let mut counts = count_tickets(alloc, history)?;
     for row in tasks {
@@ -105,7 +109,8 @@ fn count_holds(alloc: Global, history: &[Entry], tasks: &[TaskRow]) -> Result<Co
 fn in_order(alloc: Global, counts: &Counts) -> Result<Vec<ChunkPos>, AllocError>
     ensures keys { IfOk result (λ xs. xs.items ≡ keys counts.now) }
     ensures ordered { IsStrictlySortedBy by_place (keys counts.now) }
-    ensures has { (q : ChunkPos) → is_some (get by_place counts.now q) ≡ list_any (eq_by_cmp by_place q) (keys counts.now) }
+    ensures has { (q : ChunkPos) → is_some (get by_place counts.now q)
+        ≡ list_any (eq_by_cmp by_place q) (keys counts.now) }
 {
     counts.keys().copied().collect(alloc)
 }

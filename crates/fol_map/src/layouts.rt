@@ -78,7 +78,8 @@ fn drawn_sections(
     closing: &Closing,
     chunks: &[ChunkPos],
 ) -> Result<Vec<SectionPos>, AllocError>
-    ensures { IfOk result (λ v. v.items ≡ drawn closing.now.opening.grid closing.now.owners chunks.now closing.now.entities) }
+    ensures { IfOk result (λ v. v.items ≡ drawn closing.now.opening.grid closing.now.owners
+        chunks.now closing.now.entities) }
 {
     let grid = &closing.opening.grid;
     let mut sections = Vec::new(alloc);
@@ -98,14 +99,16 @@ fn drawn_sections(
 
 /// The columns of some sections, as a set.
 fn column_set(alloc: Global, sections: &[SectionPos]) -> Result<BTreeSet<i32>, AllocError>
-    ensures { IfOk result (λ set. IsFromIterResult int_cmp (map (λ (s : SectionPos). s.x) sections.now) set) }
+    ensures { IfOk result (λ set.
+        IsFromIterResult int_cmp (map (λ (s : SectionPos). s.x) sections.now) set) }
 {
     sections.iter().map(|s| s.x).collect::<BTreeSet<i32>>(alloc)
 }
 
 /// The rows of some sections, as a set.
 fn row_set(alloc: Global, sections: &[SectionPos]) -> Result<BTreeSet<i32>, AllocError>
-    ensures { IfOk result (λ set. IsFromIterResult int_cmp (map (λ (s : SectionPos). s.z) sections.now) set) }
+    ensures { IfOk result (λ set.
+        IsFromIterResult int_cmp (map (λ (s : SectionPos). s.z) sections.now) set) }
 {
     sections.iter().map(|s| s.z).collect::<BTreeSet<i32>>(alloc)
 }

@@ -62,7 +62,8 @@ fn put_state(out: &mut String, state: State) -> Result<(), AllocError>
 
 /// Puts the numbers of a region.
 fn put_region_sizes(out: &mut String, region: &RegionRow) -> Result<(), AllocError>
-    ensures { IfOk result (λ _. string_bytes out.new ≡ string_bytes out.old ++ region_sizes region.now) }
+    ensures { IfOk result (λ _. string_bytes out.new
+        ≡ string_bytes out.old ++ region_sizes region.now) }
 {
     write!(out, ", tick {}, owed {}", region.tick, region.owed)?;
     write!(
@@ -76,7 +77,8 @@ fn put_region_sizes(out: &mut String, region: &RegionRow) -> Result<(), AllocErr
 #[tactic(auto, unfolding(crate::specs::Legends::region_line))]
 fn put_region(out: &mut String, y: u128, region: &RegionRow) -> Result<(), AllocError>
     requires { y < 2 ^ 110 }
-    ensures { IfOk result (λ _. string_bytes out.new ≡ string_bytes out.old ++ region_line y region.now) }
+    ensures { IfOk result (λ _. string_bytes out.new
+        ≡ string_bytes out.old ++ region_line y region.now) }
 {
     put_swatch(out, y, region.id % COLOURS)?;
     put_region_name(out, y + 136, region.id)?;
@@ -87,7 +89,8 @@ fn put_region(out: &mut String, y: u128, region: &RegionRow) -> Result<(), Alloc
 /// Puts a line for each of some regions.
 fn put_region_lines(out: &mut String, y: u128, regions: &[RegionRow]) -> Result<(), AllocError>
     requires { y < 2 ^ 100 }
-    ensures { IfOk result (λ _. string_bytes out.new ≡ string_bytes out.old ++ region_lines y regions.now) }
+    ensures { IfOk result (λ _. string_bytes out.new
+        ≡ string_bytes out.old ++ region_lines y regions.now) }
 {
     let mut rest = regions;
     let mut at = y;
@@ -124,7 +127,8 @@ fn put_more(out: &mut String, y: u128, count: usize) -> Result<(), AllocError>
 /// Puts the first regions, and how many more there are.
 fn put_regions(out: &mut String, y: u128, regions: &[RegionRow]) -> Result<(), AllocError>
     requires { y < 2 ^ 100 }
-    ensures { IfOk result (λ _. string_bytes out.new ≡ string_bytes out.old ++ regions_legend y regions.now) }
+    ensures { IfOk result (λ _. string_bytes out.new
+        ≡ string_bytes out.old ++ regions_legend y regions.now) }
 {
     let named = regions.len().min(MOST_REGIONS);
     put_region_lines(out, y, &regions[..named])?;
@@ -148,7 +152,8 @@ fn count_away(entities: &[EntityRow]) -> usize
 /// Puts the line of loaded chunks.
 fn put_chunks_line(out: &mut String, y: u128, count: usize) -> Result<(), AllocError>
     requires { y < 2 ^ 110 }
-    ensures { IfOk result (λ _. string_bytes out.new ≡ string_bytes out.old ++ chunks_line y count) }
+    ensures { IfOk result (λ _. string_bytes out.new
+        ≡ string_bytes out.old ++ chunks_line y count) }
 {
     let base = y + 136;
     write!(out, "<path class='c' d='M768 {y}h192v176h-192z'/>")?;
@@ -177,7 +182,8 @@ fn put_tasks_line(out: &mut String, y: u128, count: usize) -> Result<(), AllocEr
 /// Puts the line of entities.
 fn put_entities_line(out: &mut String, y: u128, count: usize, away: usize) -> Result<(), AllocError>
     requires { y < 2 ^ 110 }
-    ensures { IfOk result (λ _. string_bytes out.new ≡ string_bytes out.old ++ entities_line y count away) }
+    ensures { IfOk result (λ _. string_bytes out.new
+        ≡ string_bytes out.old ++ entities_line y count away) }
 {
     let middle = y + 88;
     let base = y + 136;
@@ -233,7 +239,8 @@ fn put_kinds(
     closing: &Closing,
 ) -> Result<(), AllocError>
     requires { y < 2 ^ 105 }
-    ensures { IfOk result (λ _. string_bytes out.new ≡ string_bytes out.old ++ marks_legend y layout.now closing.now) }
+    ensures { IfOk result (λ _. string_bytes out.new
+        ≡ string_bytes out.old ++ marks_legend y layout.now closing.now) }
 {
     let away = count_away(closing.entities.as_slice());
     put_chunks_line(out, y, layout.chunks.len())?;
@@ -251,7 +258,8 @@ pub fn put_legend(
     closing: &Closing,
 ) -> Result<(), AllocError>
     requires { y < 2 ^ 100 }
-    ensures { IfOk result (λ _. string_bytes out.new ≡ string_bytes out.old ++ legend y layout.now closing.now) }
+    ensures { IfOk result (λ _. string_bytes out.new
+        ≡ string_bytes out.old ++ legend y layout.now closing.now) }
 {
     let regions = closing.regions.as_slice();
     put_regions(out, y, regions)?;

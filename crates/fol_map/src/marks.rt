@@ -20,12 +20,14 @@ pub trait Mark {
 
     /// Puts the mark.
     fn put(&self, out: &mut String, layout: &Layout) -> Result<(), AllocError>
-        ensures { IfOk result (λ _. string_bytes out.new ≡ string_bytes out.old ++ mark layout.now self.now) };
+        ensures { IfOk result (λ _. string_bytes out.new
+            ≡ string_bytes out.old ++ mark layout.now self.now) };
 }
 
 /// Puts the mark of each row.
 pub fn put_marks<M: Mark>(out: &mut String, layout: &Layout, rows: &[M]) -> Result<(), AllocError>
-    ensures { IfOk result (λ _. string_bytes out.new ≡ string_bytes out.old ++ flat_map (M.mark layout.now) rows.now) }
+    ensures { IfOk result (λ _. string_bytes out.new
+        ≡ string_bytes out.old ++ flat_map (M.mark layout.now) rows.now) }
 {
     for row in rows {
         row.put(out, layout)?;
@@ -36,7 +38,8 @@ pub fn put_marks<M: Mark>(out: &mut String, layout: &Layout, rows: &[M]) -> Resu
 /// Puts the square of a section.
 #[tactic(auto, unfolding(crate::specs::Marks::section_shape))]
 fn put_section_shape(out: &mut String, colour: u64, at: Point) -> Result<(), AllocError>
-    ensures { IfOk result (λ _. string_bytes out.new ≡ string_bytes out.old ++ section_shape colour at) }
+    ensures { IfOk result (λ _. string_bytes out.new
+        ≡ string_bytes out.old ++ section_shape colour at) }
 {
     write!(
         out,
@@ -47,7 +50,8 @@ fn put_section_shape(out: &mut String, colour: u64, at: Point) -> Result<(), All
 
 /// Puts the name of a section.
 fn put_section_title(out: &mut String, at: SectionPos, region: u64) -> Result<(), AllocError>
-    ensures { IfOk result (λ _. string_bytes out.new ≡ string_bytes out.old ++ section_title at region) }
+    ensures { IfOk result (λ _. string_bytes out.new
+        ≡ string_bytes out.old ++ section_title at region) }
 {
     write!(
         out,
@@ -70,7 +74,8 @@ impl Mark for OwnerRow {
 
 /// Puts the square of a chunk.
 fn put_chunk_shape(out: &mut String, side: u128, at: Point) -> Result<(), AllocError>
-    ensures { IfOk result (λ _. string_bytes out.new ≡ string_bytes out.old ++ chunk_shape side at) }
+    ensures { IfOk result (λ _. string_bytes out.new
+        ≡ string_bytes out.old ++ chunk_shape side at) }
 {
     write!(
         out,
@@ -112,7 +117,8 @@ fn put_task_shape(out: &mut String, at: Point) -> Result<(), AllocError>
 
 /// Puts the name of a task.
 fn put_task_title(out: &mut String, number: u64, at: ChunkPos, rest: u32) -> Result<(), AllocError>
-    ensures { IfOk result (λ _. string_bytes out.new ≡ string_bytes out.old ++ task_title number at rest) }
+    ensures { IfOk result (λ _. string_bytes out.new
+        ≡ string_bytes out.old ++ task_title number at rest) }
 {
     write!(
         out,
@@ -154,7 +160,8 @@ fn put_dot_title(out: &mut String, id: u32, at: BlockPos) -> Result<(), AllocErr
 
 /// Puts the mark of an entity at its place.
 fn put_place(out: &mut String, layout: &Layout, id: u32, place: Place) -> Result<(), AllocError>
-    ensures { IfOk result (λ _. string_bytes out.new ≡ string_bytes out.old ++ place_mark layout.now id place) }
+    ensures { IfOk result (λ _. string_bytes out.new
+        ≡ string_bytes out.old ++ place_mark layout.now id place) }
 {
     match place {
         Place::At(at) => {

@@ -47,14 +47,17 @@ pub trait Row: Drop {
     /// The row that a line without its end tells.
     fn read(alloc: Global, line: &[u8]) -> Result<Self, fol_events::Fault>
         ensures found { IfOk result (λ r. InRange r × (line.now ≡ line_of (words r))) }
-        ensures none { result ≡ Err Unspelled → (r : Self) → InRange r → line.now ≡ line_of (words r) → ⊥ };
+        ensures none { result ≡ Err Unspelled → (r : Self) → InRange r
+            → line.now ≡ line_of (words r) → ⊥ };
 }
 
 /// The number of rows that a line tells.
 fn read_count(name: &[u8], line: &[u8]) -> Result<u64, fol_events::Fault>
     requires { is_name name.now ≡ true }
-    ensures found { IfOk result (λ n. (n ≤ 16777216) × (line.now ≡ line_of (name.now ∷ decimal n ∷ []))) }
-    ensures none { OnErr result ((n : ℕ) → n ≤ 16777216 → line.now ≡ line_of (name.now ∷ decimal n ∷ []) → ⊥) }
+    ensures found { IfOk result (λ n. (n ≤ 16777216)
+        × (line.now ≡ line_of (name.now ∷ decimal n ∷ []))) }
+    ensures none { OnErr result ((n : ℕ) → n ≤ 16777216
+        → line.now ≡ line_of (name.now ∷ decimal n ∷ []) → ⊥) }
 {
     let mut words = Words::of(line);
     words.pass(name)?;
@@ -66,7 +69,8 @@ fn read_count(name: &[u8], line: &[u8]) -> Result<u64, fol_events::Fault>
 /// The number of rows of a part, and what follows the line that tells it.
 fn cut_count<'a>(name: &[u8], text: &'a [u8]) -> Result<(u64, &'a [u8]), fol_events::Fault>
     requires { is_name name.now ≡ true }
-    ensures found { IfOk result (λ r. (r.0 ≤ 16777216) × (text.now ≡ count_line name.now r.0 ++ r.1.now)) }
+    ensures found { IfOk result (λ r. (r.0 ≤ 16777216)
+        × (text.now ≡ count_line name.now r.0 ++ r.1.now)) }
     ensures none { OnErr result (BadCount name.now text.now 1) }
 {
     let (line, rest) = cut_line(text)?;
@@ -78,7 +82,8 @@ fn cut_count<'a>(name: &[u8], text: &'a [u8]) -> Result<(u64, &'a [u8]), fol_eve
 fn cut_row<R: Row>(alloc: Global, text: &[u8]) -> Result<(R, &[u8]), fol_events::Fault>
     requires { (r : R) → has_no_feed (line_of (R.words r)) ≡ true }
     ensures found { IfOk result (λ r. R.InRange r.0 × (text.now ≡ line (R.words r.0) ++ r.1.now)) }
-    ensures none { result ≡ Err Unspelled → (r : R) (rest : List ℕ) → R.InRange r → text.now ≡ line (R.words r) ++ rest → ⊥ }
+    ensures none { result ≡ Err Unspelled → (r : R) (rest : List ℕ) → R.InRange r
+        → text.now ≡ line (R.words r) ++ rest → ⊥ }
 {
     let (line, rest) = cut_line(text)?;
     let row = R::read(alloc, line)?;
@@ -116,7 +121,8 @@ pub fn read_part<'a, R: Row>(
     requires name { is_name name.now ≡ true }
     requires one_line { (r : R) → has_no_feed (line_of (R.words r)) ≡ true }
     ensures found { IfOk result (λ r. IsPart name.now R.words R.InRange text.now r.0 r.1.now) }
-    ensures bad { IfErr result (λ e. OnLine e (λ l. IsBadPart name.now R.words R.InRange text.now l)) }
+    ensures bad { IfErr result (λ e.
+        OnLine e (λ l. IsBadPart name.now R.words R.InRange text.now l)) }
     ensures small { IfErr result (λ e. OnLine e (λ l. l ≤ 16777218)) }
 {
     let Ok((count, rows)) = cut_count(name, text) else {

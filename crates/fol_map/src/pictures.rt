@@ -44,7 +44,8 @@ fn high(layout: &Layout, closing: &Closing) -> u128
 
 /// Puts the size of a page.
 fn put_size(out: &mut String, wide: u128, high: u128) -> Result<(), AllocError>
-    ensures { IfOk result (λ _. string_bytes out.new ≡ string_bytes out.old ++ size_text wide high) }
+    ensures { IfOk result (λ _. string_bytes out.new
+        ≡ string_bytes out.old ++ size_text wide high) }
 {
     let across = wide / 8;
     let down = high / 8;
@@ -79,7 +80,8 @@ fn put_head(out: &mut String, wide: u128, high: u128) -> Result<(), AllocError>
 
 /// Puts one mark for each loaded chunk, each queued task and each entity that stands at a block.
 fn put_inside(out: &mut String, layout: &Layout, closing: &Closing) -> Result<(), AllocError>
-    ensures { IfOk result (λ _. string_bytes out.new ≡ string_bytes out.old ++ inside_text closing.now layout.now) }
+    ensures { IfOk result (λ _. string_bytes out.new
+        ≡ string_bytes out.old ++ inside_text closing.now layout.now) }
 {
     put_marks(out, layout, layout.chunks.as_slice())?;
     put_marks(out, layout, closing.tasks.as_slice())?;
@@ -88,7 +90,8 @@ fn put_inside(out: &mut String, layout: &Layout, closing: &Closing) -> Result<()
 
 /// Puts the numbers at the sides, and the legend.
 fn put_round(out: &mut String, layout: &Layout, closing: &Closing) -> Result<(), AllocError>
-    ensures { IfOk result (λ _. string_bytes out.new ≡ string_bytes out.old ++ round_text closing.now layout.now) }
+    ensures { IfOk result (λ _. string_bytes out.new
+        ≡ string_bytes out.old ++ round_text closing.now layout.now) }
 {
     let columns = layout.columns.as_slice();
     let rows = layout.rows.as_slice();

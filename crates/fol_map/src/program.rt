@@ -31,8 +31,24 @@ pub fn run<F: Shelf, K: Sink, E: Sink>(
     out: &mut K,
     err: &mut E,
 ) -> Ending
-    ensures outcome { Outcome (record { words = map (λ w. w.now) words.now; held = F.held shelf.old; faults = F.faults shelf.old; faults_later = F.faults shelf.new; taken = F.taken shelf.old; taken_later = F.taken shelf.new; reads = F.reads shelf.old; reads_later = F.reads shelf.new; received = K.received out.old; received_later = K.received out.new; write_faults = K.faults out.old; write_faults_later = K.faults out.new; puts = K.puts out.old; puts_later = K.puts out.new }) result }
-    ensures complaint { Complains (E.received err.old) (E.received err.new) (E.faults err.old) (E.faults err.new) result }
+    ensures outcome { Outcome (record {
+      words = map (λ w. w.now) words.now;
+      held = F.held shelf.old;
+      faults = F.faults shelf.old;
+      faults_later = F.faults shelf.new;
+      taken = F.taken shelf.old;
+      taken_later = F.taken shelf.new;
+      reads = F.reads shelf.old;
+      reads_later = F.reads shelf.new;
+      received = K.received out.old;
+      received_later = K.received out.new;
+      write_faults = K.faults out.old;
+      write_faults_later = K.faults out.new;
+      puts = K.puts out.old;
+      puts_later = K.puts out.new;
+    }) result }
+    ensures complaint { Complains (E.received err.old) (E.received err.new) (E.faults err.old)
+        (E.faults err.new) result }
 {
     let ending = work(alloc, words, shelf, out);
     complain(alloc, ending, err)
@@ -40,7 +56,22 @@ pub fn run<F: Shelf, K: Sink, E: Sink>(
 
 /// Does all the work but to tell how it ended.
 fn work<F: Shelf, K: Sink>(alloc: Global, words: &[&str], shelf: &mut F, out: &mut K) -> Ending
-    ensures { Outcome (record { words = map (λ w. w.now) words.now; held = F.held shelf.old; faults = F.faults shelf.old; faults_later = F.faults shelf.new; taken = F.taken shelf.old; taken_later = F.taken shelf.new; reads = F.reads shelf.old; reads_later = F.reads shelf.new; received = K.received out.old; received_later = K.received out.new; write_faults = K.faults out.old; write_faults_later = K.faults out.new; puts = K.puts out.old; puts_later = K.puts out.new }) result }
+    ensures { Outcome (record {
+      words = map (λ w. w.now) words.now;
+      held = F.held shelf.old;
+      faults = F.faults shelf.old;
+      faults_later = F.faults shelf.new;
+      taken = F.taken shelf.old;
+      taken_later = F.taken shelf.new;
+      reads = F.reads shelf.old;
+      reads_later = F.reads shelf.new;
+      received = K.received out.old;
+      received_later = K.received out.new;
+      write_faults = K.faults out.old;
+      write_faults_later = K.faults out.new;
+      puts = K.puts out.old;
+      puts_later = K.puts out.new;
+    }) result }
 {
     match names_in(words) {
         None => Ending::Words,
@@ -57,7 +88,9 @@ struct Names<'a> {
 
 /// The names that the words are; `None` exactly where they are not two names.
 fn names_in<'a>(words: &[&'a str]) -> Option<Names<'a>>
-    ensures { MatchOption result (names_in (map (λ w. w.now) words.now) ≡ None) (λ n. names_in (map (λ w. w.now) words.now) ≡ Some (record { world = n.world.now; report = n.report.now })) }
+    ensures { MatchOption result (names_in (map (λ w. w.now) words.now) ≡ None) (λ n.
+        names_in (map (λ w. w.now) words.now)
+        ≡ Some (record { world = n.world.now; report = n.report.now })) }
 {
     match words {
         [world, report] => {
@@ -89,7 +122,23 @@ fn draw_files<F: Shelf, K: Sink>(
     shelf: &mut F,
     out: &mut K,
 ) -> Ending
-    ensures { (words : List (List ℕ)) → FilesEnd (record { words = words; held = F.held shelf.old; faults = F.faults shelf.old; faults_later = F.faults shelf.new; taken = F.taken shelf.old; taken_later = F.taken shelf.new; reads = F.reads shelf.old; reads_later = F.reads shelf.new; received = K.received out.old; received_later = K.received out.new; write_faults = K.faults out.old; write_faults_later = K.faults out.new; puts = K.puts out.old; puts_later = K.puts out.new }) world.now report.now result }
+    ensures { (words : List (List ℕ))
+        → FilesEnd (record {
+          words = words;
+          held = F.held shelf.old;
+          faults = F.faults shelf.old;
+          faults_later = F.faults shelf.new;
+          taken = F.taken shelf.old;
+          taken_later = F.taken shelf.new;
+          reads = F.reads shelf.old;
+          reads_later = F.reads shelf.new;
+          received = K.received out.old;
+          received_later = K.received out.new;
+          write_faults = K.faults out.old;
+          write_faults_later = K.faults out.new;
+          puts = K.puts out.old;
+          puts_later = K.puts out.new;
+        }) world.now report.now result }
 {
     let world = match read_file(alloc, world, shelf) {
         Ok(bytes) => bytes,
@@ -104,7 +153,8 @@ fn draw_files<F: Shelf, K: Sink>(
 
 /// Draws a report over a world.
 fn draw_texts<K: Sink>(alloc: Global, world: &[u8], report: &[u8], out: &mut K) -> Ending
-    ensures { TextsEnd world.now report.now (K.received out.old) (K.received out.new) (K.faults out.old) (K.faults out.new) (K.puts out.old) (K.puts out.new) result }
+    ensures { TextsEnd world.now report.now (K.received out.old) (K.received out.new)
+        (K.faults out.old) (K.faults out.new) (K.puts out.old) (K.puts out.new) result }
 {
     match read_world(alloc, world) {
         Ok(opening) => draw_report(alloc, opening, report, out),
@@ -115,7 +165,8 @@ fn draw_texts<K: Sink>(alloc: Global, world: &[u8], report: &[u8], out: &mut K) 
 
 /// Draws a report over an opening.
 fn draw_report<K: Sink>(alloc: Global, opening: Opening, report: &[u8], out: &mut K) -> Ending
-    ensures { ReportEnds opening report.now (K.received out.old) (K.received out.new) (K.faults out.old) (K.faults out.new) (K.puts out.old) (K.puts out.new) result }
+    ensures { ReportEnds opening report.now (K.received out.old) (K.received out.new)
+        (K.faults out.old) (K.faults out.new) (K.puts out.old) (K.puts out.new) result }
 {
     let closing = match read_report(alloc, opening, report) {
         Ok(closing) => closing,
@@ -127,7 +178,8 @@ fn draw_report<K: Sink>(alloc: Global, opening: Opening, report: &[u8], out: &mu
 
 /// Draws a closing.
 fn draw_closing<K: Sink>(alloc: Global, closing: &Closing, out: &mut K) -> Ending
-    ensures { PutEnds (IsPicture closing.now) (K.received out.old) (K.received out.new) (K.faults out.old) (K.faults out.new) (K.puts out.old) (K.puts out.new) result }
+    ensures { PutEnds (IsPicture closing.now) (K.received out.old) (K.received out.new)
+        (K.faults out.old) (K.faults out.new) (K.puts out.old) (K.puts out.new) result }
 {
     match picture(alloc, closing) {
         Ok(picture) => put_picture(picture.as_slice(), out),
@@ -137,7 +189,8 @@ fn draw_closing<K: Sink>(alloc: Global, closing: &Closing, out: &mut K) -> Endin
 
 /// Puts a picture that is whole.
 fn put_picture<K: Sink>(picture: &[u8], out: &mut K) -> Ending
-    ensures { PutEnds (λ b. b ≡ picture.now) (K.received out.old) (K.received out.new) (K.faults out.old) (K.faults out.new) (K.puts out.old) (K.puts out.new) result }
+    ensures { PutEnds (λ b. b ≡ picture.now) (K.received out.old) (K.received out.new)
+        (K.faults out.old) (K.faults out.new) (K.puts out.old) (K.puts out.new) result }
 {
     match put_in_pieces(out, picture) {
         Put::Ok => Ending::Written,
@@ -148,7 +201,8 @@ fn put_picture<K: Sink>(picture: &[u8], out: &mut K) -> Ending
 /// Reads one file.
 fn read_file<F: Shelf>(alloc: Global, name: &str, shelf: &mut F) -> Result<Bytes, Ending>
     ensures held { IfOk result (λ bytes. IsHeld (F.held shelf.old name.now) bytes) }
-    ensures ends { IfErr result (FileEnds (F.held shelf.old name.now) (F.faults shelf.old name.now) (F.faults shelf.new name.now) (F.taken shelf.old) (F.taken shelf.new)) }
+    ensures ends { IfErr result (FileEnds (F.held shelf.old name.now) (F.faults shelf.old name.now)
+        (F.faults shelf.new name.now) (F.taken shelf.old) (F.taken shelf.new)) }
     ensures holds_the_same { (n : List ℕ) → F.held shelf.new n ≡ F.held shelf.old n }
     ensures faults_never_fall { (n : List ℕ) → F.faults shelf.old n ≤ F.faults shelf.new n }
     ensures taken_never_falls { F.taken shelf.old ≤ F.taken shelf.new }

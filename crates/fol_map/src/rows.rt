@@ -40,7 +40,8 @@ fn state(words: &mut Words) -> Result<State, Fault>
 /// What a region owes, its sections and its chunks, as the last words.
 fn sizes(words: &mut Words) -> Result<(u32, u32, u32), Fault>
     ensures found { IfOk result (λ r. words.old ≡ sizes_words r.0 r.1 r.2) }
-    ensures none { OnErr result ((owed sections chunks : ℕ) → owed < 2 ^ 32 → sections < 2 ^ 32 → chunks < 2 ^ 32 → words.old ≡ sizes_words owed sections chunks → ⊥) }
+    ensures none { OnErr result ((owed sections chunks : ℕ) → owed < 2 ^ 32 → sections < 2 ^ 32
+        → chunks < 2 ^ 32 → words.old ≡ sizes_words owed sections chunks → ⊥) }
 {
     words.pass(b"owed")?;
     let owed = words.small()?;
@@ -91,8 +92,11 @@ fn owner(words: &mut Words) -> Result<OwnerRow, Fault>
 
 /// What stands before the action of a task: its number, its chunk and its rest.
 fn task_head(words: &mut Words) -> Result<(u64, ChunkPos, u32), Fault>
-    ensures found { IfOk result (λ r. (is_chunk r.1 ≡ true) × (words.old ≡ codes "task" ∷ decimal r.0 ∷ chunk_words r.1 ++ decimal r.2 ∷ words.new)) }
-    ensures none { OnErr result ((number rest : ℕ) (c : ChunkPos) (more : List Word) → number < 2 ^ 64 → is_chunk c ≡ true → rest < 2 ^ 32 → words.old ≡ codes "task" ∷ decimal number ∷ chunk_words c ++ decimal rest ∷ more → ⊥) }
+    ensures found { IfOk result (λ r. (is_chunk r.1 ≡ true)
+        × (words.old ≡ codes "task" ∷ decimal r.0 ∷ chunk_words r.1 ++ decimal r.2 ∷ words.new)) }
+    ensures none { OnErr result ((number rest : ℕ) (c : ChunkPos) (more : List Word)
+        → number < 2 ^ 64 → is_chunk c ≡ true → rest < 2 ^ 32
+        → words.old ≡ codes "task" ∷ decimal number ∷ chunk_words c ++ decimal rest ∷ more → ⊥) }
 {
     words.pass(b"task")?;
     let number = words.wide()?;
@@ -104,7 +108,8 @@ fn task_head(words: &mut Words) -> Result<(u64, ChunkPos, u32), Fault>
 /// The arrival of an entity, whose speed no line tells.
 fn arrival(words: &mut Words) -> Result<Action, Fault>
     ensures found { IfOk result (λ a. QueuedInRange a × (words.old ≡ posted_words a)) }
-    ensures none { OnErr result ((e : Entity) → e.id < 2 ^ 32 → is_block e.at ≡ true → words.old ≡ arrival_words e → ⊥) }
+    ensures none { OnErr result ((e : Entity) → e.id < 2 ^ 32 → is_block e.at ≡ true
+        → words.old ≡ arrival_words e → ⊥) }
 {
     words.pass(b"arrive")?;
     let id = words.small()?;

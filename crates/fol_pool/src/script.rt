@@ -45,7 +45,8 @@ pub fn run_script<R: Threads + Wait + Sync, G: Gate + Sync>(
 
 /// Closes the world, given all its seats, where the script was carried out and the history finished.
 fn close(alloc: Global, live: Live, ended: Ended) -> Result<Closing, AllocError>
-    requires own { All (λ seat. seat.lock ≡ live_id live) (ended.workers.items ++ ended.caller ∷ []) }
+    requires own { All (λ seat. seat.lock ≡ live_id live)
+        (ended.workers.items ++ ended.caller ∷ []) }
     requires all { AreAllSeats (seat_count live.lock) (ended.workers.items ++ ended.caller ∷ []) }
     requires room { vec_len ended.workers < vec_capacity ended.workers }
     ensures finished { OnOk result (ended.finished ≡ true) }

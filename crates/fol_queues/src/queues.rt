@@ -62,7 +62,8 @@ impl Queues {
         requires fresh { IsNone (dated self.old task.number) }
         requires delay { delay ≤ 1000000 }
         requires begun { begun ≤ 2 ^ 62 }
-        ensures tasks { dated self.new ≡ at_id (dated self.old) task.number (Some (record { task = task; deadline = begun + delay })) }
+        ensures tasks { dated self.new ≡ at_id (dated self.old) task.number
+            (Some (record { task = task; deadline = begun + delay })) }
         ensures len { len_of self.new ≡ len_of self.old + 1 }
         ensures spare { self.old.spare ≤ self.new.spare + 1 }
     {
@@ -81,8 +82,10 @@ impl Queues {
     pub fn take_due(&mut self, now: u64, out: &mut Vec<Task>)
         requires empty { out.old.items ≡ [] }
         requires room { due_count now self.old ≤ vec_capacity out.old }
-        ensures left { dated self.new ≡ λ n. option_filter (λ d. not (is_due now d)) (dated self.old n) }
-        ensures taken { task_in out.new.items ≡ λ n. option_map (λ d. d.task) (option_filter (is_due now) (dated self.old n)) }
+        ensures left { dated self.new ≡ λ n.
+            option_filter (λ d. not (is_due now d)) (dated self.old n) }
+        ensures taken { task_in out.new.items ≡ λ n.
+            option_map (λ d. d.task) (option_filter (is_due now) (dated self.old n)) }
         ensures order { Rising out.new.items }
         ensures len { len_of self.new + length out.new.items ≡ len_of self.old }
         ensures count { length out.new.items ≡ due_count now self.old }
@@ -96,11 +99,19 @@ impl Queues {
     /// by x. Takes no memory.
     pub fn move_listed(&mut self, chunks: &[ChunkPos], into: &mut Queues, offset: i64)
         requires order { IsStrictlySortedBy chunk_cmp chunks.now }
-        requires apart { (n : ℕ) → IsTrue (is_none (dated into.old n) || is_none (option_filter (lies_listed chunks.now) (dated self.old n))) }
+        requires apart { (n : ℕ)
+            → IsTrue (is_none (dated into.old n)
+            || is_none (option_filter (lies_listed chunks.now) (dated self.old n))) }
         requires room { count_listed chunks.now self.old ≤ into.old.spare }
-        requires deadlines { (n : ℕ) → ForSome (option_filter (lies_listed chunks.now) (dated self.old n)) (IsRaisable offset) }
-        ensures stayed { dated self.new ≡ λ n. option_filter (λ d. not (lies_listed chunks.now d)) (dated self.old n) }
-        ensures moved { dated into.new ≡ λ n. option_or (dated into.old n) (option_map (raised offset) (option_filter (lies_listed chunks.now) (dated self.old n))) }
+        requires deadlines { (n : ℕ)
+            → ForSome (option_filter (lies_listed chunks.now) (dated self.old n))
+            (IsRaisable offset) }
+        ensures stayed { dated self.new ≡ λ n.
+            option_filter (λ d. not (lies_listed chunks.now d)) (dated self.old n) }
+        ensures moved { dated into.new ≡ λ n.
+            option_or (dated into.old n)
+            (option_map (raised offset) (option_filter (lies_listed chunks.now)
+            (dated self.old n))) }
         ensures len { len_of self.new + count_listed chunks.now self.old ≡ len_of self.old }
         ensures into_len { len_of into.new ≡ len_of into.old + count_listed chunks.now self.old }
         ensures spare { self.old.spare ≤ self.new.spare }

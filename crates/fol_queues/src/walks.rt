@@ -40,10 +40,13 @@ pub fn move_due(tasks: &mut Vec<Dated>, now: u64, out: &mut Vec<Task>)
 /// Moves the tasks on the chunks of the list into another heap, each with its deadline moved by the offset. What stays is a heap no
 /// more.
 pub fn move_listed(tasks: &mut Vec<Dated>, list: &ChunkList, into: &mut Vec<Dated>, offset: i64)
-    requires room { vec_len into.old + count_by (lies_listed list.now.chunks.now) tasks.old.items ≤ vec_capacity into.old }
+    requires room { vec_len into.old + count_by (lies_listed list.now.chunks.now) tasks.old.items
+        ≤ vec_capacity into.old }
     requires order { IsHeap by_turn into.old.items }
-    requires deadlines { All (λ d. IsTrue (lies_listed list.now.chunks.now d) → IsRaisable offset d) tasks.old.items }
-    ensures moved { MovedInto (lies_listed list.now.chunks.now) (raised offset) tasks.old.items tasks.new.items into.old.items into.new.items }
+    requires deadlines { All (λ d. IsTrue (lies_listed list.now.chunks.now d)
+        → IsRaisable offset d) tasks.old.items }
+    ensures moved { MovedInto (lies_listed list.now.chunks.now) (raised offset) tasks.old.items
+        tasks.new.items into.old.items into.new.items }
     ensures order { IsHeap by_turn into.new.items }
     ensures capacity { vec_capacity tasks.new ≡ vec_capacity tasks.old }
     ensures into_capacity { vec_capacity into.new ≡ vec_capacity into.old }

@@ -26,7 +26,8 @@ pub fn owner(owners: &Owners, s: SectionPos) -> u64
 /// Gives a section to a region.
 pub fn give(owners: &mut Owners, s: SectionPos, id: u64)
     requires { 0 < spare owners.old }
-    ensures entry { (q : SectionPos) → owner_in owners.new.entries q ≡ (if same_section s q then id else owner_in owners.old.entries q) }
+    ensures entry { (q : SectionPos) → owner_in owners.new.entries q
+        ≡ (if same_section s q then id else owner_in owners.old.entries q) }
     ensures room { spare owners.old ≤ spare owners.new + 1 }
 {
     let _ = owners.insert((s.x, s.z), id);
@@ -35,7 +36,8 @@ pub fn give(owners: &mut Owners, s: SectionPos, id: u64)
 /// Gives a section that has a region to another one.
 pub fn change(owners: &mut Owners, s: SectionPos, id: u64)
     requires { 0 < owner_in owners.old.entries s }
-    ensures entry { (q : SectionPos) → owner_in owners.new.entries q ≡ (if same_section s q then id else owner_in owners.old.entries q) }
+    ensures entry { (q : SectionPos) → owner_in owners.new.entries q
+        ≡ (if same_section s q then id else owner_in owners.old.entries q) }
     ensures room { spare owners.new ≡ spare owners.old }
 {
     match owners.get_mut(&(s.x, s.z)) {
@@ -46,7 +48,8 @@ pub fn change(owners: &mut Owners, s: SectionPos, id: u64)
 
 /// Takes a section out.
 pub fn take_out(owners: &mut Owners, s: SectionPos)
-    ensures entry { (q : SectionPos) → owner_in owners.new.entries q ≡ (if same_section s q then 0 else owner_in owners.old.entries q) }
+    ensures entry { (q : SectionPos) → owner_in owners.new.entries q
+        ≡ (if same_section s q then 0 else owner_in owners.old.entries q) }
     ensures room { spare owners.old ≤ spare owners.new }
 {
     let _ = owners.remove(&(s.x, s.z));
@@ -55,7 +58,8 @@ pub fn take_out(owners: &mut Owners, s: SectionPos)
 /// Gives the sections of a list to a region.
 pub fn give_all(owners: &mut Owners, sections: &[SectionPos], id: u64)
     requires { length sections.now ≤ spare owners.old }
-    ensures entry { (q : SectionPos) → owner_in owners.new.entries q ≡ (if is_among sections.now q then id else owner_in owners.old.entries q) }
+    ensures entry { (q : SectionPos) → owner_in owners.new.entries q
+        ≡ (if is_among sections.now q then id else owner_in owners.old.entries q) }
     ensures room { spare owners.old ≤ spare owners.new + length sections.now }
 {
     for s in sections {
@@ -66,8 +70,10 @@ pub fn give_all(owners: &mut Owners, sections: &[SectionPos], id: u64)
 /// Gives the sections of a list, which all have a region, to another one.
 pub fn change_all(owners: &mut Owners, sections: &[SectionPos], id: u64)
     requires region { 0 < id }
-    requires owned { (q : SectionPos) → is_among sections.now q ≡ true → 0 < owner_in owners.old.entries q }
-    ensures entry { (q : SectionPos) → owner_in owners.new.entries q ≡ (if is_among sections.now q then id else owner_in owners.old.entries q) }
+    requires owned { (q : SectionPos) → is_among sections.now q ≡ true
+        → 0 < owner_in owners.old.entries q }
+    ensures entry { (q : SectionPos) → owner_in owners.new.entries q
+        ≡ (if is_among sections.now q then id else owner_in owners.old.entries q) }
     ensures room { spare owners.new ≡ spare owners.old }
 {
     for s in sections {
@@ -77,7 +83,8 @@ pub fn change_all(owners: &mut Owners, sections: &[SectionPos], id: u64)
 
 /// Takes the sections of a list out.
 pub fn take_all_out(owners: &mut Owners, sections: &[SectionPos])
-    ensures entry { (q : SectionPos) → owner_in owners.new.entries q ≡ (if is_among sections.now q then 0 else owner_in owners.old.entries q) }
+    ensures entry { (q : SectionPos) → owner_in owners.new.entries q
+        ≡ (if is_among sections.now q then 0 else owner_in owners.old.entries q) }
     ensures room { spare owners.old ≤ spare owners.new }
 {
     for s in sections {

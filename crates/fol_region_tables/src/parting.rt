@@ -43,8 +43,10 @@ impl Tables {
         ensures same { IsAlike self.old self.new }
         ensures ok { OnOk result (HasRoomFor self.new sections pairs) }
         ensures free { self.old.free ≤ self.new.free }
-        ensures ahead { (total self.new.ahead ≡ total self.old.ahead) × (self.old.ahead.room ≤ self.new.ahead.room) }
-        ensures behind { (total self.new.behind ≡ total self.old.behind) × (self.old.behind.room ≤ self.new.behind.room) }
+        ensures ahead { (total self.new.ahead ≡ total self.old.ahead)
+            × (self.old.ahead.room ≤ self.new.ahead.room) }
+        ensures behind { (total self.new.behind ≡ total self.old.behind)
+            × (self.old.behind.room ≤ self.new.behind.room) }
     {
         self.slots
             .reserve_keys((self.next as usize).saturating_add(ids))?;
@@ -59,7 +61,8 @@ impl Tables {
         requires some { 0 < length living.now }
         requires few { count_sections (λ s. nat_lt 0 (owner_of self.old s)) ≤ MOST_SECTIONS }
         requires dead { (s : SectionPos) → is_among dead.now s ≡ true → owner_of self.old s ≡ id }
-        requires living { living.now ≡ filter (λ s. not (is_among dead.now s)) (rows_of self.old id) }
+        requires living { living.now ≡ filter (λ s. not (is_among dead.now s))
+            (rows_of self.old id) }
         ensures { Keeps self.old self.new id living.now }
     {
         let slot = self.slots.find(id);

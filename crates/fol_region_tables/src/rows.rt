@@ -41,7 +41,10 @@ impl Model for Rows {
 impl Rows {
     /// Empty lists with the numbers below `numbers`.
     pub fn new(alloc: Global, numbers: usize) -> Result<Rows, AllocError>
-        ensures { IfOk result (λ v. v ≡ record { lists = replicate numbers []; room = MOST_SECTIONS }) }
+        ensures { IfOk result (λ v. v ≡ record {
+          lists = replicate numbers [];
+          room = MOST_SECTIONS;
+        }) }
     {
         Ok(Rows {
             lists: Lists::new(alloc, numbers, MOST_SECTIONS)?,
@@ -108,7 +111,8 @@ impl Rows {
         requires apart { n ≢ other }
         requires row { IsRow (list_at self.old n) }
         requires other_row { IsRow (list_at self.old other) }
-        ensures { self.new ≡ with_list (with_list self.old other []) n (united (list_at self.old n) (list_at self.old other)) }
+        ensures { self.new ≡ with_list (with_list self.old other []) n
+            (united (list_at self.old n) (list_at self.old other)) }
     {
         self.made.clear();
         let row = self.lists.get(n);
@@ -131,8 +135,10 @@ fn compare(a: SectionPos, b: SectionPos) -> Ordering
 fn count_before(xs: &[SectionPos], s: SectionPos) -> usize
     requires { IsStrictlySortedBy section_cmp xs.now }
     ensures few { result ≤ length xs.now }
-    ensures before { (k : ℕ) (d : SectionPos) → k < result → section_cmp (slice_index_or xs.now k d) s ≡ Less }
-    ensures behind { (k : ℕ) (d : SectionPos) → result ≤ k → k < length xs.now → section_cmp (slice_index_or xs.now k d) s ≢ Less }
+    ensures before { (k : ℕ) (d : SectionPos) → k < result
+        → section_cmp (slice_index_or xs.now k d) s ≡ Less }
+    ensures behind { (k : ℕ) (d : SectionPos) → result ≤ k → k < length xs.now
+        → section_cmp (slice_index_or xs.now k d) s ≢ Less }
 {
     let mut low = 0;
     let mut high = xs.len();

@@ -93,7 +93,8 @@ impl Slots {
 
     /// The region in a slot has just that slot.
     pub fn keeps_slots(&self)
-        ensures own { (k : ℕ) (r : Region) → region_at self.now k ≡ Some r → slot_of self.now r.id ≡ k }
+        ensures own { (k : ℕ) (r : Region) → region_at self.now k ≡ Some r
+            → slot_of self.now r.id ≡ k }
         ensures within { (k : ℕ) (r : Region) → region_at self.now k ≡ Some r → k < self.now.room }
     {
         let _keys = &self.keys;
@@ -151,7 +152,8 @@ impl Slots {
     /// The ids of the regions that have a slot, rising. Goes over the slots up to the last one that has a region.
     pub fn ids(&self, alloc: Global) -> Result<Vec<u64>, AllocError>
         ensures rising { IfOk result (λ ids. IsStrictlySortedBy nat_cmp ids.items) }
-        ensures members { IfOk result (λ ids. (id : ℕ) → list_any (nat_eq id) ids.items ≡ nat_lt (slot_of self.now id) self.now.room) }
+        ensures members { IfOk result (λ ids. (id : ℕ)
+            → list_any (nat_eq id) ids.items ≡ nat_lt (slot_of self.now id) self.now.room) }
     {
         let room = self.regions.capacity();
         let count = self.regions.len();
@@ -184,7 +186,8 @@ impl Slots {
     pub fn insert(&mut self, id: u64, state: State) -> usize
         requires none { slot_of self.old id ≡ self.old.room }
         requires some_free { count_by is_some self.old.regions < self.old.room }
-        ensures slots { slot_of self.new ≡ (λ q. if nat_eq id q then result else slot_of self.old q) }
+        ensures slots { slot_of self.new
+            ≡ (λ q. if nat_eq id q then result else slot_of self.old q) }
         ensures states { slot_state self.new ≡ with_state (slot_state self.old) id state }
         ensures room { self.new.room ≡ self.old.room }
         ensures within { result < self.old.room }
@@ -197,7 +200,8 @@ impl Slots {
 
     /// Takes the slot of a region back, if it has one: the region is Dead.
     pub fn remove(&mut self, id: u64)
-        ensures slots { slot_of self.new ≡ (λ q. if nat_eq id q then self.old.room else slot_of self.old q) }
+        ensures slots { slot_of self.new
+            ≡ (λ q. if nat_eq id q then self.old.room else slot_of self.old q) }
         ensures states { slot_state self.new ≡ with_state (slot_state self.old) id Dead }
         ensures room { self.new.room ≡ self.old.room }
     {

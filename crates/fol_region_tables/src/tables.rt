@@ -73,8 +73,10 @@ impl Tables {
     pub fn copy(&self, alloc: Global) -> Result<Tables, AllocError>
         ensures same { IfOk result (IsAlike self.now) }
         ensures free { IfOk result (λ b. self.now.free ≤ b.free) }
-        ensures ahead { IfOk result (λ b. (total b.ahead ≡ total self.now.ahead) × (b.ahead.room ≡ self.now.ahead.room)) }
-        ensures behind { IfOk result (λ b. (total b.behind ≡ total self.now.behind) × (b.behind.room ≡ self.now.behind.room)) }
+        ensures ahead { IfOk result (λ b. (total b.ahead ≡ total self.now.ahead)
+            × (b.ahead.room ≡ self.now.ahead.room)) }
+        ensures behind { IfOk result (λ b. (total b.behind ≡ total self.now.behind)
+            × (b.behind.room ≡ self.now.behind.room)) }
     {
         self.slots.keeps_slots();
         let slots = self.slots.copy(alloc)?;
@@ -114,7 +116,8 @@ impl Tables {
 
     /// The regions that have a slot, rising.
     pub fn live(&self, alloc: Global) -> Result<Vec<u64>, AllocError>
-        ensures { IfOk result (λ ids. ids.items ≡ filter (is_live self.now) (numbers_below self.now.next)) }
+        ensures { IfOk result (λ ids. ids.items
+            ≡ filter (is_live self.now) (numbers_below self.now.next)) }
     {
         self.slots.ids(alloc)
     }
@@ -167,11 +170,14 @@ impl Tables {
     pub fn pair(&mut self, id: u64, other: u64)
         requires region { is_live self.old id ≡ true }
         requires other { is_live self.old other ≡ true }
-        requires room { (total self.old.ahead < self.old.ahead.room) × (total self.old.behind < self.old.behind.room) }
+        requires room { (total self.old.ahead < self.old.ahead.room)
+            × (total self.old.behind < self.old.behind.room) }
         ensures pair { SetsPair self.old self.new id other true }
         ensures free { self.new.free ≡ self.old.free }
-        ensures ahead { (total self.new.ahead ≤ total self.old.ahead + 1) × (self.new.ahead.room ≡ self.old.ahead.room) }
-        ensures behind { (total self.new.behind ≤ total self.old.behind + 1) × (self.new.behind.room ≡ self.old.behind.room) }
+        ensures ahead { (total self.new.ahead ≤ total self.old.ahead + 1)
+            × (self.new.ahead.room ≡ self.old.ahead.room) }
+        ensures behind { (total self.new.behind ≤ total self.old.behind + 1)
+            × (self.new.behind.room ≡ self.old.behind.room) }
     {
         let slot = self.slots.find(id);
         let to = self.slots.find(other);
@@ -186,8 +192,10 @@ impl Tables {
         requires pair { waits_of self.old id other ≡ true }
         ensures pair { SetsPair self.old self.new id other false }
         ensures free { self.new.free ≡ self.old.free }
-        ensures ahead { (total self.new.ahead + 1 ≤ total self.old.ahead) × (self.new.ahead.room ≡ self.old.ahead.room) }
-        ensures behind { (total self.new.behind + 1 ≤ total self.old.behind) × (self.new.behind.room ≡ self.old.behind.room) }
+        ensures ahead { (total self.new.ahead + 1 ≤ total self.old.ahead)
+            × (self.new.ahead.room ≡ self.old.ahead.room) }
+        ensures behind { (total self.new.behind + 1 ≤ total self.old.behind)
+            × (self.new.behind.room ≡ self.old.behind.room) }
     {
         let slot = self.slots.find(id);
         let to = self.slots.find(other);
@@ -244,9 +252,11 @@ impl Tables {
     /// Gives sections that have no owner to a region.
     pub fn give(&mut self, id: u64, sections: &[SectionPos])
         requires region { is_live self.old id ≡ true }
-        requires absent { (s : SectionPos) → is_among sections.now s ≡ true → owner_of self.old s ≡ 0 }
+        requires absent { (s : SectionPos) → is_among sections.now s ≡ true
+            → owner_of self.old s ≡ 0 }
         requires row { sections.now ≡ filter (is_among sections.now) all_sections }
-        requires few { count_sections (λ s. nat_lt 0 (owner_of self.old s)) + length sections.now ≤ MOST_SECTIONS }
+        requires few { count_sections (λ s. nat_lt 0 (owner_of self.old s)) + length sections.now
+            ≤ MOST_SECTIONS }
         requires room { length sections.now ≤ self.old.free }
         ensures gives { Gives self.old self.new sections.now id }
         ensures pairs { (self.new.ahead ≡ self.old.ahead) × (self.new.behind ≡ self.old.behind) }
@@ -259,9 +269,11 @@ impl Tables {
     /// Makes a region with the next id, which has sections that have no owner, and returns its id.
     pub fn make(&mut self, sections: &[SectionPos], state: State) -> u64
         requires some { 0 < length sections.now }
-        requires absent { (s : SectionPos) → is_among sections.now s ≡ true → owner_of self.old s ≡ 0 }
+        requires absent { (s : SectionPos) → is_among sections.now s ≡ true
+            → owner_of self.old s ≡ 0 }
         requires row { sections.now ≡ filter (is_among sections.now) all_sections }
-        requires few { count_sections (λ s. nat_lt 0 (owner_of self.old s)) + length sections.now ≤ MOST_SECTIONS }
+        requires few { count_sections (λ s. nat_lt 0 (owner_of self.old s)) + length sections.now
+            ≤ MOST_SECTIONS }
         requires room { length sections.now ≤ self.old.free }
         requires few_ids { self.old.next < 2 ^ 63 }
         ensures id { result ≡ self.old.next }

@@ -47,7 +47,8 @@ fn is_better(id: u64, size: usize, best: u64, most: usize) -> bool
 /// The largest of the regions that do not tick, the lowest id of several; 0 where all tick.
 fn choose(tables: &Tables, near: &[u64]) -> u64
     requires { (r : ℕ) → is_id near.now r ≡ true → 0 < r }
-    ensures { IsChoice (calm_size tables.now) near.now result (if nat_eq result 0 then 0 else calm_size tables.now result) }
+    ensures { IsChoice (calm_size tables.now) near.now result (if nat_eq result 0 then 0
+        else calm_size tables.now result) }
 {
     let mut best = 0;
     let mut most = 0;
@@ -76,7 +77,8 @@ fn take_in(tables: &mut Tables, near: &[u64], target: u64, change: &mut Change)
     requires live { (r : ℕ) → is_id near.now r ≡ true → is_live tables.old r ≡ true }
     requires target { is_live tables.old target ≡ true }
     requires calm { is_ticking (state_of tables.old target) ≡ false }
-    requires awaited { (u v : ℕ) → waits_of tables.old u v ≡ true → is_ticking (state_of tables.old v) ≡ true }
+    requires awaited { (u v : ℕ) → waits_of tables.old u v ≡ true
+        → is_ticking (state_of tables.old v) ≡ true }
     requires rising { IsStrictlySortedBy nat_cmp near.now }
     requires dead { length change.old.dead + length near.now ≤ 16385 }
     requires merges { length change.old.merges + length near.now ≤ 16385 }
@@ -93,9 +95,11 @@ fn take_in(tables: &mut Tables, near: &[u64], target: u64, change: &mut Change)
 
 /// The target waits for the near regions that tick.
 fn pair_near(tables: &mut Tables, near: &[u64], target: u64)
-    requires live { (r : ℕ) → is_id near.now r ≡ true → is_ticking (state_of tables.old r) ≡ true → is_live tables.old r ≡ true }
+    requires live { (r : ℕ) → is_id near.now r ≡ true → is_ticking (state_of tables.old r) ≡ true
+        → is_live tables.old r ≡ true }
     requires target { is_live tables.old target ≡ true }
-    requires room { (total tables.old.ahead + length near.now ≤ tables.old.ahead.room) × (total tables.old.behind + length near.now ≤ tables.old.behind.room) }
+    requires room { (total tables.old.ahead + length near.now ≤ tables.old.ahead.room)
+        × (total tables.old.behind + length near.now ≤ tables.old.behind.room) }
     ensures { Waits tables.old tables.new target near.now }
 {
     for id in near {
@@ -120,17 +124,27 @@ fn grow(tables: &mut Tables, near: &[u64], change: &mut Change, sections: &[Sect
     requires near { (r : ℕ) → is_id near.now r ≡ true → (0 < r) × (is_live tables.old r ≡ true) }
     requires rising { IsStrictlySortedBy nat_cmp near.now }
     requires near_few { length near.now ≤ 625 }
-    requires awaited { (u v : ℕ) → waits_of tables.old u v ≡ true → is_ticking (state_of tables.old v) ≡ true }
-    requires lives { (r : ℕ) → is_ticking (state_of tables.old r) ≡ true → is_live tables.old r ≡ true }
+    requires awaited { (u v : ℕ) → waits_of tables.old u v ≡ true
+        → is_ticking (state_of tables.old v) ≡ true }
+    requires lives { (r : ℕ) → is_ticking (state_of tables.old r) ≡ true
+        → is_live tables.old r ≡ true }
     requires some { 0 < length sections.now }
-    requires absent { (s : SectionPos) → is_among sections.now s ≡ true → owner_of tables.old s ≡ 0 }
+    requires absent { (s : SectionPos) → is_among sections.now s ≡ true
+        → owner_of tables.old s ≡ 0 }
     requires row { sections.now ≡ filter (is_among sections.now) all_sections }
-    requires few { count_sections (λ s. nat_lt 0 (owner_of tables.old s)) + length sections.now ≤ MOST_SECTIONS }
+    requires few { count_sections (λ s. nat_lt 0 (owner_of tables.old s)) + length sections.now
+        ≤ MOST_SECTIONS }
     requires room { length sections.now ≤ tables.old.free }
     requires few_ids { tables.old.next < 2 ^ 63 }
     requires none { change.old ≡ nothing }
     ensures grows { Grows tables.old tables.new near.now sections.now result }
-    ensures change { change.new ≡ record { created = if nat_eq result tables.old.next then (tables.old.next ∷ []) else []; dead = filter (is_drawn tables.old result) near.now; merges = into result (filter (is_drawn tables.old result) near.now); parts = [] } }
+    ensures change { change.new ≡ record {
+      created = if nat_eq result tables.old.next
+          then (tables.old.next ∷ []) else [];
+      dead = filter (is_drawn tables.old result) near.now;
+      merges = into result (filter (is_drawn tables.old result) near.now);
+      parts = [];
+    } }
 {
     tables.keeps_lists();
     let best = choose(tables, near);
@@ -148,7 +162,8 @@ fn grow(tables: &mut Tables, near: &[u64], change: &mut Change, sections: &[Sect
 /// The target is Ready where it waits for none, and else Transient.
 fn settle(tables: &mut Tables, target: u64)
     requires { is_live tables.old target ≡ true }
-    ensures { SetsState tables.old tables.new target (if nat_eq (length (ahead_of tables.old target)) 0 then Ready else Transient) }
+    ensures { SetsState tables.old tables.new target
+        (if nat_eq (length (ahead_of tables.old target)) 0 then Ready else Transient) }
 {
     let waits = tables.waits_for(target).len();
     let state = settled(waits);
@@ -182,7 +197,8 @@ pub fn extend(
     requires in_range { IsTrue (is_chunk c) }
     requires wanted { wanted.now ≡ filter (is_wanted (bare grid.now tables.old) c) all_sections }
     requires some { 0 < length wanted.now }
-    requires few { count_sections (λ s. nat_lt 0 (owner_of tables.old s)) + length wanted.now ≤ MOST_SECTIONS }
+    requires few { count_sections (λ s. nat_lt 0 (owner_of tables.old s)) + length wanted.now
+        ≤ MOST_SECTIONS }
     requires few_ids { tables.old.next < 2 ^ 63 }
     requires free { length wanted.now ≤ tables.old.free }
     requires ahead { total tables.old.ahead + 625 ≤ tables.old.ahead.room }
@@ -195,8 +211,10 @@ pub fn extend(
     ensures next { tables.new.next ≡ (extended (bare grid.now tables.old) c).next }
     ensures change { change.new ≡ extended_change (bare grid.now tables.old) c }
     ensures free { tables.old.free ≤ tables.new.free + length wanted.now }
-    ensures ahead { (total tables.new.ahead ≤ total tables.old.ahead + 625) × (tables.new.ahead.room ≡ tables.old.ahead.room) }
-    ensures behind { (total tables.new.behind ≤ total tables.old.behind + 625) × (tables.new.behind.room ≡ tables.old.behind.room) }
+    ensures ahead { (total tables.new.ahead ≤ total tables.old.ahead + 625)
+        × (tables.new.ahead.room ≡ tables.old.ahead.room) }
+    ensures behind { (total tables.new.behind ≤ total tables.old.behind + 625)
+        × (tables.new.behind.room ≡ tables.old.behind.room) }
     ensures rooms { (625 ≤ vec_capacity near.new) × (625 ≤ vec_capacity made.new) }
 {
     tables.keeps_lists();
@@ -242,8 +260,10 @@ pub fn hold(
     ensures spare { sections.old.spare ≤ sections.new.spare + 1 }
     ensures grid { sections.new.grid ≡ sections.old.grid }
     ensures free { tables.old.free ≤ tables.new.free + 289 }
-    ensures ahead { (total tables.new.ahead ≤ total tables.old.ahead + 625) × (tables.new.ahead.room ≡ tables.old.ahead.room) }
-    ensures behind { (total tables.new.behind ≤ total tables.old.behind + 625) × (tables.new.behind.room ≡ tables.old.behind.room) }
+    ensures ahead { (total tables.new.ahead ≤ total tables.old.ahead + 625)
+        × (tables.new.ahead.room ≡ tables.old.ahead.room) }
+    ensures behind { (total tables.new.behind ≤ total tables.old.behind + 625)
+        × (tables.new.behind.room ≡ tables.old.behind.room) }
     ensures rooms { (625 ≤ vec_capacity near.new) × (625 ≤ vec_capacity made.new) }
 {
     change.clear();

@@ -115,7 +115,10 @@ impl Change {
     pub(crate) fn merge(&mut self, from: u64, into: u64)
         requires dead { length self.old.dead < 16385 }
         requires merges { length self.old.merges < 16385 }
-        ensures { self.new ≡ record self.old { dead = self.old.dead ++ from ∷ []; merges = self.old.merges ++ (record { «from» = from; into = into }) ∷ [] } }
+        ensures { self.new ≡ record self.old {
+          dead = self.old.dead ++ from ∷ [];
+          merges = self.old.merges ++ (record { «from» = from; into = into }) ∷ [];
+        } }
     {
         let _ = self.dead.push(from);
         let _ = self.merges.push(MergePair { from, into });
@@ -133,7 +136,10 @@ impl Change {
     pub(crate) fn part(&mut self, id: u64)
         requires created { length self.old.created < 16385 }
         requires parts { length self.old.parts < 16385 }
-        ensures { self.new ≡ record self.old { created = self.old.created ++ id ∷ []; parts = self.old.parts ++ id ∷ [] } }
+        ensures { self.new ≡ record self.old {
+          created = self.old.created ++ id ∷ [];
+          parts = self.old.parts ++ id ∷ [];
+        } }
     {
         let _ = self.created.push(id);
         let _ = self.parts.push(id);

@@ -14,8 +14,10 @@ use fol_sections::Sections;
 pub fn list_chunks(sections: &Sections, row: &[SectionPos], out: &mut Vec<ChunkPos>)
     requires rising { IsStrictlySortedBy section_cmp row.now }
     requires empty { out.old.items ≡ [] }
-    requires room { count_by (λ c. nat_lt 0 (holds_of sections.now c) && is_among row.now (section_of sections.now.grid c)) all_chunks ≤ vec_capacity out.old }
-    ensures chunks { out.new.items ≡ filter (λ c. nat_lt 0 (holds_of sections.now c) && is_among row.now (section_of sections.now.grid c)) all_chunks }
+    requires room { count_by (λ c. nat_lt 0 (holds_of sections.now c)
+        && is_among row.now (section_of sections.now.grid c)) all_chunks ≤ vec_capacity out.old }
+    ensures chunks { out.new.items ≡ filter (λ c. nat_lt 0 (holds_of sections.now c)
+        && is_among row.now (section_of sections.now.grid c)) all_chunks }
     ensures capacity { vec_capacity out.new ≡ vec_capacity out.old }
 {
     for s in row {

@@ -13,7 +13,8 @@ use fol_sections::Sections;
 pub fn count_chunks(sections: &Sections, row: &[SectionPos]) -> u64
     requires rising { IsStrictlySortedBy section_cmp row.now }
     requires few { length row.now ≤ MOST_SECTIONS }
-    ensures value { result ≡ count_by (λ c. nat_lt 0 (holds_of sections.now c) && is_among row.now (section_of sections.now.grid c)) all_chunks }
+    ensures value { result ≡ count_by (λ c. nat_lt 0 (holds_of sections.now c)
+        && is_among row.now (section_of sections.now.grid c)) all_chunks }
     ensures few { result ≤ 1024 * length row.now }
 {
     let mut count = 0;

@@ -67,14 +67,16 @@ impl DeadBounds {
 
     /// Notes a number of a region. Less is known of another region with the same place from then on.
     pub fn set(&mut self, id: u64, most: u32)
-        ensures { (r : ℕ) → min MOST_SECTIONS (if nat_eq id r then most else most_in self.old r) ≤ most_in self.new r }
+        ensures { (r : ℕ) → min MOST_SECTIONS (if nat_eq id r then most else most_in self.old r)
+            ≤ most_in self.new r }
     {
         self.known[place(id)] = Known { id, most };
     }
 
     /// A region has a dead section more.
     pub fn raise(&mut self, id: u64)
-        ensures { (r : ℕ) → most_in self.new r ≡ (if nat_eq id r then raised (most_in self.old r) else most_in self.old r) }
+        ensures { (r : ℕ) → most_in self.new r
+            ≡ (if nat_eq id r then raised (most_in self.old r) else most_in self.old r) }
     {
         let at = place(id);
         let known = self.known[at];
@@ -104,7 +106,9 @@ fn raised(n: u32) -> u32
 
 /// Nothing is known any more of the region that others became part of, if there is one.
 pub fn forget_joined(bounds: &mut DeadBounds, merges: &[MergePair])
-    ensures { (t : ℕ) (us : List ℕ) → merges.now ≡ into t us → (r : ℕ) → min MOST_SECTIONS (if (nat_eq t r && nat_lt 0 (length us)) then MOST_SECTIONS else most_in bounds.old r) ≤ most_in bounds.new r }
+    ensures { (t : ℕ) (us : List ℕ) → merges.now ≡ into t us → (r : ℕ)
+        → min MOST_SECTIONS (if (nat_eq t r && nat_lt 0 (length us)) then MOST_SECTIONS
+        else most_in bounds.old r) ≤ most_in bounds.new r }
 {
     if !merges.is_empty() {
         bounds.set(merges[0].into, MOST_SECTIONS as u32);

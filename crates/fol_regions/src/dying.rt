@@ -19,7 +19,9 @@ use fol_sections::{Removed, Sections};
 /// Counts a section for its region, where it is present and dead.
 fn note_one(bounds: &mut DeadBounds, tables: &Tables, sections: &Sections, s: SectionPos)
     requires { IsPresence sections.now tables.now }
-    ensures { (r : ℕ) → 0 < r → min MOST_SECTIONS (most_in bounds.old r + cond (is_dead_in sections.now tables.now r s) 1 0) ≤ most_in bounds.new r }
+    ensures { (r : ℕ) → 0 < r
+        → min MOST_SECTIONS (most_in bounds.old r
+        + cond (is_dead_in sections.now tables.now r s) 1 0) ≤ most_in bounds.new r }
 {
     let id = tables.owner(s);
     if id != 0 {
@@ -41,7 +43,10 @@ fn note_row(
     requires presence { IsPresence sections.now tables.now }
     requires first { (nat_abs first.x ≤ 1000020) × (nat_abs first.z ≤ 1000020) }
     requires counts { (row ≤ 25) × (n ≤ 25) }
-    ensures { (r : ℕ) → 0 < r → min MOST_SECTIONS (most_in bounds.old r + count_by (is_dead_in sections.now tables.now r) (row_of first row n)) ≤ most_in bounds.new r }
+    ensures { (r : ℕ) → 0 < r
+        → min MOST_SECTIONS (most_in bounds.old r
+        + count_by (is_dead_in sections.now tables.now r) (row_of first row n))
+        ≤ most_in bounds.new r }
 {
     for i in 0..n {
         note_one(bounds, tables, sections, beside(first, i, row));
@@ -59,7 +64,10 @@ fn note_square(
     requires presence { IsPresence sections.now tables.now }
     requires home { (nat_abs home.x ≤ 1000008) × (nat_abs home.z ≤ 1000008) }
     requires radius { radius ≤ 12 }
-    ensures { (r : ℕ) → 0 < r → min MOST_SECTIONS (most_in bounds.old r + count_by (is_dead_in sections.now tables.now r) (square home radius)) ≤ most_in bounds.new r }
+    ensures { (r : ℕ) → 0 < r
+        → min MOST_SECTIONS (most_in bounds.old r
+        + count_by (is_dead_in sections.now tables.now r) (square home radius))
+        ≤ most_in bounds.new r }
 {
     let first = corner(home, radius);
     let side = 2 * radius as u32 + 1;
@@ -79,7 +87,11 @@ fn note_gone(
     requires presence { IsPresence sections.now tables.now }
     requires numbers { IsGrid grid.now }
     requires in_range { IsTrue (is_chunk c) }
-    ensures { (r : ℕ) → 0 < r → min MOST_SECTIONS (most_in bounds.old r + (if nat_eq (loaded_count sections.now (home_of grid.now c)) 0 then count_by (is_dead_in sections.now tables.now r) (square (home_of grid.now c) grid.now.create) else 0)) ≤ most_in bounds.new r }
+    ensures { (r : ℕ) → 0 < r
+        → min MOST_SECTIONS (most_in bounds.old r
+        + (if nat_eq (loaded_count sections.now (home_of grid.now c)) 0
+        then count_by (is_dead_in sections.now tables.now r)
+        (square (home_of grid.now c) grid.now.create) else 0)) ≤ most_in bounds.new r }
 {
     let home = section_of(grid, c);
     if sections.loaded_in(home) == 0 {
@@ -99,7 +111,11 @@ pub fn note_dying(
     requires presence { IsPresence sections.now tables.now }
     requires numbers { IsGrid grid.now }
     requires in_range { answer ≡ Gone → IsTrue (is_chunk c) }
-    ensures gone { answer ≡ Gone → (r : ℕ) → 0 < r → min MOST_SECTIONS (most_in bounds.old r + (if nat_eq (loaded_count sections.now (home_of grid.now c)) 0 then count_by (is_dead_in sections.now tables.now r) (square (home_of grid.now c) grid.now.create) else 0)) ≤ most_in bounds.new r }
+    ensures gone { answer ≡ Gone → (r : ℕ) → 0 < r
+        → min MOST_SECTIONS (most_in bounds.old r
+        + (if nat_eq (loaded_count sections.now (home_of grid.now c)) 0
+        then count_by (is_dead_in sections.now tables.now r)
+        (square (home_of grid.now c) grid.now.create) else 0)) ≤ most_in bounds.new r }
     ensures others { answer ≢ Gone → bounds.new ≡ bounds.old }
 {
     match answer {

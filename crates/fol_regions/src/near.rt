@@ -22,7 +22,8 @@ pub fn find_near(
     requires home { (nat_abs home.x ≤ 1000008) × (nat_abs home.z ≤ 1000008) }
     requires reach { reach ≤ 12 }
     requires rooms { (625 ≤ vec_capacity near.old) × (625 ≤ vec_capacity made.old) }
-    ensures near { near.new.items ≡ filter (is_close (owner_of tables.now) home reach) (numbers_below tables.now.next) }
+    ensures near { near.new.items ≡ filter (is_close (owner_of tables.now) home reach)
+        (numbers_below tables.now.next) }
     ensures few { length near.new.items ≤ 625 }
     ensures rooms { (625 ≤ vec_capacity near.new) × (625 ≤ vec_capacity made.new) }
 {
@@ -48,7 +49,10 @@ fn find_row(
     requires counts { (row ≤ 25) × (n ≤ 25) }
     requires few { length near.old.items + n ≤ 625 }
     requires rooms { (625 ≤ vec_capacity near.old) × (625 ≤ vec_capacity made.old) }
-    ensures near { (before : List SectionPos) → near.old.items ≡ regions_of (owner_of tables.now) tables.now.next before → near.new.items ≡ regions_of (owner_of tables.now) tables.now.next (before ++ row_of first row n) }
+    ensures near { (before : List SectionPos)
+        → near.old.items ≡ regions_of (owner_of tables.now) tables.now.next before
+        → near.new.items ≡ regions_of (owner_of tables.now) tables.now.next
+        (before ++ row_of first row n) }
     ensures few { length near.new.items ≤ length near.old.items + n }
     ensures rooms { (625 ≤ vec_capacity near.new) × (625 ≤ vec_capacity made.new) }
 {

@@ -267,7 +267,9 @@ impl Regions {
 
     /// The regions that are not Dead, rising. Goes over these alone, and takes memory for them.
     pub fn live(&self, alloc: Global) -> Result<Vec<u64>, AllocError>
-        ensures { IfOk result (λ ids. ids.items ≡ filter (λ r. not (is_dead ((grid_state self.now).state r))) (numbers_below (grid_state self.now).next)) }
+        ensures { IfOk result (λ ids. ids.items
+            ≡ filter (λ r. not (is_dead ((grid_state self.now).state r)))
+            (numbers_below (grid_state self.now).next)) }
     {
         self.tables.keeps_lists();
         self.tables.keeps_states();
@@ -277,7 +279,8 @@ impl Regions {
     /// The Ticking regions that a region waits for, rising.
     pub fn waits_for(&self, id: u64) -> &[u64]
         requires given { IsGiven (grid_state self.now) id }
-        ensures { result.now ≡ filter (λ t. (grid_state self.now).waits id t) (numbers_below (grid_state self.now).next) }
+        ensures { result.now ≡ filter (λ t. (grid_state self.now).waits id t)
+            (numbers_below (grid_state self.now).next) }
     {
         self.tables.keeps_lists();
         self.tables.waits_for(id)
@@ -286,7 +289,8 @@ impl Regions {
     /// The sections of a region, by `(z, x)`; none where it is Dead.
     pub fn sections(&self, id: u64) -> &[SectionPos]
         requires given { IsGiven (grid_state self.now) id }
-        ensures { result.now ≡ filter (λ s. nat_eq ((grid_state self.now).owner s) id) all_sections }
+        ensures { result.now ≡ filter (λ s. nat_eq ((grid_state self.now).owner s) id)
+            all_sections }
     {
         self.tables.keeps_lists();
         self.tables.sections(id)

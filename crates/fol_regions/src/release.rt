@@ -83,8 +83,10 @@ impl Releaser {
         requires ticks { (grid_of sections.old tables.old).state id ≡ Ticking }
         requires few_ids { tables.old.next < 2 ^ 62 }
         requires dead { dead_count (grid_of sections.old tables.old) id ≤ most }
-        ensures dead { result < MOST_SECTIONS → dead_count (grid_of sections.new tables.new) id ≤ result }
-        ensures state { grid_of sections.new tables.new ≡ release (grid_of sections.old tables.old) id }
+        ensures dead { result < MOST_SECTIONS → dead_count (grid_of sections.new tables.new) id
+            ≤ result }
+        ensures state { grid_of sections.new tables.new
+            ≡ release (grid_of sections.old tables.old) id }
         ensures change { change.new ≡ release_change (grid_of sections.old tables.old) id }
         ensures presence { IsPresence sections.new tables.new }
         ensures rooms { KeepsRoom tables.old tables.new }
@@ -138,7 +140,12 @@ fn join_all(tables: &mut Tables, change: &mut Change, ids: &[u64], id: u64)
     requires few { count_sections (λ s. nat_lt 0 (owner_of tables.old s)) ≤ MOST_SECTIONS }
     requires nothing { change.old ≡ nothing }
     ensures joins { Joins tables.old tables.new id ids.now }
-    ensures change { change.new ≡ record { created = []; dead = ids.now; merges = into id ids.now; parts = [] } }
+    ensures change { change.new ≡ record {
+      created = [];
+      dead = ids.now;
+      merges = into id ids.now;
+      parts = [];
+    } }
 {
     tables.keeps_lists();
     for u in ids {
@@ -160,11 +167,13 @@ struct Cleaner {
 impl Cleaner {
     /// Puts the sections of a region that are in a margin into one list, and the others into another.
     fn sort_out(&mut self, sections: &Sections, row: &[SectionPos])
-        requires present { (s : SectionPos) → is_among row.now s ≡ true → presence_of sections.now s ≡ true }
+        requires present { (s : SectionPos) → is_among row.now s ≡ true
+            → presence_of sections.now s ≡ true }
         requires living_room { length row.now ≤ vec_capacity self.old.living }
         requires dead_room { length row.now ≤ vec_capacity self.old.dead }
         ensures living { self.new.living.items ≡ filter (in_margin_of sections.now) row.now }
-        ensures dead { self.new.dead.items ≡ filter (λ s. not (in_margin_of sections.now s)) row.now }
+        ensures dead { self.new.dead.items
+            ≡ filter (λ s. not (in_margin_of sections.now s)) row.now }
         ensures living_room { vec_capacity self.old.living ≤ vec_capacity self.new.living }
         ensures dead_room { vec_capacity self.old.dead ≤ vec_capacity self.new.dead }
     {
@@ -191,18 +200,23 @@ impl Cleaner {
         requires region { is_live tables.old id ≡ true }
         requires first { ahead_of tables.old id ≡ [] }
         requires last { behind_of tables.old id ≡ [] }
-        requires dead { (s : SectionPos) → is_among self.old.dead.items s ≡ true → owner_of tables.old s ≡ id }
-        requires living { self.old.living.items ≡ filter (λ s. not (is_among self.old.dead.items s)) (rows_of tables.old id) }
+        requires dead { (s : SectionPos) → is_among self.old.dead.items s ≡ true
+            → owner_of tables.old s ≡ id }
+        requires living { self.old.living.items
+            ≡ filter (λ s. not (is_among self.old.dead.items s)) (rows_of tables.old id) }
         requires few { count_sections (λ s. nat_lt 0 (owner_of tables.old s)) ≤ MOST_SECTIONS }
         requires few_ids { tables.old.next < 2 ^ 62 }
         requires merge { (1 ≤ merge) × (merge ≤ 4) }
-        requires room { (change.old.created ≡ []) × (change.old.parts ≡ []) × (length change.old.dead < 16385) }
+        requires room { (change.old.created ≡ []) × (change.old.parts ≡ [])
+            × (length change.old.dead < 16385) }
         requires present { All (λ s. IsTrue (presence_of sections.old s)) self.old.dead.items }
         requires distinct { IsDistinct same_section self.old.dead.items }
         ensures parts { ArePartsOf self.old.living.items merge self.new.splitter }
         ensures tables { Cleans tables.old tables.new id self.old.living.items self.new.splitter }
         ensures change { change.new ≡ with_parts change.old id tables.old.next self.new.splitter }
-        ensures presence { presence_of sections.new ≡ (λ s. presence_of sections.old s && not (is_among self.old.dead.items s && not (in_margin_of sections.old s))) }
+        ensures presence { presence_of sections.new
+            ≡ (λ s. presence_of sections.old s
+            && not (is_among self.old.dead.items s && not (in_margin_of sections.old s))) }
         ensures holds { holds_of sections.new ≡ holds_of sections.old }
         ensures grid { sections.new.grid ≡ sections.old.grid }
         ensures filled { sections.new.filled ≡ sections.old.filled }
@@ -227,7 +241,10 @@ impl Cleaner {
 fn must_clean(grid: Grid, joined: usize, size: usize, dead: usize) -> bool
     requires size { size ≤ MOST_SECTIONS }
     requires dead { dead ≤ MOST_SECTIONS }
-    ensures { result ≡ (not (nat_eq joined 0) || (nat_eq dead size || (nat_le grid.min size && nat_le (size * grid.num) (dead * grid.den)))) }
+    ensures { result
+        ≡ (not (nat_eq joined 0)
+        || (nat_eq dead size
+        || (nat_le grid.min size && nat_le (size * grid.num) (dead * grid.den)))) }
 {
     joined != 0 || dead == size || is_worn(grid, size, dead)
 }
@@ -235,7 +252,10 @@ fn must_clean(grid: Grid, joined: usize, size: usize, dead: usize) -> bool
 /// Whether a region that these regions joined is not cleaned, whichever of at most `most` of its sections are dead.
 fn can_rest(grid: Grid, tables: &Tables, ids: &[u64], id: u64, most: u32) -> bool
     requires size { length (rows_of tables.now id) ≤ MOST_SECTIONS }
-    ensures { result ≡ (nat_eq (length ids.now) 0 && (nat_lt most (length (rows_of tables.now id)) && not (nat_le grid.min (length (rows_of tables.now id)) && nat_le (length (rows_of tables.now id) * grid.num) (most * grid.den)))) }
+    ensures { result
+        ≡ (nat_eq (length ids.now) 0 && (nat_lt most (length (rows_of tables.now id))
+        && not (nat_le grid.min (length (rows_of tables.now id))
+        && nat_le (length (rows_of tables.now id) * grid.num) (most * grid.den)))) }
 {
     let size = tables.sections(id).len();
     ids.is_empty() && (most as usize) < size && !is_worn(grid, size, most as usize)
@@ -255,7 +275,11 @@ fn note_parts(change: &mut Change, first: u64, count: u32)
     requires count { length change.old.created + count ≤ 16385 }
     requires parts { length change.old.parts + count ≤ 16385 }
     requires few { first < 2 ^ 62 }
-    ensures { change.new ≡ record change.old { created = change.old.created ++ range_with_len first count; parts = change.old.parts ++ range_with_len first count } }
+    ensures { change.new
+        ≡ record change.old {
+          created = change.old.created ++ range_with_len first count;
+          parts = change.old.parts ++ range_with_len first count;
+        } }
 {
     for i in 0..count {
         change.part(first + i as u64);
@@ -280,7 +304,8 @@ fn settle(
     requires few { count_sections (λ s. nat_lt 0 (owner_of tables.old s)) ≤ MOST_SECTIONS }
     requires few_ids { tables.old.next < 2 ^ 62 }
     requires merge { (1 ≤ merge) × (merge ≤ 4) }
-    requires room { (change.old.created ≡ []) × (change.old.parts ≡ []) × (length change.old.dead < 16385) }
+    requires room { (change.old.created ≡ []) × (change.old.parts ≡ [])
+        × (length change.old.dead < 16385) }
     ensures parts { ArePartsOf living.now merge splitter.new }
     ensures tables { Cleans tables.old tables.new id living.now splitter.new }
     ensures change { change.new ≡ with_parts change.old id tables.old.next splitter.new }

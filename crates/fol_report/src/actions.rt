@@ -13,7 +13,8 @@ use std::alloc::AllocError;
 #[tactic(auto, unfolding(fol_model::specs::ReportWords::action_words))]
 fn put_plain(out: &mut String, action: &Action) -> Result<(), AllocError>
     requires { (deed_of action.now).wraps ≡ [] }
-    ensures { IfOk result (λ _. string_bytes out.new ≡ string_bytes out.old ++ spaced (action_words action.now)) }
+    ensures { IfOk result (λ _. string_bytes out.new
+        ≡ string_bytes out.old ++ spaced (action_words action.now)) }
 {
     match action {
         Action::Set { at, id } => {
@@ -51,7 +52,8 @@ fn put_plain(out: &mut String, action: &Action) -> Result<(), AllocError>
 /// Puts the words of an action, from the outside in.
 #[tactic(auto, unfolding(fol_model::specs::ReportWords::action_words))]
 pub fn put_action(out: &mut String, action: &Action) -> Result<(), AllocError>
-    ensures { IfOk result (λ _. string_bytes out.new ≡ string_bytes out.old ++ spaced (action_words action.now)) }
+    ensures { IfOk result (λ _. string_bytes out.new
+        ≡ string_bytes out.old ++ spaced (action_words action.now)) }
 {
     match action {
         Action::Post {

@@ -10,7 +10,8 @@ use std::alloc::AllocError;
 
 /// Puts the answer that too many sections would be present.
 fn put_full(out: &mut String, present: u32, wanted: u32) -> Result<(), AllocError>
-    ensures { IfOk result (λ _. string_bytes out.new ≡ string_bytes out.old ++ spaced (full_words present wanted)) }
+    ensures { IfOk result (λ _. string_bytes out.new
+        ≡ string_bytes out.old ++ spaced (full_words present wanted)) }
 {
     put_word(out, "full")?;
     put_number(out, present)?;
@@ -19,7 +20,8 @@ fn put_full(out: &mut String, present: u32, wanted: u32) -> Result<(), AllocErro
 
 /// Puts what a load came to.
 pub fn put_loaded(out: &mut String, answer: Loaded) -> Result<(), AllocError>
-    ensures { IfOk result (λ _. string_bytes out.new ≡ string_bytes out.old ++ spaced (loaded_words answer)) }
+    ensures { IfOk result (λ _. string_bytes out.new
+        ≡ string_bytes out.old ++ spaced (loaded_words answer)) }
 {
     match answer {
         Loaded::Counted => put_word(out, "counted"),
@@ -30,7 +32,8 @@ pub fn put_loaded(out: &mut String, answer: Loaded) -> Result<(), AllocError>
 
 /// Puts what an unload came to.
 pub fn put_unloaded(out: &mut String, answer: Unloaded) -> Result<(), AllocError>
-    ensures { IfOk result (λ _. string_bytes out.new ≡ string_bytes out.old ++ spaced (unloaded_words answer)) }
+    ensures { IfOk result (λ _. string_bytes out.new
+        ≡ string_bytes out.old ++ spaced (unloaded_words answer)) }
 {
     match answer {
         Unloaded::Lowered => put_word(out, "lowered"),
@@ -41,7 +44,8 @@ pub fn put_unloaded(out: &mut String, answer: Unloaded) -> Result<(), AllocError
 
 /// Puts what became of a task that was asked for.
 pub fn put_accept(out: &mut String, answer: Accept) -> Result<(), AllocError>
-    ensures { IfOk result (λ _. string_bytes out.new ≡ string_bytes out.old ++ spaced (accept_words answer)) }
+    ensures { IfOk result (λ _. string_bytes out.new
+        ≡ string_bytes out.old ++ spaced (accept_words answer)) }
 {
     match answer {
         Accept::Posted(number) => {
@@ -54,7 +58,8 @@ pub fn put_accept(out: &mut String, answer: Accept) -> Result<(), AllocError>
 
 /// Puts what became of each task that a tick asked for.
 pub fn put_all_accepts(out: &mut String, answers: &[Accept]) -> Result<(), AllocError>
-    ensures { IfOk result (λ _. string_bytes out.new ≡ string_bytes out.old ++ spaced (flat_map accept_words answers.now)) }
+    ensures { IfOk result (λ _. string_bytes out.new
+        ≡ string_bytes out.old ++ spaced (flat_map accept_words answers.now)) }
 {
     for answer in answers {
         put_accept(out, *answer)?;
@@ -64,7 +69,8 @@ pub fn put_all_accepts(out: &mut String, answers: &[Accept]) -> Result<(), Alloc
 
 /// Puts what a task came to.
 fn put_outcome(out: &mut String, outcome: Outcome) -> Result<(), AllocError>
-    ensures { IfOk result (λ _. string_bytes out.new ≡ string_bytes out.old ++ 32 ∷ outcome_word outcome) }
+    ensures { IfOk result (λ _. string_bytes out.new
+        ≡ string_bytes out.old ++ 32 ∷ outcome_word outcome) }
 {
     match outcome {
         Outcome::Done => put_word(out, "done"),
@@ -77,7 +83,8 @@ fn put_outcome(out: &mut String, outcome: Outcome) -> Result<(), AllocError>
 
 /// Puts the number and the outcome of each task that ran.
 pub fn put_all_ran(out: &mut String, ran: &[Ran]) -> Result<(), AllocError>
-    ensures { IfOk result (λ _. string_bytes out.new ≡ string_bytes out.old ++ spaced (flat_map ran_words ran.now)) }
+    ensures { IfOk result (λ _. string_bytes out.new
+        ≡ string_bytes out.old ++ spaced (flat_map ran_words ran.now)) }
 {
     for task in ran {
         put_number(out, task.number)?;

@@ -65,7 +65,8 @@ fn block_sum(blocks: &[BlockAt]) -> u128
 
 /// Puts a line of a word and a number.
 fn put_count<I: Integer>(out: &mut String, word: &str, count: I) -> Result<(), AllocError>
-    ensures { IfOk result (λ _. string_bytes out.new ≡ string_bytes out.old ++ word.now ++ 32 ∷ (I.text count ++ 10 ∷ [])) }
+    ensures { IfOk result (λ _. string_bytes out.new ≡ string_bytes out.old ++ word.now
+        ++ 32 ∷ (I.text count ++ 10 ∷ [])) }
 {
     out.push_str(word)?;
     put_number(out, count)?;

@@ -13,7 +13,8 @@ use std::alloc::AllocError;
 
 /// Puts the line of a begin: one of the two most frequent lines.
 fn put_begin(out: &mut String, worker: u32, region: u64) -> Result<(), AllocError>
-    ensures { IfOk result (λ _. string_bytes out.new ≡ string_bytes out.old ++ joined (codes "begin" ∷ decimal worker ∷ decimal region ∷ [])) }
+    ensures { IfOk result (λ _. string_bytes out.new
+        ≡ string_bytes out.old ++ joined (codes "begin" ∷ decimal worker ∷ decimal region ∷ [])) }
 {
     out.push_str("begin ")?;
     put_digits(out, worker)?;
@@ -22,7 +23,9 @@ fn put_begin(out: &mut String, worker: u32, region: u64) -> Result<(), AllocErro
 
 /// Puts the tasks that ran, after their count.
 fn put_ran(out: &mut String, ran: &[Ran]) -> Result<(), AllocError>
-    ensures { IfOk result (λ _. string_bytes out.new ≡ string_bytes out.old ++ spaced (codes "ran" ∷ decimal (length ran.now) ∷ flat_map ran_words ran.now)) }
+    ensures { IfOk result (λ _. string_bytes out.new
+        ≡ string_bytes out.old ++ spaced
+        (codes "ran" ∷ decimal (length ran.now) ∷ flat_map ran_words ran.now)) }
 {
     out.push_str(" ran")?;
     put_number(out, ran.len())?;
@@ -31,7 +34,9 @@ fn put_ran(out: &mut String, ran: &[Ran]) -> Result<(), AllocError>
 
 /// Puts what became of the tasks that a tick asked for, after their count.
 fn put_accepted(out: &mut String, accepts: &[Accept]) -> Result<(), AllocError>
-    ensures { IfOk result (λ _. string_bytes out.new ≡ string_bytes out.old ++ spaced (codes "accepted" ∷ decimal (length accepts.now) ∷ flat_map accept_words accepts.now)) }
+    ensures { IfOk result (λ _. string_bytes out.new
+        ≡ string_bytes out.old ++ spaced
+        (codes "accepted" ∷ decimal (length accepts.now) ∷ flat_map accept_words accepts.now)) }
 {
     out.push_str(" accepted")?;
     put_number(out, accepts.len())?;
@@ -40,7 +45,8 @@ fn put_accepted(out: &mut String, accepts: &[Accept]) -> Result<(), AllocError>
 
 /// Puts that no task ran and that the tick asked for none.
 fn put_no_tasks(out: &mut String) -> Result<(), AllocError>
-    ensures { IfOk result (λ _. string_bytes out.new ≡ string_bytes out.old ++ codes " ran 0 accepted 0") }
+    ensures { IfOk result (λ _. string_bytes out.new
+        ≡ string_bytes out.old ++ codes " ran 0 accepted 0") }
 {
     out.push_str(" ran 0 accepted 0")
 }
@@ -48,7 +54,8 @@ fn put_no_tasks(out: &mut String) -> Result<(), AllocError>
 /// Puts the tasks that ran and what became of those that the tick asked for; most ticks have neither.
 #[tactic(auto, using(crate::proofs::Joined::spaced_append))]
 fn put_tasks(out: &mut String, ran: &[Ran], accepts: &[Accept]) -> Result<(), AllocError>
-    ensures { IfOk result (λ _. string_bytes out.new ≡ string_bytes out.old ++ spaced (tasks_words ran.now accepts.now)) }
+    ensures { IfOk result (λ _. string_bytes out.new
+        ≡ string_bytes out.old ++ spaced (tasks_words ran.now accepts.now)) }
 {
     if ran.is_empty() && accepts.is_empty() {
         return put_no_tasks(out);
@@ -59,7 +66,9 @@ fn put_tasks(out: &mut String, ran: &[Ran], accepts: &[Accept]) -> Result<(), Al
 
 /// Puts what the line of an end begins with: which tick it ends.
 fn put_ended(out: &mut String, worker: u32, region: u64, tick: u64) -> Result<(), AllocError>
-    ensures { IfOk result (λ _. string_bytes out.new ≡ string_bytes out.old ++ joined (codes "end" ∷ decimal worker ∷ decimal region ∷ codes "tick" ∷ decimal tick ∷ [])) }
+    ensures { IfOk result (λ _. string_bytes out.new
+        ≡ string_bytes out.old ++ joined
+        (codes "end" ∷ decimal worker ∷ decimal region ∷ codes "tick" ∷ decimal tick ∷ [])) }
 {
     out.push_str("end ")?;
     put_digits(out, worker)?;
@@ -78,7 +87,8 @@ fn put_end(
     ran: &[Ran],
     accepts: &[Accept],
 ) -> Result<(), AllocError>
-    ensures { IfOk result (λ _. string_bytes out.new ≡ string_bytes out.old ++ joined (end_words worker region tick ran.now accepts.now)) }
+    ensures { IfOk result (λ _. string_bytes out.new
+        ≡ string_bytes out.old ++ joined (end_words worker region tick ran.now accepts.now)) }
 {
     put_ended(out, worker, region, tick)?;
     put_tasks(out, ran, accepts)
@@ -91,7 +101,9 @@ fn put_load(
     chunk: ChunkPos,
     answer: Loaded,
 ) -> Result<(), AllocError>
-    ensures { IfOk result (λ _. string_bytes out.new ≡ string_bytes out.old ++ joined (codes "load" ∷ decimal caller ∷ chunk_words chunk ++ loaded_words answer)) }
+    ensures { IfOk result (λ _. string_bytes out.new
+        ≡ string_bytes out.old ++ joined (codes "load" ∷ decimal caller ∷ chunk_words chunk
+        ++ loaded_words answer)) }
 {
     write!(out, "load {caller}")?;
     put_chunk(out, chunk)?;
@@ -105,7 +117,9 @@ fn put_unload(
     chunk: ChunkPos,
     answer: Unloaded,
 ) -> Result<(), AllocError>
-    ensures { IfOk result (λ _. string_bytes out.new ≡ string_bytes out.old ++ joined (codes "unload" ∷ decimal caller ∷ chunk_words chunk ++ unloaded_words answer)) }
+    ensures { IfOk result (λ _. string_bytes out.new
+        ≡ string_bytes out.old ++ joined (codes "unload" ∷ decimal caller ∷ chunk_words chunk
+        ++ unloaded_words answer)) }
 {
     write!(out, "unload {caller}")?;
     put_chunk(out, chunk)?;
@@ -121,7 +135,9 @@ fn put_post(
     action: &Action,
     answer: Accept,
 ) -> Result<(), AllocError>
-    ensures { IfOk result (λ _. string_bytes out.new ≡ string_bytes out.old ++ joined (codes "post" ∷ decimal caller ∷ chunk_words chunk ++ decimal delay ∷ accept_words answer ++ action_words action.now)) }
+    ensures { IfOk result (λ _. string_bytes out.new
+        ≡ string_bytes out.old ++ joined (codes "post" ∷ decimal caller ∷ chunk_words chunk
+        ++ decimal delay ∷ accept_words answer ++ action_words action.now)) }
 {
     write!(out, "post {caller}")?;
     put_chunk(out, chunk)?;
@@ -132,7 +148,8 @@ fn put_post(
 
 /// Puts the line of an event without its end.
 fn put_event(out: &mut String, event: &Event) -> Result<(), AllocError>
-    ensures { IfOk result (λ _. string_bytes out.new ≡ string_bytes out.old ++ joined (event_words event.now)) }
+    ensures { IfOk result (λ _. string_bytes out.new
+        ≡ string_bytes out.old ++ joined (event_words event.now)) }
 {
     match event {
         Event::Load {

@@ -17,12 +17,14 @@ pub trait Line {
 
     /// Puts the line without its end.
     fn put(&self, out: &mut String) -> Result<(), AllocError>
-        ensures { IfOk result (λ _. string_bytes out.new ≡ string_bytes out.old ++ joined (words self.now)) };
+        ensures { IfOk result (λ _. string_bytes out.new
+            ≡ string_bytes out.old ++ joined (words self.now)) };
 }
 
 /// Puts a line for each row.
 fn put_lines<R: Line>(out: &mut String, rows: &[R]) -> Result<(), AllocError>
-    ensures { IfOk result (λ _. string_bytes out.new ≡ string_bytes out.old ++ joined_lines R.words rows.now) }
+    ensures { IfOk result (λ _. string_bytes out.new
+        ≡ string_bytes out.old ++ joined_lines R.words rows.now) }
 {
     out.reserve(rows.len().saturating_mul(LINE_ROOM))?;
     for row in rows {
@@ -34,7 +36,8 @@ fn put_lines<R: Line>(out: &mut String, rows: &[R]) -> Result<(), AllocError>
 
 /// Puts the count of the rows and their lines.
 pub fn put_part<R: Line>(out: &mut String, name: &str, rows: &[R]) -> Result<(), AllocError>
-    ensures { IfOk result (λ _. string_bytes out.new ≡ string_bytes out.old ++ part name.now R.words rows.now) }
+    ensures { IfOk result (λ _. string_bytes out.new
+        ≡ string_bytes out.old ++ part name.now R.words rows.now) }
 {
     let count = rows.len();
     write!(out, "{name} {count}\n")?;

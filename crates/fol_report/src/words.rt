@@ -36,7 +36,8 @@ pub fn put_digits<I: Integer>(out: &mut String, number: I) -> Result<(), AllocEr
 
 /// Puts the coordinates of a chunk.
 pub fn put_chunk(out: &mut String, at: ChunkPos) -> Result<(), AllocError>
-    ensures { IfOk result (λ _. string_bytes out.new ≡ string_bytes out.old ++ spaced (chunk_words at)) }
+    ensures { IfOk result (λ _. string_bytes out.new
+        ≡ string_bytes out.old ++ spaced (chunk_words at)) }
 {
     put_number(out, at.x)?;
     put_number(out, at.z)
@@ -44,7 +45,8 @@ pub fn put_chunk(out: &mut String, at: ChunkPos) -> Result<(), AllocError>
 
 /// Puts the coordinates of a block.
 pub fn put_block(out: &mut String, at: BlockPos) -> Result<(), AllocError>
-    ensures { IfOk result (λ _. string_bytes out.new ≡ string_bytes out.old ++ spaced (block_words at)) }
+    ensures { IfOk result (λ _. string_bytes out.new
+        ≡ string_bytes out.old ++ spaced (block_words at)) }
 {
     put_number(out, at.x)?;
     put_number(out, at.y)?;

@@ -71,8 +71,11 @@ fn read_cell<'p>(
     requires some { 0 < length places.now }
     requires near { InLimits places.now }
     requires few { marks.old.nested ≤ length cells.old.items }
-    ensures on { IfOk result (λ r. IfSome r (λ next. GoesOn places.now word.now marks.old marks.new cells.old.items cells.new.items next.now)) }
-    ensures stopped { IfOk result (λ r. IfNone r (IsStopped places.now word.now × (marks.new ≡ marks.old))) }
+    ensures on { IfOk result (λ r.
+        IfSome r (λ next. GoesOn places.now word.now marks.old marks.new cells.old.items
+        cells.new.items next.now)) }
+    ensures stopped { IfOk result (λ r. IfNone r (IsStopped places.now word.now
+        × (marks.new ≡ marks.old))) }
 {
     match places[0] {
         Field::Action => {
@@ -106,7 +109,8 @@ pub fn read_cells(
     cells: &mut Vec<Cell>,
 ) -> Result<Marks, AllocError>
     requires { InLimits form.now }
-    ensures { IfOk result (λ m. Tells form.now (left some text.now) cells.old.items cells.new.items m) }
+    ensures { IfOk result (λ m. Tells form.now (left some text.now) cells.old.items cells.new.items
+        m) }
 {
     let mut marks = Marks {
         no_action: false,

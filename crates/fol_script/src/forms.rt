@@ -89,7 +89,8 @@ pub fn action_form(key: Keyword) -> Option<&'static [Field]>
 
 /// The key of an action word, and what follows it.
 pub fn action_of(word: &[u8]) -> Option<(Keyword, &'static [Field])>
-    ensures form { option_map (λ x. x.1.now) result ≡ form_of spec.action_form (spec.key_of word.now) }
+    ensures form { option_map (λ x. x.1.now) result
+        ≡ form_of spec.action_form (spec.key_of word.now) }
     ensures key { IfSome result (λ x. spec.key_of word.now ≡ Some x.0) }
 {
     match key_of(word) {

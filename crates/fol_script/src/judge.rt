@@ -57,7 +57,8 @@ pub fn is_text_line(line: &[u8]) -> bool
 
 /// The key of a line word, and what follows it.
 fn line_word(kind: TextKind, word: &[u8]) -> Option<(Keyword, &'static [Field])>
-    ensures form { option_map (λ x. x.1.now) result ≡ form_of (spec.line_form kind) (spec.key_of word.now) }
+    ensures form { option_map (λ x. x.1.now) result
+        ≡ form_of (spec.line_form kind) (spec.key_of word.now) }
     ensures key { IfSome result (λ x. spec.key_of word.now ≡ Some x.0) }
 {
     match key_of(word) {

@@ -48,7 +48,8 @@ fn push_cell(out: &mut Vec<u8>, cell: Cell) -> Result<(), AllocError>
 
 /// Adds the line of a row.
 pub fn push_row(out: &mut Vec<u8>, key: Keyword, cells: &[Cell]) -> Result<(), AllocError>
-    ensures { OnOk result (out.new.items ≡ out.old.items ++ line_text (record { key = key; cells = cells.now })) }
+    ensures { OnOk result (out.new.items
+        ≡ out.old.items ++ line_text (record { key = key; cells = cells.now })) }
 {
     out.extend_from_slice(spelling(key))?;
     for cell in cells {

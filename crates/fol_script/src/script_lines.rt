@@ -19,7 +19,8 @@ pub struct Before {
 
 /// The size of the number in the place `n`, or 0 where none is there.
 fn size_at(cells: &[Cell], n: usize) -> u64
-    ensures size { result ≡ nat_abs (spec.cell_number (get_or cells.now n (Cell.Word Keyword.End))) }
+    ensures size { result
+        ≡ nat_abs (spec.cell_number (get_or cells.now n (Cell.Word Keyword.End))) }
     ensures fits { result ≤ 2 ^ 63 }
 {
     if n < cells.len() {

@@ -20,7 +20,8 @@ fn push_task(
     delay: u32,
     action: &Action,
 ) -> Result<(), AllocError>
-    ensures { OnOk result (cells.new.items ≡ cells.old.items ++ chunk_cells chunk ++ natural_cell delay ∷ deed_cells (deed_of action.now)) }
+    ensures { OnOk result (cells.new.items ≡ cells.old.items ++ chunk_cells chunk
+        ++ natural_cell delay ∷ deed_cells (deed_of action.now)) }
 {
     push_chunk(cells, chunk)?;
     push_natural(cells, delay)?;
@@ -36,7 +37,9 @@ fn push_repeated(
     count: u32,
     action: &Action,
 ) -> Result<(), AllocError>
-    ensures { OnOk result (cells.new.items ≡ cells.old.items ++ chunk_cells chunk ++ natural_cell delay ∷ natural_cell period ∷ natural_cell count ∷ deed_cells (deed_of action.now)) }
+    ensures { OnOk result (cells.new.items ≡ cells.old.items ++ chunk_cells chunk
+        ++ natural_cell delay ∷ natural_cell period ∷ natural_cell count ∷ deed_cells
+        (deed_of action.now)) }
 {
     push_chunk(cells, chunk)?;
     push_natural(cells, delay)?;
@@ -48,7 +51,8 @@ fn push_repeated(
 /// The word of a command, and its cells into the empty `cells`.
 fn command_cells(command: &Command, cells: &mut Vec<Cell>) -> Result<Keyword, AllocError>
     requires { cells.old.items ≡ [] }
-    ensures { IfOk result (λ key. command_row command.now ≡ record { key = key; cells = cells.new.items }) }
+    ensures { IfOk result (λ key. command_row command.now
+        ≡ record { key = key; cells = cells.new.items }) }
 {
     match command {
         Command::Load(chunk) => {
@@ -116,7 +120,8 @@ fn print_commands(alloc: Global, commands: &[Command]) -> Result<Vec<u8>, AllocE
 pub fn print_script(alloc: Global, script: &Script) -> Result<Vec<u8>, AllocError>
     ensures text { IfOk result (λ v. v.items ≡ script_text script.now) }
     ensures reads { IfOk result (λ v. IsScriptText 2 v.items script.now) }
-    ensures first { list_any is_repeat script.now ≡ false → IfOk result (λ v. IsScriptText 1 v.items script.now) }
+    ensures first { list_any is_repeat script.now ≡ false
+        → IfOk result (λ v. IsScriptText 1 v.items script.now) }
 {
     let text = print_commands(alloc, script.commands.as_slice())?;
     Ok(text)

@@ -38,7 +38,8 @@ fn take_command(
 ) -> Result<Option<Cause>, AllocError>
     requires kind { is_script kind ≡ true }
     requires stands { Stands (map command_row commands.old.items) before.old }
-    ensures { IfOk result (λ c. Leads kind line.now commands.old.items commands.new.items before.new c) }
+    ensures { IfOk result (λ c. Leads kind line.now commands.old.items commands.new.items before.new
+        c) }
 {
     if is_skipped_line(line) {
         return Ok(None);
@@ -57,7 +58,8 @@ fn take_command(
 /// The commands of a script text, or its first bad line.
 fn read_commands(alloc: Global, bytes: &[u8], kind: TextKind) -> Result<Vec<Command>, ReadError>
     requires { is_script kind ≡ true }
-    ensures { MatchResult result (λ v. Spells kind bytes.now (map command_row v.items)) (λ e. IsErrorAt (first_bad kind bytes.now) e) }
+    ensures { MatchResult result (λ v. Spells kind bytes.now (map command_row v.items)) (λ e.
+        IsErrorAt (first_bad kind bytes.now) e) }
 {
     let mut before = Before {
         running: false,
@@ -94,7 +96,8 @@ fn read_commands(alloc: Global, bytes: &[u8], kind: TextKind) -> Result<Vec<Comm
 pub fn read_script(alloc: Global, bytes: &[u8], version: u8) -> Result<Script, ReadError>
     requires low { 1 ≤ version }
     requires high { version ≤ 2 }
-    ensures { MatchResult result (λ s. IsScriptText version bytes.now s) (λ e. IsErrorAt (first_bad (script_kind version) bytes.now) e) }
+    ensures { MatchResult result (λ s. IsScriptText version bytes.now s) (λ e.
+        IsErrorAt (first_bad (script_kind version) bytes.now) e) }
 {
     let commands = read_commands(alloc, bytes, kind_of(version))?;
     Ok(Script {

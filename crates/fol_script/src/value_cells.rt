@@ -74,7 +74,8 @@ fn push_every(cells: &mut Vec<Cell>, period: u32, left: u32) -> Result<(), Alloc
 /// Adds what an action does, where nothing stands round it.
 fn push_plain(cells: &mut Vec<Cell>, action: &Action) -> Result<(), AllocError>
     requires { (deed_of action.now).wraps ≡ [] }
-    ensures { OnOk result (cells.new.items ≡ cells.old.items ++ plain_cells (deed_of action.now).plain) }
+    ensures { OnOk result (cells.new.items
+        ≡ cells.old.items ++ plain_cells (deed_of action.now).plain) }
 {
     match action {
         Action::Set { at, id } => {

@@ -99,9 +99,13 @@ fn entity_at(cells: &[Cell]) -> Entity
 fn keep_block(cells: &[Cell], blocks: &mut BTreeMap<Spot, u16>) -> Result<bool, AllocError>
     requires within { is_block (tells.block_in_cells 0 cells.now) ≡ true }
     requires id { tells.natural_in 3 cells.now < 2 ^ 16 }
-    ensures stood { IfOk result (λ b. b ≡ is_some (get spot_cmp blocks.old (spot_of (tells.block_in_cells 0 cells.now)))) }
-    ensures entries { IfOk result (λ b. blocks.new.entries ≡ insert_entry spot_cmp blocks.old.entries (spot_of (tells.block_in_cells 0 cells.now)) (tells.natural_in 3 cells.now)) }
-    ensures updates { IfOk result (λ b. Updates spot_cmp blocks.old blocks.new (spot_of (tells.block_in_cells 0 cells.now)) (Some (tells.natural_in 3 cells.now))) }
+    ensures stood { IfOk result (λ b.
+        b ≡ is_some (get spot_cmp blocks.old (spot_of (tells.block_in_cells 0 cells.now)))) }
+    ensures entries { IfOk result (λ b. blocks.new.entries
+        ≡ insert_entry spot_cmp blocks.old.entries (spot_of (tells.block_in_cells 0 cells.now))
+        (tells.natural_in 3 cells.now)) }
+    ensures updates { IfOk result (λ b. Updates spot_cmp blocks.old blocks.new
+        (spot_of (tells.block_in_cells 0 cells.now)) (Some (tells.natural_in 3 cells.now))) }
     ensures ordered { IsOrdered spot_cmp blocks.new }
 {
     let id = natural_at(cells, 3) as u16;
@@ -112,9 +116,13 @@ fn keep_block(cells: &[Cell], blocks: &mut BTreeMap<Spot, u16>) -> Result<bool, 
 /// Keeps the entity of a line, and tells whether an earlier line was of the same id.
 fn keep_entity(cells: &[Cell], entities: &mut BTreeMap<u32, Entity>) -> Result<bool, AllocError>
     requires { is_entity (tells.entity_of cells.now) ≡ true }
-    ensures stood { IfOk result (λ b. b ≡ is_some (get nat_cmp entities.old (tells.natural_in 0 cells.now))) }
-    ensures entries { IfOk result (λ b. entities.new.entries ≡ insert_entry nat_cmp entities.old.entries (tells.natural_in 0 cells.now) (tells.entity_of cells.now)) }
-    ensures updates { IfOk result (λ b. Updates nat_cmp entities.old entities.new (tells.natural_in 0 cells.now) (Some (tells.entity_of cells.now))) }
+    ensures stood { IfOk result (λ b.
+        b ≡ is_some (get nat_cmp entities.old (tells.natural_in 0 cells.now))) }
+    ensures entries { IfOk result (λ b. entities.new.entries
+        ≡ insert_entry nat_cmp entities.old.entries (tells.natural_in 0 cells.now)
+        (tells.entity_of cells.now)) }
+    ensures updates { IfOk result (λ b. Updates nat_cmp entities.old entities.new
+        (tells.natural_in 0 cells.now) (Some (tells.entity_of cells.now))) }
     ensures ordered { IsOrdered nat_cmp entities.new }
 {
     let entity = entity_at(cells);
@@ -126,7 +134,8 @@ fn keep_entity(cells: &[Cell], entities: &mut BTreeMap<u32, Entity>) -> Result<b
 fn take_row(key: Keyword, cells: &[Cell], before: &mut WorldBefore) -> Result<bool, AllocError>
     requires order { misplaced_in before.old.version before.old.grid key ≡ false }
     requires row { IsRow kinds.World (record { key = key; cells = cells.now }) }
-    ensures { IfOk result (λ t. TakesRow (record { key = key; cells = cells.now }) before.old before.new t) }
+    ensures { IfOk result (λ t. TakesRow (record { key = key; cells = cells.now }) before.old
+        before.new t) }
 {
     match key {
         Keyword::World => {

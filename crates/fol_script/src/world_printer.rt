@@ -40,7 +40,8 @@ fn push_block_line(
     block: &BlockAt,
     cells: &mut Vec<Cell>,
 ) -> Result<(), AllocError>
-    ensures { OnOk result (out.new.items ≡ out.old.items ++ line_text (item_row (item.block block.now))) }
+    ensures { OnOk result (out.new.items
+        ≡ out.old.items ++ line_text (item_row (item.block block.now))) }
 {
     cells.clear();
     push_block(cells, block.at)?;
@@ -54,7 +55,8 @@ fn push_entity_line(
     entity: &Entity,
     cells: &mut Vec<Cell>,
 ) -> Result<(), AllocError>
-    ensures { OnOk result (out.new.items ≡ out.old.items ++ line_text (item_row (item.entity entity.now))) }
+    ensures { OnOk result (out.new.items
+        ≡ out.old.items ++ line_text (item_row (item.entity entity.now))) }
 {
     cells.clear();
     push_natural(cells, entity.id)?;
@@ -70,7 +72,8 @@ fn push_blocks(
     blocks: &[BlockAt],
     cells: &mut Vec<Cell>,
 ) -> Result<(), AllocError>
-    ensures { OnOk result (out.new.items ≡ out.old.items ++ rows_text (map item_row (map item.block blocks.now))) }
+    ensures { OnOk result (out.new.items
+        ≡ out.old.items ++ rows_text (map item_row (map item.block blocks.now))) }
 {
     for block in blocks {
         push_block_line(out, block, cells)?;
@@ -84,7 +87,8 @@ fn push_entities(
     entities: &[Entity],
     cells: &mut Vec<Cell>,
 ) -> Result<(), AllocError>
-    ensures { OnOk result (out.new.items ≡ out.old.items ++ rows_text (map item_row (map item.entity entities.now))) }
+    ensures { OnOk result (out.new.items
+        ≡ out.old.items ++ rows_text (map item_row (map item.entity entities.now))) }
 {
     for entity in entities {
         push_entity_line(out, entity, cells)?;

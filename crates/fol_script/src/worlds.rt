@@ -19,7 +19,8 @@ use std::collections::BTreeMap;
 
 /// What all lines of a world text tell, or its first bad line but for a missing one.
 fn read_lines(alloc: Global, bytes: &[u8]) -> Result<(WorldBefore, u64), ReadError>
-    ensures { MatchResult result (λ r. IsRead bytes.now r.0 r.1) (λ e. IsErrorAt (first_bad kinds.World bytes.now) e) }
+    ensures { MatchResult result (λ r. IsRead bytes.now r.0 r.1) (λ e.
+        IsErrorAt (first_bad kinds.World bytes.now) e) }
 {
     let mut before = WorldBefore {
         version: None,
@@ -51,8 +52,18 @@ fn make_opening(
     blocks: BTreeMap<Spot, u16>,
     entities: BTreeMap<u32, Entity>,
 ) -> Result<Opening, AllocError>
-    requires { IsOpening (record { version = version; grid = grid; blocks = stored_blocks blocks.entries; entities = values_of entities.entries }) }
-    ensures { IfOk result (λ o. o ≡ record { version = version; grid = grid; blocks = stored_blocks blocks.entries; entities = values_of entities.entries }) }
+    requires { IsOpening (record {
+      version = version;
+      grid = grid;
+      blocks = stored_blocks blocks.entries;
+      entities = values_of entities.entries;
+    }) }
+    ensures { IfOk result (λ o. o ≡ record {
+      version = version;
+      grid = grid;
+      blocks = stored_blocks blocks.entries;
+      entities = values_of entities.entries;
+    }) }
 {
     let blocks = blocks_of(alloc, blocks)?;
     let entities = entities_of(alloc, entities)?;
@@ -70,7 +81,8 @@ fn make_opening(
 /// `NoMemory` where memory runs out, whatever the text. The time is linear in the length of the text, but for the look-up
 /// of each block and entity among the earlier ones, which is logarithmic in their number.
 pub fn read_world(alloc: Global, bytes: &[u8]) -> Result<Opening, ReadError>
-    ensures { MatchResult result (λ o. IsWorldText bytes.now o) (λ e. IsErrorAt (first_bad kinds.World bytes.now) e) }
+    ensures { MatchResult result (λ o. IsWorldText bytes.now o) (λ e.
+        IsErrorAt (first_bad kinds.World bytes.now) e) }
 {
     let (before, line) = read_lines(alloc, bytes)?;
     let WorldBefore {

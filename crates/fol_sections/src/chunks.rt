@@ -45,8 +45,11 @@ fn is_loaded(holds: &Numbers, c: ChunkPos) -> bool
 fn list_row(holds: &Numbers, out: &mut Vec<ChunkPos>, first: ChunkPos, row: u32, n: u32)
     requires near { (nat_abs first.x ≤ 40000000) × (nat_abs first.z ≤ 40000000) }
     requires few { (row ≤ 32) × (n ≤ 32) }
-    requires room { length out.old.items + count_by (is_held holds.now.entries) (row_of chunk_at first.x (first.z +ℤ pos row) n) ≤ vec_capacity out.old }
-    ensures listed { out.new.items ≡ out.old.items ++ filter (is_held holds.now.entries) (row_of chunk_at first.x (first.z +ℤ pos row) n) }
+    requires room { length out.old.items
+        + count_by (is_held holds.now.entries) (row_of chunk_at first.x (first.z +ℤ pos row) n)
+        ≤ vec_capacity out.old }
+    ensures listed { out.new.items ≡ out.old.items
+        ++ filter (is_held holds.now.entries) (row_of chunk_at first.x (first.z +ℤ pos row) n) }
     ensures capacity { vec_capacity out.new ≡ vec_capacity out.old }
 {
     for i in 0..n {
@@ -61,8 +64,11 @@ fn list_row(holds: &Numbers, out: &mut Vec<ChunkPos>, first: ChunkPos, row: u32,
 fn list_square(holds: &Numbers, out: &mut Vec<ChunkPos>, first: ChunkPos, side: u32)
     requires near { (nat_abs first.x ≤ 40000000) × (nat_abs first.z ≤ 40000000) }
     requires few { side ≤ 32 }
-    requires room { length out.old.items + count_by (is_held holds.now.entries) (rows_of chunk_at first.x first.z side side) ≤ vec_capacity out.old }
-    ensures listed { out.new.items ≡ out.old.items ++ filter (is_held holds.now.entries) (rows_of chunk_at first.x first.z side side) }
+    requires room { length out.old.items
+        + count_by (is_held holds.now.entries) (rows_of chunk_at first.x first.z side side)
+        ≤ vec_capacity out.old }
+    ensures listed { out.new.items ≡ out.old.items
+        ++ filter (is_held holds.now.entries) (rows_of chunk_at first.x first.z side side) }
     ensures capacity { vec_capacity out.new ≡ vec_capacity out.old }
 {
     for row in 0..side {
@@ -90,8 +96,14 @@ fn shift_of(grid: &Grid) -> u8
 /// Adds those chunks of a section that have a hold, row by row.
 pub fn list_section(holds: &Numbers, out: &mut Vec<ChunkPos>, grid: &Grid, s: SectionPos)
     requires near { (nat_abs s.x ≤ 1000008) × (nat_abs s.z ≤ 1000008) }
-    requires room { length out.old.items + count_by (is_held holds.now.entries) (rows_of chunk_at (s.x *ℤ pos (2 ^ grid.now.shift)) (s.z *ℤ pos (2 ^ grid.now.shift)) (2 ^ grid.now.shift) (2 ^ grid.now.shift)) ≤ vec_capacity out.old }
-    ensures listed { out.new.items ≡ out.old.items ++ filter (is_held holds.now.entries) (rows_of chunk_at (s.x *ℤ pos (2 ^ grid.now.shift)) (s.z *ℤ pos (2 ^ grid.now.shift)) (2 ^ grid.now.shift) (2 ^ grid.now.shift)) }
+    requires room { length out.old.items
+        + count_by (is_held holds.now.entries)
+        (rows_of chunk_at (s.x *ℤ pos (2 ^ grid.now.shift)) (s.z *ℤ pos (2 ^ grid.now.shift))
+        (2 ^ grid.now.shift) (2 ^ grid.now.shift)) ≤ vec_capacity out.old }
+    ensures listed { out.new.items ≡ out.old.items
+        ++ filter (is_held holds.now.entries)
+        (rows_of chunk_at (s.x *ℤ pos (2 ^ grid.now.shift)) (s.z *ℤ pos (2 ^ grid.now.shift))
+        (2 ^ grid.now.shift) (2 ^ grid.now.shift)) }
     ensures capacity { vec_capacity out.new ≡ vec_capacity out.old }
 {
     let shift = shift_of(grid);

@@ -87,7 +87,8 @@ pub fn near(pages: &Pages, s: SectionPos) -> u32
 /// Changes what is kept of a section whose page is there.
 fn write(pages: &mut Pages, s: SectionPos, counts: Option<Counts>)
     requires there { IsTrue (has_page pages.old.entries (page s.x) (page s.z)) }
-    ensures put { (q : SectionPos) → counts_at pages.new.entries q ≡ cond (same_section s q) counts (counts_at pages.old.entries q) }
+    ensures put { (q : SectionPos) → counts_at pages.new.entries q
+        ≡ cond (same_section s q) counts (counts_at pages.old.entries q) }
     ensures pages { (x z : ℤ) → has_page pages.new.entries x z ≡ has_page pages.old.entries x z }
     ensures room { spare pages.new ≡ spare pages.old }
 {
@@ -113,8 +114,10 @@ fn page_with(place: usize, counts: Counts) -> Page
 fn add_page(pages: &mut Pages, s: SectionPos, counts: Counts)
     requires room { 0 < spare pages.old }
     requires absent { has_page pages.old.entries (page s.x) (page s.z) ≡ false }
-    ensures put { (q : SectionPos) → counts_at pages.new.entries q ≡ cond (same_section s q) (Some counts) (counts_at pages.old.entries q) }
-    ensures pages { (x z : ℤ) → has_page pages.new.entries x z ≡ (is_same (page s.x) (page s.z) x z || has_page pages.old.entries x z) }
+    ensures put { (q : SectionPos) → counts_at pages.new.entries q
+        ≡ cond (same_section s q) (Some counts) (counts_at pages.old.entries q) }
+    ensures pages { (x z : ℤ) → has_page pages.new.entries x z
+        ≡ (is_same (page s.x) (page s.z) x z || has_page pages.old.entries x z) }
     ensures room { spare pages.old ≤ spare pages.new + 1 }
 {
     let _ = pages.insert(page_of(s), page_with(place_of(s), counts));
@@ -123,9 +126,12 @@ fn add_page(pages: &mut Pages, s: SectionPos, counts: Counts)
 /// Makes a section present with these numbers.
 pub fn put(pages: &mut Pages, s: SectionPos, counts: Counts)
     requires room { has_page pages.old.entries (page s.x) (page s.z) ≡ false → 0 < spare pages.old }
-    ensures put { (q : SectionPos) → counts_at pages.new.entries q ≡ cond (same_section s q) (Some counts) (counts_at pages.old.entries q) }
-    ensures pages { (x z : ℤ) → has_page pages.new.entries x z ≡ (is_same (page s.x) (page s.z) x z || has_page pages.old.entries x z) }
-    ensures room { spare pages.old ≤ spare pages.new + cond (has_page pages.old.entries (page s.x) (page s.z)) 0 1 }
+    ensures put { (q : SectionPos) → counts_at pages.new.entries q
+        ≡ cond (same_section s q) (Some counts) (counts_at pages.old.entries q) }
+    ensures pages { (x z : ℤ) → has_page pages.new.entries x z
+        ≡ (is_same (page s.x) (page s.z) x z || has_page pages.old.entries x z) }
+    ensures room { spare pages.old ≤ spare pages.new
+        + cond (has_page pages.old.entries (page s.x) (page s.z)) 0 1 }
     ensures used { AllUsed pages.old.entries → AllUsed pages.new.entries }
 {
     if pages.contains_key(&page_of(s)) {
@@ -138,7 +144,8 @@ pub fn put(pages: &mut Pages, s: SectionPos, counts: Counts)
 /// Changes the numbers of a present section.
 pub fn change(pages: &mut Pages, s: SectionPos, counts: Counts)
     requires here { IsTrue (is_here pages.old.entries s) }
-    ensures put { (q : SectionPos) → counts_at pages.new.entries q ≡ cond (same_section s q) (Some counts) (counts_at pages.old.entries q) }
+    ensures put { (q : SectionPos) → counts_at pages.new.entries q
+        ≡ cond (same_section s q) (Some counts) (counts_at pages.old.entries q) }
     ensures room { spare pages.new ≡ spare pages.old }
     ensures used { AllUsed pages.old.entries → AllUsed pages.new.entries }
 {
@@ -156,7 +163,8 @@ fn is_empty(page: &Page) -> bool
 /// Takes a present section out, and its page with it where no other section of the page is present.
 pub fn take_out(pages: &mut Pages, s: SectionPos)
     requires here { IsTrue (is_here pages.old.entries s) }
-    ensures out { (q : SectionPos) → counts_at pages.new.entries q ≡ cond (same_section s q) None (counts_at pages.old.entries q) }
+    ensures out { (q : SectionPos) → counts_at pages.new.entries q
+        ≡ cond (same_section s q) None (counts_at pages.old.entries q) }
     ensures room { spare pages.old ≤ spare pages.new }
     ensures used { AllUsed pages.old.entries → AllUsed pages.new.entries }
 {
@@ -166,9 +174,12 @@ pub fn take_out(pages: &mut Pages, s: SectionPos)
 
 /// Takes a page out that has no present section.
 fn drop_if_empty(pages: &mut Pages, key: (i32, i32))
-    ensures same { (q : SectionPos) → counts_at pages.new.entries q ≡ counts_at pages.old.entries q }
-    ensures others { (x z : ℤ) → IsTrue (has_page pages.new.entries x z) → IsTrue (has_page pages.old.entries x z) }
-    ensures used { IsTrue (has_page pages.new.entries key.0 key.1) → HasSection pages.new.entries key.0 key.1 }
+    ensures same { (q : SectionPos) → counts_at pages.new.entries q
+        ≡ counts_at pages.old.entries q }
+    ensures others { (x z : ℤ) → IsTrue (has_page pages.new.entries x z)
+        → IsTrue (has_page pages.old.entries x z) }
+    ensures used { IsTrue (has_page pages.new.entries key.0 key.1)
+        → HasSection pages.new.entries key.0 key.1 }
     ensures room { spare pages.old ≤ spare pages.new }
 {
     let is_done = match pages.get(&key) {

@@ -23,8 +23,11 @@ pub fn number(numbers: &Numbers, x: i32, z: i32) -> Option<u64>
 /// Puts a number at a place, whether it had one or not.
 pub fn put(numbers: &mut Numbers, x: i32, z: i32, n: u64)
     requires room { 0 < spare numbers.old }
-    ensures put { (a b : ℤ) → number_at numbers.new.entries a b ≡ cond (is_same x z a b) (Some n) (number_at numbers.old.entries a b) }
-    ensures len { hash_map_len numbers.new ≡ hash_map_len numbers.old + (if is_some (number_at numbers.old.entries x z) then 0 else 1) }
+    ensures put { (a b : ℤ) → number_at numbers.new.entries a b
+        ≡ cond (is_same x z a b) (Some n) (number_at numbers.old.entries a b) }
+    ensures len { hash_map_len numbers.new
+        ≡ hash_map_len numbers.old + (if is_some (number_at numbers.old.entries x z) then 0
+        else 1) }
     ensures room { spare numbers.old ≤ spare numbers.new + 1 }
 {
     let _ = numbers.insert((x, z), n);
@@ -33,7 +36,8 @@ pub fn put(numbers: &mut Numbers, x: i32, z: i32, n: u64)
 /// Changes the number at a place that has one.
 pub fn change(numbers: &mut Numbers, x: i32, z: i32, n: u64)
     requires there { IsTrue (is_some (number_at numbers.old.entries x z)) }
-    ensures put { (a b : ℤ) → number_at numbers.new.entries a b ≡ cond (is_same x z a b) (Some n) (number_at numbers.old.entries a b) }
+    ensures put { (a b : ℤ) → number_at numbers.new.entries a b
+        ≡ cond (is_same x z a b) (Some n) (number_at numbers.old.entries a b) }
     ensures len { hash_map_len numbers.new ≡ hash_map_len numbers.old }
     ensures room { spare numbers.new ≡ spare numbers.old }
 {
@@ -45,8 +49,10 @@ pub fn change(numbers: &mut Numbers, x: i32, z: i32, n: u64)
 
 /// Takes out the number at a place, if it has one.
 pub fn take_out(numbers: &mut Numbers, x: i32, z: i32)
-    ensures out { (a b : ℤ) → number_at numbers.new.entries a b ≡ cond (is_same x z a b) None (number_at numbers.old.entries a b) }
-    ensures len { hash_map_len numbers.new + (if is_some (number_at numbers.old.entries x z) then 1 else 0) ≡ hash_map_len numbers.old }
+    ensures out { (a b : ℤ) → number_at numbers.new.entries a b
+        ≡ cond (is_same x z a b) None (number_at numbers.old.entries a b) }
+    ensures len { hash_map_len numbers.new + (if is_some (number_at numbers.old.entries x z) then 1
+        else 0) ≡ hash_map_len numbers.old }
     ensures room { spare numbers.old ≤ spare numbers.new }
 {
     let _ = numbers.remove(&(x, z));

@@ -121,7 +121,8 @@ pub fn turn_run(pages: &mut Pages, s: SectionPos, len: u32, turn: Turn)
         → near_at pages.new.entries q + fall turn (count_by (same_section q) (row_of section_at s.x s.z len))
         ≡ near_at pages.old.entries q + rise turn (count_by (same_section q) (row_of section_at s.x s.z len)) }
     ensures here { (q : SectionPos) → is_here pages.new.entries q ≡ is_here pages.old.entries q }
-    ensures chunks { (q : SectionPos) → chunks_at pages.new.entries q ≡ chunks_at pages.old.entries q }
+    ensures chunks { (q : SectionPos) → chunks_at pages.new.entries q
+        ≡ chunks_at pages.old.entries q }
     ensures room { spare pages.new ≡ spare pages.old }
     ensures used { AllUsed pages.old.entries → AllUsed pages.new.entries }
 {

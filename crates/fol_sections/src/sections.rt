@@ -143,7 +143,8 @@ impl Sections {
     /// Adds the loaded chunks of a section to a list, by `(z, x)`. The list has room for them, and no memory is taken.
     pub fn chunks_in(&self, s: SectionPos, out: &mut Vec<ChunkPos>)
         requires room { length out.old.items + loaded_count self.now s ≤ vec_capacity out.old }
-        ensures chunks { out.new.items ≡ out.old.items ++ filter (is_loaded_chunk_of self.now s) all_chunks }
+        ensures chunks { out.new.items ≡ out.old.items
+            ++ filter (is_loaded_chunk_of self.now s) all_chunks }
         ensures capacity { vec_capacity out.new ≡ vec_capacity out.old }
     {
         if loaded(&self.pages, s) > 0 {
@@ -175,7 +176,8 @@ impl Sections {
         requires in_range { IsTrue (is_chunk c) }
         requires few { holds_of self.old c < 2 ^ 62 }
         ensures answer { result ≡ added self.old c }
-        ensures full { IsTrue (is_full_for self.old c) → IsSame self.old self.new × (self.new.filled ≡ []) × (self.new.spare ≡ self.old.spare) }
+        ensures full { IsTrue (is_full_for self.old c) → IsSame self.old self.new
+            × (self.new.filled ≡ []) × (self.new.spare ≡ self.old.spare) }
         ensures room { is_full_for self.old c ≡ false → Adds self.old self.new c }
         ensures grid { self.new.grid ≡ self.old.grid }
     {
@@ -209,9 +211,11 @@ impl Sections {
     /// Removes a hold on a chunk. No section changes. Takes no memory.
     pub fn remove(&mut self, c: ChunkPos) -> Removed
         ensures answer { result ≡ removed self.old c }
-        ensures holds { holds_of self.new ≡ at_chunk (holds_of self.old) c (holds_of self.old c - 1) }
+        ensures holds { holds_of self.new
+            ≡ at_chunk (holds_of self.old) c (holds_of self.old c - 1) }
         ensures presence { presence_of self.new ≡ presence_of self.old }
-        ensures stays { (self.new.grid ≡ self.old.grid) × (self.new.filled ≡ self.old.filled) × (self.new.spare ≡ self.old.spare) }
+        ensures stays { (self.new.grid ≡ self.old.grid) × (self.new.filled ≡ self.old.filled)
+            × (self.new.spare ≡ self.old.spare) }
     {
         let count = drop_hold(&mut self.holds, c);
         if count == 1 {
@@ -229,9 +233,12 @@ impl Sections {
         requires distinct { IsDistinct same_section list.old.items }
         ensures list { list.new.items ≡ filter (in_margin_of self.old) list.old.items }
         ensures room { vec_capacity list.new ≡ vec_capacity list.old }
-        ensures presence { presence_of self.new ≡ (λ s. presence_of self.old s && not (is_among list.old.items s && not (in_margin_of self.old s))) }
+        ensures presence { presence_of self.new
+            ≡ (λ s. presence_of self.old s
+            && not (is_among list.old.items s && not (in_margin_of self.old s))) }
         ensures holds { holds_of self.new ≡ holds_of self.old }
-        ensures stays { (self.new.grid ≡ self.old.grid) × (self.new.filled ≡ self.old.filled) × (self.new.spare ≡ self.old.spare) }
+        ensures stays { (self.new.grid ≡ self.old.grid) × (self.new.filled ≡ self.old.filled)
+            × (self.new.spare ≡ self.old.spare) }
     {
         for s in list.as_slice() {
             if near(&self.pages, *s) == 0 {
@@ -275,7 +282,8 @@ fn keep_present(list: &mut Vec<SectionPos>, pages: &Pages)
 
 /// What removing a hold comes to on a chunk that had so many.
 fn answer_for(count: u64) -> Removed
-    ensures { result ≡ (if nat_eq count 0 then Removed.NotLoaded else (if nat_eq count 1 then Removed.Gone else Removed.Lowered)) }
+    ensures { result ≡ (if nat_eq count 0 then Removed.NotLoaded
+        else (if nat_eq count 1 then Removed.Gone else Removed.Lowered)) }
 {
     if count == 0 {
         Removed::NotLoaded
@@ -300,15 +308,24 @@ fn take_hold(
     requires nine { InNine missing.now }
     requires near { (nat_abs home.x ≤ 1000008) × (nat_abs home.z ≤ 1000008) }
     requires few { radius ≤ 8 }
-    requires absent { (s : SectionPos) → IsTrue (is_among missing.now s) → counts_at pages.old.entries s ≡ None }
-    requires around { (s : SectionPos) → IsTrue (is_within home radius s) → IsTrue (is_here pages.old.entries s || is_among missing.now s) }
+    requires absent { (s : SectionPos) → IsTrue (is_among missing.now s)
+        → counts_at pages.old.entries s ≡ None }
+    requires around { (s : SectionPos) → IsTrue (is_within home radius s)
+        → IsTrue (is_here pages.old.entries s || is_among missing.now s) }
     requires chunks_high { chunks_at pages.old.entries home ≤ 1024 }
     requires near_high { (s : SectionPos) → near_at pages.old.entries s ≤ 289 }
-    ensures counts { (q : ChunkPos) → count_at holds.new.entries q ≡ at_chunk (count_at holds.old.entries) c (count_at holds.old.entries c + 1) q }
-    ensures here { (s : SectionPos) → is_here pages.new.entries s ≡ (is_here pages.old.entries s || is_among missing.now s) }
-    ensures chunks { (s : SectionPos) → chunks_at pages.new.entries s ≡ cond (same_section home s && not (nat_lt 0 (count_at holds.old.entries c))) 1 0 + chunks_at pages.old.entries s }
-    ensures near { (s : SectionPos) → near_at pages.new.entries s ≡ near_at pages.old.entries s + cond (not (nat_lt 0 (count_at holds.old.entries c)) && (nat_eq (chunks_at pages.old.entries home) 0 && is_within home radius s)) 1 0 }
-    ensures rooms { (room_of holds.old ≤ room_of holds.new + 1) × (room_of pages.old ≤ room_of pages.new + 9) }
+    ensures counts { (q : ChunkPos) → count_at holds.new.entries q
+        ≡ at_chunk (count_at holds.old.entries) c (count_at holds.old.entries c + 1) q }
+    ensures here { (s : SectionPos) → is_here pages.new.entries s
+        ≡ (is_here pages.old.entries s || is_among missing.now s) }
+    ensures chunks { (s : SectionPos) → chunks_at pages.new.entries s
+        ≡ cond (same_section home s && not (nat_lt 0 (count_at holds.old.entries c))) 1 0
+        + chunks_at pages.old.entries s }
+    ensures near { (s : SectionPos) → near_at pages.new.entries s
+        ≡ near_at pages.old.entries s + cond (not (nat_lt 0 (count_at holds.old.entries c))
+        && (nat_eq (chunks_at pages.old.entries home) 0 && is_within home radius s)) 1 0 }
+    ensures rooms { (room_of holds.old ≤ room_of holds.new + 1)
+        × (room_of pages.old ≤ room_of pages.new + 9) }
     ensures used { AllUsed pages.old.entries → AllUsed pages.new.entries }
 {
     fill(pages, missing);
@@ -328,7 +345,8 @@ fn create_radius(grid: &Grid) -> u8
 fn fill(pages: &mut Pages, missing: &[SectionPos])
     requires room { 9 ≤ room_of pages.old }
     requires near { InNine missing.now }
-    ensures filled { (s : SectionPos) → counts_at pages.new.entries s ≡ cond (is_among missing.now s) (Some no_counts) (counts_at pages.old.entries s) }
+    ensures filled { (s : SectionPos) → counts_at pages.new.entries s
+        ≡ cond (is_among missing.now s) (Some no_counts) (counts_at pages.old.entries s) }
     ensures room { room_of pages.old ≤ room_of pages.new + 9 }
     ensures used { AllUsed pages.old.entries → AllUsed pages.new.entries }
 {
@@ -343,7 +361,8 @@ pub fn count_hold(holds: &mut Numbers, c: ChunkPos) -> u64
     requires room { 1 ≤ room_of holds.old }
     requires few { count_at holds.old.entries c < 2 ^ 62 }
     ensures before { result ≡ count_at holds.old.entries c }
-    ensures counts { (q : ChunkPos) → count_at holds.new.entries q ≡ at_chunk (count_at holds.old.entries) c (count_at holds.old.entries c + 1) q }
+    ensures counts { (q : ChunkPos) → count_at holds.new.entries q
+        ≡ at_chunk (count_at holds.old.entries) c (count_at holds.old.entries c + 1) q }
     ensures room { room_of holds.old ≤ room_of holds.new + 1 }
 {
     let count = number(holds, c.x, c.z).unwrap_or(0);
@@ -354,7 +373,8 @@ pub fn count_hold(holds: &mut Numbers, c: ChunkPos) -> u64
 /// Removes a hold on a chunk in a table of such counts, and gives the count before; a count of 0 stays. Takes no memory.
 pub fn drop_hold(holds: &mut Numbers, c: ChunkPos) -> u64
     ensures before { result ≡ count_at holds.old.entries c }
-    ensures counts { (q : ChunkPos) → count_at holds.new.entries q ≡ at_chunk (count_at holds.old.entries) c (count_at holds.old.entries c - 1) q }
+    ensures counts { (q : ChunkPos) → count_at holds.new.entries q
+        ≡ at_chunk (count_at holds.old.entries) c (count_at holds.old.entries c - 1) q }
     ensures room { room_of holds.old ≤ room_of holds.new }
 {
     let count = number(holds, c.x, c.z).unwrap_or(0);
@@ -372,7 +392,9 @@ fn count_chunk(pages: &mut Pages, home: SectionPos, turn: Turn) -> u16
     requires low { fall turn 1 ≤ chunks_at pages.old.entries home }
     requires high { chunks_at pages.old.entries home ≤ 1024 }
     ensures after { result ≡ chunks_at pages.new.entries home }
-    ensures chunks { (s : SectionPos) → chunks_at pages.new.entries s + fall turn (cond (same_section home s) 1 0) ≡ chunks_at pages.old.entries s + rise turn (cond (same_section home s) 1 0) }
+    ensures chunks { (s : SectionPos) → chunks_at pages.new.entries s
+        + fall turn (cond (same_section home s) 1 0)
+        ≡ chunks_at pages.old.entries s + rise turn (cond (same_section home s) 1 0) }
     ensures here { (s : SectionPos) → is_here pages.new.entries s ≡ is_here pages.old.entries s }
     ensures near { (s : SectionPos) → near_at pages.new.entries s ≡ near_at pages.old.entries s }
     ensures room { room_of pages.new ≡ room_of pages.old }
@@ -393,11 +415,15 @@ fn count_chunk(pages: &mut Pages, home: SectionPos, turn: Turn) -> u16
 fn add_chunk(pages: &mut Pages, home: SectionPos, radius: u8)
     requires near { (nat_abs home.x ≤ 1000008) × (nat_abs home.z ≤ 1000008) }
     requires few { radius ≤ 8 }
-    requires here { (s : SectionPos) → IsTrue (is_within home radius s) → IsTrue (is_here pages.old.entries s) }
+    requires here { (s : SectionPos) → IsTrue (is_within home radius s)
+        → IsTrue (is_here pages.old.entries s) }
     requires chunks_high { chunks_at pages.old.entries home ≤ 1024 }
     requires near_high { (s : SectionPos) → near_at pages.old.entries s ≤ 289 }
-    ensures chunks { (s : SectionPos) → chunks_at pages.new.entries s ≡ cond (same_section home s) 1 0 + chunks_at pages.old.entries s }
-    ensures near { (s : SectionPos) → near_at pages.new.entries s ≡ near_at pages.old.entries s + cond (nat_eq (chunks_at pages.old.entries home) 0 && is_within home radius s) 1 0 }
+    ensures chunks { (s : SectionPos) → chunks_at pages.new.entries s
+        ≡ cond (same_section home s) 1 0 + chunks_at pages.old.entries s }
+    ensures near { (s : SectionPos) → near_at pages.new.entries s
+        ≡ near_at pages.old.entries s + cond (nat_eq (chunks_at pages.old.entries home) 0
+        && is_within home radius s) 1 0 }
     ensures here { (s : SectionPos) → is_here pages.new.entries s ≡ is_here pages.old.entries s }
     ensures room { room_of pages.new ≡ room_of pages.old }
     ensures used { AllUsed pages.old.entries → AllUsed pages.new.entries }
@@ -411,13 +437,18 @@ fn add_chunk(pages: &mut Pages, home: SectionPos, radius: u8)
 fn drop_chunk(pages: &mut Pages, home: SectionPos, radius: u8)
     requires near { (nat_abs home.x ≤ 1000008) × (nat_abs home.z ≤ 1000008) }
     requires few { radius ≤ 8 }
-    requires here { (s : SectionPos) → IsTrue (is_within home radius s) → IsTrue (is_here pages.old.entries s) }
+    requires here { (s : SectionPos) → IsTrue (is_within home radius s)
+        → IsTrue (is_here pages.old.entries s) }
     requires some { 0 < chunks_at pages.old.entries home }
     requires chunks_high { chunks_at pages.old.entries home ≤ 1024 }
-    requires near_low { (s : SectionPos) → cond (is_within home radius s) 1 0 ≤ near_at pages.old.entries s }
+    requires near_low { (s : SectionPos)
+        → cond (is_within home radius s) 1 0 ≤ near_at pages.old.entries s }
     requires near_high { (s : SectionPos) → near_at pages.old.entries s ≤ 289 }
-    ensures chunks { (s : SectionPos) → chunks_at pages.old.entries s ≡ cond (same_section home s) 1 0 + chunks_at pages.new.entries s }
-    ensures near { (s : SectionPos) → near_at pages.old.entries s ≡ near_at pages.new.entries s + cond (nat_eq (chunks_at pages.old.entries home) 1 && is_within home radius s) 1 0 }
+    ensures chunks { (s : SectionPos) → chunks_at pages.old.entries s
+        ≡ cond (same_section home s) 1 0 + chunks_at pages.new.entries s }
+    ensures near { (s : SectionPos) → near_at pages.old.entries s
+        ≡ near_at pages.new.entries s + cond (nat_eq (chunks_at pages.old.entries home) 1
+        && is_within home radius s) 1 0 }
     ensures here { (s : SectionPos) → is_here pages.new.entries s ≡ is_here pages.old.entries s }
     ensures room { room_of pages.new ≡ room_of pages.old }
     ensures used { AllUsed pages.old.entries → AllUsed pages.new.entries }

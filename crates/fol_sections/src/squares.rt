@@ -16,7 +16,9 @@ fn find_row(pages: &Pages, missing: &mut Vec<SectionPos>, first: SectionPos, row
     requires near { (nat_abs first.x ≤ 1000016) × (nat_abs first.z ≤ 1000016) }
     requires few { (row ≤ 17) × (n ≤ 17) }
     requires room { length missing.old.items + 17 ≤ vec_capacity missing.old }
-    ensures found { missing.new.items ≡ missing.old.items ++ filter (λ s. not (is_here pages.now.entries s)) (row_of section_at first.x (first.z +ℤ pos row) n) }
+    ensures found { missing.new.items ≡ missing.old.items
+        ++ filter (λ s. not (is_here pages.now.entries s))
+        (row_of section_at first.x (first.z +ℤ pos row) n) }
     ensures few { length missing.new.items ≤ length missing.old.items + 17 }
     ensures room { vec_capacity missing.old ≤ vec_capacity missing.new }
 {
@@ -35,7 +37,8 @@ pub fn find_missing(pages: &Pages, missing: &mut Vec<SectionPos>, s: SectionPos,
     requires few { radius ≤ 8 }
     requires none { missing.old.items ≡ [] }
     requires room { 289 ≤ vec_capacity missing.old }
-    ensures found { missing.new.items ≡ filter (λ q. not (is_here pages.now.entries q)) (square s radius) }
+    ensures found { missing.new.items ≡ filter (λ q. not (is_here pages.now.entries q))
+        (square s radius) }
     ensures few { length missing.new.items ≤ 289 }
     ensures room { vec_capacity missing.old ≤ vec_capacity missing.new }
 {

@@ -38,12 +38,21 @@ pub fn turned(number: u16, turn: Turn) -> u16
 fn turn_row(pages: &mut Pages, first: SectionPos, row: u32, n: u32, turn: Turn)
     requires near { (nat_abs first.x ≤ 1000016) × (nat_abs first.z ≤ 1000016) }
     requires few { (row ≤ 17) × (n ≤ 17) }
-    requires here { (q : SectionPos) → 0 < count_by (same_section q) (row_of section_at first.x (first.z +ℤ pos row) n) → IsTrue (is_here pages.old.entries q) }
-    requires low { (q : SectionPos) → fall turn (count_by (same_section q) (row_of section_at first.x (first.z +ℤ pos row) n)) ≤ near_at pages.old.entries q }
-    requires high { (q : SectionPos) → near_at pages.old.entries q + count_by (same_section q) (row_of section_at first.x (first.z +ℤ pos row) n) < 2 ^ 16 }
-    ensures near { (q : SectionPos) → near_at pages.new.entries q + fall turn (count_by (same_section q) (row_of section_at first.x (first.z +ℤ pos row) n)) ≡ near_at pages.old.entries q + rise turn (count_by (same_section q) (row_of section_at first.x (first.z +ℤ pos row) n)) }
+    requires here { (q : SectionPos) → 0
+        < count_by (same_section q) (row_of section_at first.x (first.z +ℤ pos row) n)
+        → IsTrue (is_here pages.old.entries q) }
+    requires low { (q : SectionPos)
+        → fall turn (count_by (same_section q) (row_of section_at first.x (first.z +ℤ pos row) n))
+        ≤ near_at pages.old.entries q }
+    requires high { (q : SectionPos) → near_at pages.old.entries q
+        + count_by (same_section q) (row_of section_at first.x (first.z +ℤ pos row) n) < 2 ^ 16 }
+    ensures near { (q : SectionPos) → near_at pages.new.entries q
+        + fall turn (count_by (same_section q) (row_of section_at first.x (first.z +ℤ pos row) n))
+        ≡ near_at pages.old.entries q + rise turn
+        (count_by (same_section q) (row_of section_at first.x (first.z +ℤ pos row) n)) }
     ensures here { (q : SectionPos) → is_here pages.new.entries q ≡ is_here pages.old.entries q }
-    ensures chunks { (q : SectionPos) → chunks_at pages.new.entries q ≡ chunks_at pages.old.entries q }
+    ensures chunks { (q : SectionPos) → chunks_at pages.new.entries q
+        ≡ chunks_at pages.old.entries q }
     ensures room { spare pages.new ≡ spare pages.old }
     ensures used { AllUsed pages.old.entries → AllUsed pages.new.entries }
 {
@@ -60,12 +69,17 @@ fn turn_row(pages: &mut Pages, first: SectionPos, row: u32, n: u32, turn: Turn)
 pub fn turn_square(pages: &mut Pages, s: SectionPos, radius: u8, turn: Turn)
     requires near { (nat_abs s.x ≤ 1000008) × (nat_abs s.z ≤ 1000008) }
     requires few { radius ≤ 8 }
-    requires here { (q : SectionPos) → IsTrue (is_within s radius q) → IsTrue (is_here pages.old.entries q) }
-    requires low { (q : SectionPos) → fall turn (cond (is_within s radius q) 1 0) ≤ near_at pages.old.entries q }
+    requires here { (q : SectionPos) → IsTrue (is_within s radius q)
+        → IsTrue (is_here pages.old.entries q) }
+    requires low { (q : SectionPos) → fall turn (cond (is_within s radius q) 1 0)
+        ≤ near_at pages.old.entries q }
     requires high { (q : SectionPos) → near_at pages.old.entries q ≤ 289 }
-    ensures near { (q : SectionPos) → near_at pages.new.entries q + fall turn (cond (is_within s radius q) 1 0) ≡ near_at pages.old.entries q + rise turn (cond (is_within s radius q) 1 0) }
+    ensures near { (q : SectionPos) → near_at pages.new.entries q
+        + fall turn (cond (is_within s radius q) 1 0)
+        ≡ near_at pages.old.entries q + rise turn (cond (is_within s radius q) 1 0) }
     ensures here { (q : SectionPos) → is_here pages.new.entries q ≡ is_here pages.old.entries q }
-    ensures chunks { (q : SectionPos) → chunks_at pages.new.entries q ≡ chunks_at pages.old.entries q }
+    ensures chunks { (q : SectionPos) → chunks_at pages.new.entries q
+        ≡ chunks_at pages.old.entries q }
     ensures room { spare pages.new ≡ spare pages.old }
     ensures used { AllUsed pages.old.entries → AllUsed pages.new.entries }
 {

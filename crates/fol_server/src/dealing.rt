@@ -19,7 +19,8 @@ pub fn next_seat(live: &Live, seats: &mut Vec<Seat>, number: u32) -> Seat
     requires low { number < 6 }
     requires left { AreFrom (IsNewSeat (live_id live.now)) number (6 - number) seats.old.items }
     ensures seat { IsNewSeat (live_id live.now) number result }
-    ensures left { AreFrom (IsNewSeat (live_id live.now)) (number + 1) (6 - (number + 1)) seats.new.items }
+    ensures left { AreFrom (IsNewSeat (live_id live.now)) (number + 1) (6 - (number + 1))
+        seats.new.items }
 {
     let _world = live;
     seats.remove(0)
@@ -30,7 +31,8 @@ pub fn next_page(book: &Book, pages: &mut Vec<BookSeat>, number: u32) -> BookSea
     requires low { number < 4 }
     requires left { AreFrom (IsNewPage (book_id book.now)) number (4 - number) pages.old.items }
     ensures page { IsNewPage (book_id book.now) number result }
-    ensures left { AreFrom (IsNewPage (book_id book.now)) (number + 1) (4 - (number + 1)) pages.new.items }
+    ensures left { AreFrom (IsNewPage (book_id book.now)) (number + 1) (4 - (number + 1))
+        pages.new.items }
 {
     let _all = book;
     pages.remove(0)
@@ -49,8 +51,10 @@ pub fn next_worker(
     requires pages { AreFrom (IsNewPage (book_id book.now)) number (4 - number) pages.old.items }
     ensures seat { IsNewSeat (live_id live.now) number result.seat }
     ensures page { IsNewPage (book_id book.now) number result.pages }
-    ensures seats { AreFrom (IsNewSeat (live_id live.now)) (number + 1) (6 - (number + 1)) seats.new.items }
-    ensures pages { AreFrom (IsNewPage (book_id book.now)) (number + 1) (4 - (number + 1)) pages.new.items }
+    ensures seats { AreFrom (IsNewSeat (live_id live.now)) (number + 1) (6 - (number + 1))
+        seats.new.items }
+    ensures pages { AreFrom (IsNewPage (book_id book.now)) (number + 1) (4 - (number + 1))
+        pages.new.items }
 {
     let seat = next_seat(live, seats, number);
     let pages = next_page(book, pages, number);

@@ -122,7 +122,8 @@ pub fn open<R: Wait>(rt: &R, alloc: Global) -> Result<Opened, GivesUp>
 /// Opens an inbox with one sender.
 fn open_inbox(alloc: Global, poster: Seat) -> Result<Mail, GivesUp>
     requires no_tick { is_busy poster.mine ≡ false }
-    ensures sender { IfOk result (λ m. (m.sender.inbox ≡ inbox_id m.inbox) × (m.sender.number ≡ 0)) }
+    ensures sender { IfOk result (λ m. (m.sender.inbox ≡ inbox_id m.inbox)
+        × (m.sender.number ≡ 0)) }
     ensures drainer { IfOk result (λ m. IsNewDrainer (inbox_id m.inbox) 1 poster m.drainer) }
 {
     let Ok(parts) = Inbox::start(alloc, poster, 1) else {

@@ -56,7 +56,8 @@ pub fn run<R: Threads + Wait + Sync>(
         ensures { IsSameReader reader.entry.now reader.exit.now }
     { watch(rt, reader) };
     let mut play = || -> Result<u32, GivesUp>
-        requires { IsWorkerOf server.now second.now × IsWorkerOf server.now third.now × IsLeadOf server.now lead.now × (sender.now.inbox ≡ inbox_id server.now.inbox) }
+        requires { IsWorkerOf server.now second.now × IsWorkerOf server.now third.now
+            × IsLeadOf server.now lead.now × (sender.now.inbox ≡ inbox_id server.now.inbox) }
         ensures second { IsSameWorker second.entry.now second.exit.now }
         ensures third { IsSameWorker third.entry.now third.exit.now }
         ensures lead { IsSameLead lead.entry.now lead.exit.now }

@@ -21,7 +21,8 @@ impl<T: Body> Slots<T> {
         requires keeper { keeper.old.slots ≡ slots_id self.now }
         requires holds { IsSome seat.slot }
         ensures word { WordIsOf T.fit keeper.old seat (held_slot seat) (Ticking seat.number) }
-        ensures found { (k : ℕ) → (place_at keeper.old (held_slot seat)).found ≡ Some k → k ≡ seat.number }
+        ensures found { (k : ℕ) → (place_at keeper.old (held_slot seat)).found ≡ Some k
+            → k ≡ seat.number }
         ensures not_kept { (place_at keeper.old (held_slot seat)).kept ≡ None }
         ensures claimed { seat.claimed ≡ (place_at keeper.old (held_slot seat)).offered }
         ensures seat { result ≡ seat }
@@ -44,7 +45,8 @@ impl<T: Body> Slots<T> {
         requires keeper { keeper.old.slots ≡ slots_id self.now }
         requires holds { IsSome seat.slot }
         ensures word { WordIsOf T.fit keeper.old seat (held_slot seat) (Ticking seat.number) }
-        ensures found { (k : ℕ) → (place_at keeper.old (held_slot seat)).found ≡ Some k → k ≡ seat.number }
+        ensures found { (k : ℕ) → (place_at keeper.old (held_slot seat)).found ≡ Some k
+            → k ≡ seat.number }
         ensures not_kept { (place_at keeper.old (held_slot seat)).kept ≡ None }
         ensures claimed { seat.claimed ≡ (place_at keeper.old (held_slot seat)).offered }
         ensures seat { result ≡ freed seat }

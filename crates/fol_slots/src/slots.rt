@@ -55,9 +55,11 @@ impl<T: Body> Slots<T> {
         requires bodies { (0 < vec_len bodies) × (vec_len bodies < 65536) }
         requires workers { workers ≤ 64 }
         ensures slots { IfOk result (λ made. slot_count made.slots ≡ vec_len bodies) }
-        ensures keeper { IfOk result (λ made. made.keeper ≡ new_keeper (slots_id made.slots) bodies.items) }
+        ensures keeper { IfOk result (λ made. made.keeper
+            ≡ new_keeper (slots_id made.slots) bodies.items) }
         ensures seats { IfOk result (λ made. AreNew (slots_id made.slots) workers made.seats) }
-        ensures words { IfOk result (λ made. (i : ℕ) → i < vec_len bodies → WordIs T.fit made.keeper i Kept) }
+        ensures words { IfOk result (λ made. (i : ℕ) → i < vec_len bodies
+            → WordIs T.fit made.keeper i Kept) }
     {
         let seats = Vec::with_capacity(alloc, workers as usize)?;
         let words = kept_words(alloc, bodies.len())?;
@@ -87,9 +89,11 @@ impl<T: Body> Slots<T> {
     ) -> (KeeperSeat<T>, Vec<WorkerSeat<T>>)
         requires some { 0 < slot_count self.now }
         requires workers { workers ≤ 64 }
-        requires first { (first.table_id ≡ slots_id self.now) × (first.me ≡ (first_view self.now.table.shared.key.bodies.value.items, [])) }
+        requires first { (first.table_id ≡ slots_id self.now)
+            × (first.me ≡ (first_view self.now.table.shared.key.bodies.value.items, [])) }
         requires room { (seats.items ≡ []) × (workers ≤ vec_capacity seats) }
-        ensures keeper { result.0 ≡ new_keeper (slots_id self.now) self.now.table.shared.key.bodies.value.items }
+        ensures keeper { result.0
+            ≡ new_keeper (slots_id self.now) self.now.table.shared.key.bodies.value.items }
         ensures seats { AreNew (slots_id self.now) workers result.1.items }
         ensures words { (i : ℕ) → i < slot_count self.now → WordIs T.fit result.0 i Kept }
     {

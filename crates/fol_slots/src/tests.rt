@@ -29,7 +29,8 @@ fn claim_and_take_in(
     mut second: WorkerSeat<Number>,
 ) -> Option<(u64, u64)>
     requires some { 0 < slot_count slots.now }
-    requires keeper { (keeper.old.slots ≡ slots_id slots.now) × IsSome (place_at keeper.old 0).kept }
+    requires keeper { (keeper.old.slots ≡ slots_id slots.now)
+        × IsSome (place_at keeper.old 0).kept }
     requires first { (first.slots ≡ slots_id slots.now) × (first.slot ≡ None) }
     requires second { (second.slots ≡ slots_id slots.now) × (second.slot ≡ None) }
 {
@@ -75,7 +76,8 @@ fn one_body_and_two_workers(rt: HostRuntime) -> Result<(), Fail> {
 /// The keeper keeps a slot again that nobody claimed. Gives its body.
 fn offer_and_keep(slots: &Slots<Number>, keeper: &mut KeeperSeat<Number>) -> Option<u64>
     requires some { 0 < slot_count slots.now }
-    requires keeper { (keeper.old.slots ≡ slots_id slots.now) × IsSome (place_at keeper.old 0).kept }
+    requires keeper { (keeper.old.slots ≡ slots_id slots.now)
+        × IsSome (place_at keeper.old 0).kept }
 {
     slots.offer(keeper, 0);
     let Keep::Kept = slots.try_keep(keeper, 0) else {
@@ -143,10 +145,12 @@ fn claim_from_both<R: Threads>(
     join(
         rt,
         move || -> u64
-            requires { (slot_count slots.now ≡ COUNT) × All (λ s. (s.slots ≡ slots_id slots.now) × (s.slot ≡ None)) first.items }
+            requires { (slot_count slots.now ≡ COUNT)
+                × All (λ s. (s.slots ≡ slots_id slots.now) × (s.slot ≡ None)) first.items }
         { claim_from_each(slots, first) },
         move || -> u64
-            requires { (slot_count slots.now ≡ COUNT) × All (λ s. (s.slots ≡ slots_id slots.now) × (s.slot ≡ None)) second.items }
+            requires { (slot_count slots.now ≡ COUNT)
+                × All (λ s. (s.slots ≡ slots_id slots.now) × (s.slot ≡ None)) second.items }
         { claim_from_each(slots, second) },
     )
 }

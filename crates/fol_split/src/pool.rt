@@ -72,7 +72,8 @@ impl Pool {
         ensures bound { result ≤ length self.now.order }
         ensures distinct { IsDistinct same_section self.now.found }
         ensures few { length self.now.order ≤ MOST_SECTIONS }
-        ensures within { (s : SectionPos) → IsTrue (is_among self.now.found s) → IsTrue (is_among self.now.order s) }
+        ensures within { (s : SectionPos) → IsTrue (is_among self.now.found s)
+            → IsTrue (is_among self.now.order s) }
     {
         self.found.len()
     }
@@ -158,7 +159,8 @@ impl Pool {
         requires apart { IsApart self.old merge }
         requires in_range { All (λ s. IsTrue (is_section s)) self.old.order }
         requires reach { merge ≤ 4 }
-        ensures class { TakesClass self.old self.new merge first (drop (length self.old.found) self.new.found) }
+        ensures class { TakesClass self.old self.new merge first
+            (drop (length self.old.found) self.new.found) }
         ensures apart { IsApart self.new merge }
     {
         let mut next = self.taken();
@@ -182,7 +184,8 @@ impl Pool {
 /// Whether a section is free; it is not free from then on.
 fn take_free(free: &mut HashMap<(i32, i32), bool>, s: SectionPos) -> bool
     ensures was { result ≡ is_free free.old.entries s }
-    ensures after { (t : SectionPos) → is_free free.new.entries t ≡ (is_free free.old.entries t && not (same_section s t)) }
+    ensures after { (t : SectionPos) → is_free free.new.entries t
+        ≡ (is_free free.old.entries t && not (same_section s t)) }
     ensures room { hash_map_len free.new + spare free.new ≡ hash_map_len free.old + spare free.old }
 {
     match free.get_mut(&(s.x, s.z)) {
@@ -211,7 +214,8 @@ fn sort_tail(sections: &mut Vec<SectionPos>, start: usize)
 
 /// Makes none of the sections free.
 fn take_all(free: &mut HashMap<(i32, i32), bool>, sections: &[SectionPos])
-    ensures after { (t : SectionPos) → is_free free.new.entries t ≡ (is_free free.old.entries t && not (is_among sections.now t)) }
+    ensures after { (t : SectionPos) → is_free free.new.entries t
+        ≡ (is_free free.old.entries t && not (is_among sections.now t)) }
     ensures room { hash_map_len free.new + spare free.new ≡ hash_map_len free.old + spare free.old }
 {
     for s in sections {
@@ -235,7 +239,8 @@ fn make_room(free: &mut HashMap<(i32, i32), bool>, more: usize)
 /// Makes a section free.
 fn free_one(free: &mut HashMap<(i32, i32), bool>, s: SectionPos)
     requires { 0 < spare free.old }
-    ensures free { (t : SectionPos) → is_free free.new.entries t ≡ (is_free free.old.entries t || same_section s t) }
+    ensures free { (t : SectionPos) → is_free free.new.entries t
+        ≡ (is_free free.old.entries t || same_section s t) }
     ensures room { spare free.old ≤ spare free.new + 1 }
     ensures most { hash_map_len free.old + spare free.old ≤ hash_map_len free.new + spare free.new }
 {

@@ -111,7 +111,8 @@ fn split(pool: &mut Pool, spans: &mut Vec<Span>, merge: u8)
 fn take_part(pool: &mut Pool, spans: &mut Vec<Span>, merge: u8, i: usize)
     requires before { IsSplit pool.old spans.old.items merge i }
     requires in_place { i < length pool.old.order }
-    requires left { IsTrue (is_left pool.old (slice_index_or pool.old.order i (record { x = pos 0; z = pos 0 }))) }
+    requires left { IsTrue
+        (is_left pool.old (slice_index_or pool.old.order i (record { x = pos 0; z = pos 0 }))) }
     requires in_order { IsStrictlySortedBy section_cmp pool.old.order }
     requires in_range { All (λ s. IsTrue (is_section s)) pool.old.order }
     requires room { MOST_SECTIONS ≤ vec_capacity spans.old }

@@ -17,7 +17,10 @@ use std::mem;
 /// Where the chunk stands in the list, or where it would stand.
 pub fn place_of(chunks: &[ChunkPos], c: ChunkPos) -> Result<usize, usize>
     requires { IsStrictlySortedBy chunk_cmp chunks.now }
-    ensures { MatchResult result (λ i. (i < length chunks.now) × ((d : ChunkPos) → slice_index_or chunks.now i d ≡ c)) (λ i. (i ≤ length chunks.now) × IsPartitionPoint (λ q. chunk_cmp q c ≡ Less) (λ q. chunk_cmp q c ≡ Greater) chunks.now i) }
+    ensures { MatchResult result (λ i. (i < length chunks.now)
+        × ((d : ChunkPos) → slice_index_or chunks.now i d ≡ c)) (λ i. (i ≤ length chunks.now)
+        × IsPartitionPoint (λ q. chunk_cmp q c ≡ Less) (λ q. chunk_cmp q c ≡ Greater) chunks.now
+        i) }
 {
     chunks.binary_search_by(|chunk| compare_chunks(*chunk, c))
 }
@@ -69,7 +72,8 @@ pub fn union(
 ) -> Result<Vec<ChunkPos>, AllocError>
     requires order { IsStrictlySortedBy chunk_cmp chunks.now }
     requires others_order { IsStrictlySortedBy chunk_cmp others.now }
-    requires apart { (q : ChunkPos) → is_recorded others.now q ≡ true → is_recorded chunks.now q ≡ false }
+    requires apart { (q : ChunkPos) → is_recorded others.now q ≡ true
+        → is_recorded chunks.now q ≡ false }
     ensures { IfOk result (λ list. IsUnion chunks.now others.now list.items) }
 {
     let mut list = Vec::with_capacity(alloc, chunks.len() + others.len())?;

@@ -49,7 +49,8 @@ pub fn has_bag(place: Place, id: usize) -> bool
 
 /// Sets the place at these coordinates.
 fn put(rows: &mut Rows, x: i32, z: i32, place: Place) -> Result<(), AllocError>
-    ensures ok { OnOk result ((a b : ℤ) → known_place rows.new.entries a b ≡ (if (int_eq x a && int_eq z b) then Some place else known_place rows.old.entries a b)) }
+    ensures ok { OnOk result ((a b : ℤ) → known_place rows.new.entries a b
+        ≡ (if (int_eq x a && int_eq z b) then Some place else known_place rows.old.entries a b)) }
     ensures err { OnErr result (rows.new.entries ≡ rows.old.entries) }
     ensures unknown { OnErr result (known_place rows.old.entries x z ≡ None) }
 {
@@ -95,7 +96,8 @@ impl Places {
 
     /// Sets the place of a chunk. No memory is taken for a chunk that has a place.
     pub fn set(&mut self, c: ChunkPos, place: Place) -> Result<(), AllocError>
-        ensures ok { OnOk result ((q : ChunkPos) → place_at self.new q ≡ (if same_chunk c q then place else place_at self.old q)) }
+        ensures ok { OnOk result ((q : ChunkPos)
+            → place_at self.new q ≡ (if same_chunk c q then place else place_at self.old q)) }
         ensures err { OnErr result ((q : ChunkPos) → place_at self.new q ≡ place_at self.old q) }
         ensures unknown { OnErr result (place_at self.old c ≡ nowhere) }
     {
@@ -105,7 +107,9 @@ impl Places {
     /// Takes the bag away from a chunk that has one. Takes no memory.
     pub fn unname(&mut self, c: ChunkPos)
         requires { place_at self.old c ≡ nowhere → ⊥ }
-        ensures { (q : ChunkPos) → place_at self.new q ≡ (if same_chunk c q then record (place_at self.old c) { bag = None } else place_at self.old q) }
+        ensures { (q : ChunkPos) → place_at self.new q
+            ≡ (if same_chunk c q then record (place_at self.old c) { bag = None }
+            else place_at self.old q) }
     {
         let place = self.at(c);
         let unnamed = Place {
@@ -120,7 +124,8 @@ impl Places {
 
     /// Names another bag at those of the chunks that have the bag `from`.
     pub fn rehome(&mut self, chunks: &[ChunkPos], from: usize, to: usize)
-        ensures { (q : ChunkPos) → place_at self.new q ≡ rehomed chunks.now from to q (place_at self.old q) }
+        ensures { (q : ChunkPos) → place_at self.new q
+            ≡ rehomed chunks.now from to q (place_at self.old q) }
     {
         for c in chunks {
             self.rehome_one(*c, from, to);
@@ -129,7 +134,9 @@ impl Places {
 
     /// Names another bag at the chunk, if it has the bag `from`.
     fn rehome_one(&mut self, c: ChunkPos, from: usize, to: usize)
-        ensures { (q : ChunkPos) → place_at self.new q ≡ (if (same_chunk c q && is_bag from (place_at self.old q)) then record (place_at self.old q) { bag = Some to } else place_at self.old q) }
+        ensures { (q : ChunkPos) → place_at self.new q
+            ≡ (if (same_chunk c q && is_bag from (place_at self.old q))
+            then record (place_at self.old q) { bag = Some to } else place_at self.old q) }
     {
         let place = self.at(c);
         if has_bag(place, from) {

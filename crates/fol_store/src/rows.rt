@@ -34,9 +34,13 @@ pub fn list(
     requires arrivals_timely { All (IsInTime 0) arrivals.items }
     requires spots_timely { All IsTimely spots.items }
     requires bags_timely { All (λ b. IsTimely b.body) bags.items }
-    ensures blocks { IfOk result (λ r. r.blocks.items ≡ flat_map blocks_of spots.items ++ flat_map (λ b. blocks_of b.body) bags.items) }
-    ensures entities { IfOk result (λ r. r.entities.items ≡ flat_map entities_of spots.items ++ flat_map (λ b. entities_of b.body) bags.items) }
-    ensures tasks { IfOk result (λ r. r.tasks.items ≡ (map (row_of 0) arrivals.items ++ flat_map tasks_of spots.items) ++ flat_map (λ b. tasks_of b.body) bags.items) }
+    ensures blocks { IfOk result (λ r. r.blocks.items
+        ≡ flat_map blocks_of spots.items ++ flat_map (λ b. blocks_of b.body) bags.items) }
+    ensures entities { IfOk result (λ r. r.entities.items ≡ flat_map entities_of spots.items
+        ++ flat_map (λ b. entities_of b.body) bags.items) }
+    ensures tasks { IfOk result (λ r. r.tasks.items
+        ≡ (map (row_of 0) arrivals.items ++ flat_map tasks_of spots.items)
+        ++ flat_map (λ b. tasks_of b.body) bags.items) }
     ensures spots_listed { IfOk result (λ r. All IsListed spots.items) }
     ensures bags_listed { IfOk result (λ r. All (λ b. IsListed b.body) bags.items) }
 {
@@ -63,9 +67,12 @@ pub fn list(
 /// Adds what lies in the spots.
 fn add_spots(rows: &mut Rows, spots: Vec<RegionData>) -> Result<(), AllocError>
     requires { All IsTimely spots.items }
-    ensures blocks { OnOk result (rows.new.blocks.items ≡ rows.old.blocks.items ++ flat_map blocks_of spots.items) }
-    ensures entities { OnOk result (rows.new.entities.items ≡ rows.old.entities.items ++ flat_map entities_of spots.items) }
-    ensures tasks { OnOk result (rows.new.tasks.items ≡ rows.old.tasks.items ++ flat_map tasks_of spots.items) }
+    ensures blocks { OnOk result (rows.new.blocks.items
+        ≡ rows.old.blocks.items ++ flat_map blocks_of spots.items) }
+    ensures entities { OnOk result (rows.new.entities.items
+        ≡ rows.old.entities.items ++ flat_map entities_of spots.items) }
+    ensures tasks { OnOk result (rows.new.tasks.items
+        ≡ rows.old.tasks.items ++ flat_map tasks_of spots.items) }
     ensures listed { OnOk result (All IsListed spots.items) }
 {
     for spot in spots {
@@ -80,9 +87,12 @@ fn add_spots(rows: &mut Rows, spots: Vec<RegionData>) -> Result<(), AllocError>
 /// Adds what lies in the bags.
 fn add_bags(rows: &mut Rows, bags: Vec<Slot>) -> Result<(), AllocError>
     requires { All (λ b. IsTimely b.body) bags.items }
-    ensures blocks { OnOk result (rows.new.blocks.items ≡ rows.old.blocks.items ++ flat_map (λ b. blocks_of b.body) bags.items) }
-    ensures entities { OnOk result (rows.new.entities.items ≡ rows.old.entities.items ++ flat_map (λ b. entities_of b.body) bags.items) }
-    ensures tasks { OnOk result (rows.new.tasks.items ≡ rows.old.tasks.items ++ flat_map (λ b. tasks_of b.body) bags.items) }
+    ensures blocks { OnOk result (rows.new.blocks.items
+        ≡ rows.old.blocks.items ++ flat_map (λ b. blocks_of b.body) bags.items) }
+    ensures entities { OnOk result (rows.new.entities.items
+        ≡ rows.old.entities.items ++ flat_map (λ b. entities_of b.body) bags.items) }
+    ensures tasks { OnOk result (rows.new.tasks.items
+        ≡ rows.old.tasks.items ++ flat_map (λ b. tasks_of b.body) bags.items) }
     ensures listed { OnOk result (All (λ b. IsListed b.body) bags.items) }
 {
     for bag in bags {
@@ -105,7 +115,8 @@ fn body_of(bag: Slot) -> RegionData
 fn add_body(rows: &mut Rows, body: RegionData) -> Result<(), AllocError>
     requires { IsTimely body }
     ensures blocks { OnOk result (rows.new.blocks.items ≡ rows.old.blocks.items ++ blocks_of body) }
-    ensures entities { OnOk result (rows.new.entities.items ≡ rows.old.entities.items ++ entities_of body) }
+    ensures entities { OnOk result (rows.new.entities.items
+        ≡ rows.old.entities.items ++ entities_of body) }
     ensures tasks { OnOk result (rows.new.tasks.items ≡ rows.old.tasks.items ++ tasks_of body) }
     ensures listed { OnOk result (IsListed body) }
 {

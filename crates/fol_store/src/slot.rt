@@ -40,11 +40,17 @@ impl Slot {
         requires order { IsStrictlySortedBy chunk_cmp self.old.chunks }
         requires handed { self.old.handed ≡ self.old.chunks }
         ensures order { OnOk result (IsStrictlySortedBy chunk_cmp self.new.chunks) }
-        ensures has { OnOk result ((q : ChunkPos) → is_recorded self.new.chunks q ≡ (is_recorded self.old.chunks q || same_chunk c q)) }
+        ensures has { OnOk result ((q : ChunkPos)
+            → is_recorded self.new.chunks q ≡ (is_recorded self.old.chunks q || same_chunk c q)) }
         ensures handed { OnOk result (self.new.handed ≡ self.new.chunks) }
         ensures noted { OnOk result (self.new.touched ≡ self.old.touched ++ c ∷ []) }
-        ensures kept { (q : ChunkPos) → is_recorded self.old.chunks q ≡ true → is_recorded self.new.chunks q ≡ true }
-        ensures rest { self.new ≡ record self.old { chunks = self.new.chunks; handed = self.new.handed; touched = self.new.touched } }
+        ensures kept { (q : ChunkPos) → is_recorded self.old.chunks q ≡ true
+            → is_recorded self.new.chunks q ≡ true }
+        ensures rest { self.new ≡ record self.old {
+          chunks = self.new.chunks;
+          handed = self.new.handed;
+          touched = self.new.touched;
+        } }
     {
         match self.widen(alloc, c) {
             Ok(()) => note(&mut self.touched, c),
@@ -57,10 +63,15 @@ impl Slot {
         requires order { IsStrictlySortedBy chunk_cmp self.old.chunks }
         requires handed { self.old.handed ≡ self.old.chunks }
         ensures order { OnOk result (IsStrictlySortedBy chunk_cmp self.new.chunks) }
-        ensures has { OnOk result ((q : ChunkPos) → is_recorded self.new.chunks q ≡ (is_recorded self.old.chunks q || same_chunk c q)) }
+        ensures has { OnOk result ((q : ChunkPos)
+            → is_recorded self.new.chunks q ≡ (is_recorded self.old.chunks q || same_chunk c q)) }
         ensures handed { OnOk result (self.new.handed ≡ self.new.chunks) }
-        ensures kept { (q : ChunkPos) → is_recorded self.old.chunks q ≡ true → is_recorded self.new.chunks q ≡ true }
-        ensures rest { self.new ≡ record self.old { chunks = self.new.chunks; handed = self.new.handed } }
+        ensures kept { (q : ChunkPos) → is_recorded self.old.chunks q ≡ true
+            → is_recorded self.new.chunks q ≡ true }
+        ensures rest { self.new ≡ record self.old {
+          chunks = self.new.chunks;
+          handed = self.new.handed;
+        } }
     {
         match members::place_of(self.chunks.as_slice(), c) {
             Ok(_) => Ok(()),
@@ -74,8 +85,12 @@ impl Slot {
         requires handed { self.old.handed ≡ self.old.chunks }
         ensures chunks { OnOk result (self.new.chunks ≡ insert self.old.chunks i c) }
         ensures handed { OnOk result (self.new.handed ≡ insert self.old.chunks i c) }
-        ensures kept { (self.new.chunks ≡ self.old.chunks) ⊎ (self.new.chunks ≡ insert self.old.chunks i c) }
-        ensures rest { self.new ≡ record self.old { chunks = self.new.chunks; handed = self.new.handed } }
+        ensures kept { (self.new.chunks ≡ self.old.chunks)
+            ⊎ (self.new.chunks ≡ insert self.old.chunks i c) }
+        ensures rest { self.new ≡ record self.old {
+          chunks = self.new.chunks;
+          handed = self.new.handed;
+        } }
     {
         match members::insert(alloc, &mut self.chunks, i, c) {
             Ok(()) => members::insert(alloc, &mut self.handed, i, c),
@@ -88,9 +103,13 @@ impl Slot {
         requires order { IsStrictlySortedBy chunk_cmp self.old.chunks }
         requires handed { self.old.handed ≡ self.old.chunks }
         ensures order { IsStrictlySortedBy chunk_cmp self.new.chunks }
-        ensures has { (q : ChunkPos) → is_recorded self.new.chunks q ≡ (is_recorded self.old.chunks q && not (same_chunk c q)) }
+        ensures has { (q : ChunkPos) → is_recorded self.new.chunks q
+            ≡ (is_recorded self.old.chunks q && not (same_chunk c q)) }
         ensures handed { self.new.handed ≡ self.new.chunks }
-        ensures rest { self.new ≡ record self.old { chunks = self.new.chunks; handed = self.new.handed } }
+        ensures rest { self.new ≡ record self.old {
+          chunks = self.new.chunks;
+          handed = self.new.handed;
+        } }
     {
         match members::place_of(self.chunks.as_slice(), c) {
             Ok(i) => {

@@ -34,7 +34,9 @@ pub struct Reopened {
 /// Says that a bag has to be gathered anew.
 pub fn unlist(bags: &mut Vec<Slot>, id: usize)
     requires { id < vec_len bags.old }
-    ensures slots { (u : ℕ) → slot_in bags.new.items u ≡ (if nat_eq id u then record (slot_in bags.old.items id) { listed = false } else slot_in bags.old.items u) }
+    ensures slots { (u : ℕ) → slot_in bags.new.items u
+        ≡ (if nat_eq id u then record (slot_in bags.old.items id) { listed = false }
+        else slot_in bags.old.items u) }
     ensures len { vec_len bags.new ≡ vec_len bags.old }
     ensures capacity { vec_capacity bags.new ≡ vec_capacity bags.old }
 {
@@ -45,7 +47,11 @@ pub fn unlist(bags: &mut Vec<Slot>, id: usize)
 /// Sets how many ticks a region owes.
 pub fn set_owed(bags: &mut Vec<Slot>, id: usize, owed: u32)
     requires { id < vec_len bags.old }
-    ensures slots { (u : ℕ) → slot_in bags.new.items u ≡ (if nat_eq id u then record (slot_in bags.old.items id) { body = record (slot_in bags.old.items id).body { owed = owed } } else slot_in bags.old.items u) }
+    ensures slots { (u : ℕ) → slot_in bags.new.items u
+        ≡ (if nat_eq id u
+        then record (slot_in bags.old.items id)
+        { body = record (slot_in bags.old.items id).body { owed = owed } }
+        else slot_in bags.old.items u) }
     ensures len { vec_len bags.new ≡ vec_len bags.old }
     ensures capacity { vec_capacity bags.new ≡ vec_capacity bags.old }
 {
@@ -56,7 +62,18 @@ pub fn set_owed(bags: &mut Vec<Slot>, id: usize, owed: u32)
 /// Closes a bag; what lies in it stays in it.
 pub fn close(alloc: Global, bags: &mut Vec<Slot>, id: usize)
     requires { id < vec_len bags.old }
-    ensures slots { (u : ℕ) → slot_in bags.new.items u ≡ (if nat_eq id u then record { body = (slot_in bags.old.items id).body; here = false; taken = false; listed = false; calm = false; chunks = []; handed = []; touched = [] } else slot_in bags.old.items u) }
+    ensures slots { (u : ℕ) → slot_in bags.new.items u
+        ≡ (if nat_eq id u then record {
+          body = (slot_in bags.old.items id).body;
+          here = false;
+          taken = false;
+          listed = false;
+          calm = false;
+          chunks = [];
+          handed = [];
+          touched = [];
+        }
+        else slot_in bags.old.items u) }
     ensures len { vec_len bags.new ≡ vec_len bags.old }
     ensures capacity { vec_capacity bags.new ≡ vec_capacity bags.old }
 {
@@ -73,7 +90,11 @@ pub fn close(alloc: Global, bags: &mut Vec<Slot>, id: usize)
 /// Gives a bag other chunks.
 pub fn relist(bags: &mut Vec<Slot>, id: usize, chunks: Vec<ChunkPos>)
     requires { id < vec_len bags.old }
-    ensures slots { (u : ℕ) → slot_in bags.new.items u ≡ (if nat_eq id u then record (slot_in bags.old.items id) { listed = false; chunks = chunks.items } else slot_in bags.old.items u) }
+    ensures slots { (u : ℕ) → slot_in bags.new.items u
+        ≡ (if nat_eq id u then record (slot_in bags.old.items id) {
+          listed = false;
+          chunks = chunks.items;
+        } else slot_in bags.old.items u) }
     ensures len { vec_len bags.new ≡ vec_len bags.old }
     ensures capacity { vec_capacity bags.new ≡ vec_capacity bags.old }
 {
@@ -85,7 +106,13 @@ pub fn relist(bags: &mut Vec<Slot>, id: usize, chunks: Vec<ChunkPos>)
 /// Says that all that lies on the chunks of a bag lies in it, and gives it the list to be handed out.
 pub fn finish(alloc: Global, bags: &mut Vec<Slot>, id: usize, handed: Vec<ChunkPos>)
     requires { id < vec_len bags.old }
-    ensures slots { (u : ℕ) → slot_in bags.new.items u ≡ (if nat_eq id u then record (slot_in bags.old.items id) { listed = true; calm = true; handed = handed.items; touched = [] } else slot_in bags.old.items u) }
+    ensures slots { (u : ℕ) → slot_in bags.new.items u
+        ≡ (if nat_eq id u then record (slot_in bags.old.items id) {
+          listed = true;
+          calm = true;
+          handed = handed.items;
+          touched = [];
+        } else slot_in bags.old.items u) }
     ensures len { vec_len bags.new ≡ vec_len bags.old }
     ensures capacity { vec_capacity bags.new ≡ vec_capacity bags.old }
 {
@@ -99,7 +126,10 @@ pub fn finish(alloc: Global, bags: &mut Vec<Slot>, id: usize, handed: Vec<ChunkP
 /// A listed bag that the place names is calm no more.
 pub fn disturb(bags: &mut Vec<Slot>, place: Place)
     requires { (id : ℕ) → place.bag ≡ Some id → id < vec_len bags.old }
-    ensures slots { (u : ℕ) → slot_in bags.new.items u ≡ (if is_bag u place then record (slot_in bags.old.items u) { calm = stays_calm (slot_in bags.old.items u) } else slot_in bags.old.items u) }
+    ensures slots { (u : ℕ) → slot_in bags.new.items u
+        ≡ (if is_bag u place
+        then record (slot_in bags.old.items u) { calm = stays_calm (slot_in bags.old.items u) }
+        else slot_in bags.old.items u) }
     ensures len { vec_len bags.new ≡ vec_len bags.old }
     ensures capacity { vec_capacity bags.new ≡ vec_capacity bags.old }
 {
@@ -112,7 +142,10 @@ pub fn disturb(bags: &mut Vec<Slot>, place: Place)
 /// A listed bag is calm no more.
 fn disturb_bag(bags: &mut Vec<Slot>, id: usize)
     requires { id < vec_len bags.old }
-    ensures slots { (u : ℕ) → slot_in bags.new.items u ≡ (if nat_eq id u then record (slot_in bags.old.items id) { calm = stays_calm (slot_in bags.old.items id) } else slot_in bags.old.items u) }
+    ensures slots { (u : ℕ) → slot_in bags.new.items u
+        ≡ (if nat_eq id u
+        then record (slot_in bags.old.items id) { calm = stays_calm (slot_in bags.old.items id) }
+        else slot_in bags.old.items u) }
     ensures len { vec_len bags.new ≡ vec_len bags.old }
     ensures capacity { vec_capacity bags.new ≡ vec_capacity bags.old }
 {
@@ -139,9 +172,14 @@ pub fn is_stirred(bags: &[Slot], id: usize) -> bool
 /// Notes that tasks may lie in the spot of a chunk of a bag. If memory runs out, nothing is noted.
 pub fn touch(alloc: Global, bags: &mut Vec<Slot>, id: usize, c: ChunkPos) -> Result<(), AllocError>
     requires { id < vec_len bags.old }
-    ensures noted { OnOk result ((slot_in bags.new.items id).touched ≡ (slot_in bags.old.items id).touched ++ c ∷ []) }
-    ensures err { OnErr result ((slot_in bags.new.items id).touched ≡ (slot_in bags.old.items id).touched) }
-    ensures slots { (u : ℕ) → slot_in bags.new.items u ≡ (if nat_eq id u then record (slot_in bags.old.items id) { touched = (slot_in bags.new.items id).touched } else slot_in bags.old.items u) }
+    ensures noted { OnOk result ((slot_in bags.new.items id).touched
+        ≡ (slot_in bags.old.items id).touched ++ c ∷ []) }
+    ensures err { OnErr result ((slot_in bags.new.items id).touched
+        ≡ (slot_in bags.old.items id).touched) }
+    ensures slots { (u : ℕ) → slot_in bags.new.items u
+        ≡ (if nat_eq id u
+        then record (slot_in bags.old.items id) { touched = (slot_in bags.new.items id).touched }
+        else slot_in bags.old.items u) }
     ensures len { vec_len bags.new ≡ vec_len bags.old }
     ensures capacity { vec_capacity bags.new ≡ vec_capacity bags.old }
 {
@@ -168,7 +206,12 @@ pub fn reopen(alloc: Global, bags: &mut Vec<Slot>, id: usize) -> Reopened
     requires { id < vec_len bags.old }
     ensures touched { result.touched.items ≡ (slot_in bags.old.items id).touched }
     ensures handed { result.chunks.items ≡ (slot_in bags.old.items id).handed }
-    ensures slots { (u : ℕ) → slot_in bags.new.items u ≡ (if nat_eq id u then record (slot_in bags.old.items id) { listed = false; handed = []; touched = [] } else slot_in bags.old.items u) }
+    ensures slots { (u : ℕ) → slot_in bags.new.items u
+        ≡ (if nat_eq id u then record (slot_in bags.old.items id) {
+          listed = false;
+          handed = [];
+          touched = [];
+        } else slot_in bags.old.items u) }
     ensures len { vec_len bags.new ≡ vec_len bags.old }
     ensures capacity { vec_capacity bags.new ≡ vec_capacity bags.old }
 {
@@ -197,13 +240,27 @@ pub fn admit(alloc: Global, bags: &mut Vec<Slot>, id: usize, c: ChunkPos) -> Res
     requires order { IsStrictlySortedBy chunk_cmp (slot_in bags.old.items id).chunks }
     requires handed { (slot_in bags.old.items id).handed ≡ (slot_in bags.old.items id).chunks }
     ensures order { OnOk result (IsStrictlySortedBy chunk_cmp (slot_in bags.new.items id).chunks) }
-    ensures has { OnOk result ((q : ChunkPos) → is_recorded (slot_in bags.new.items id).chunks q ≡ (is_recorded (slot_in bags.old.items id).chunks q || same_chunk c q)) }
-    ensures handed { OnOk result ((slot_in bags.new.items id).handed ≡ (slot_in bags.new.items id).chunks) }
-    ensures noted { OnOk result ((slot_in bags.new.items id).touched ≡ (slot_in bags.old.items id).touched ++ c ∷ []) }
-    ensures listed { OnOk result ((slot_in bags.new.items id).listed ≡ (slot_in bags.old.items id).listed) }
-    ensures kept { (q : ChunkPos) → is_recorded (slot_in bags.old.items id).chunks q ≡ true → is_recorded (slot_in bags.new.items id).chunks q ≡ true }
+    ensures has { OnOk result ((q : ChunkPos) → is_recorded (slot_in bags.new.items id).chunks q
+        ≡ (is_recorded (slot_in bags.old.items id).chunks q || same_chunk c q)) }
+    ensures handed { OnOk result ((slot_in bags.new.items id).handed
+        ≡ (slot_in bags.new.items id).chunks) }
+    ensures noted { OnOk result ((slot_in bags.new.items id).touched
+        ≡ (slot_in bags.old.items id).touched ++ c ∷ []) }
+    ensures listed { OnOk result ((slot_in bags.new.items id).listed
+        ≡ (slot_in bags.old.items id).listed) }
+    ensures kept { (q : ChunkPos) → is_recorded (slot_in bags.old.items id).chunks q ≡ true
+        → is_recorded (slot_in bags.new.items id).chunks q ≡ true }
     ensures unlisted { OnErr result ((slot_in bags.new.items id).listed ≡ false) }
-    ensures slots { (u : ℕ) → slot_in bags.new.items u ≡ (if nat_eq id u then record (slot_in bags.old.items id) { listed = (slot_in bags.new.items id).listed; calm = false; chunks = (slot_in bags.new.items id).chunks; handed = (slot_in bags.new.items id).handed; touched = (slot_in bags.new.items id).touched } else slot_in bags.old.items u) }
+    ensures slots { (u : ℕ) → slot_in bags.new.items u
+        ≡ (if nat_eq id u
+        then record (slot_in bags.old.items id) {
+          listed = (slot_in bags.new.items id).listed;
+          calm = false;
+          chunks = (slot_in bags.new.items id).chunks;
+          handed = (slot_in bags.new.items id).handed;
+          touched = (slot_in bags.new.items id).touched;
+        }
+        else slot_in bags.old.items u) }
     ensures len { vec_len bags.new ≡ vec_len bags.old }
     ensures capacity { vec_capacity bags.new ≡ vec_capacity bags.old }
 {
@@ -220,9 +277,15 @@ pub fn dismiss(alloc: Global, bags: &mut Vec<Slot>, id: usize, c: ChunkPos)
     requires order { IsStrictlySortedBy chunk_cmp (slot_in bags.old.items id).chunks }
     requires handed { (slot_in bags.old.items id).handed ≡ (slot_in bags.old.items id).chunks }
     ensures order { IsStrictlySortedBy chunk_cmp (slot_in bags.new.items id).chunks }
-    ensures has { (q : ChunkPos) → is_recorded (slot_in bags.new.items id).chunks q ≡ (is_recorded (slot_in bags.old.items id).chunks q && not (same_chunk c q)) }
+    ensures has { (q : ChunkPos) → is_recorded (slot_in bags.new.items id).chunks q
+        ≡ (is_recorded (slot_in bags.old.items id).chunks q && not (same_chunk c q)) }
     ensures handed { (slot_in bags.new.items id).handed ≡ (slot_in bags.new.items id).chunks }
-    ensures slots { (u : ℕ) → slot_in bags.new.items u ≡ (if nat_eq id u then record (slot_in bags.old.items id) { chunks = (slot_in bags.new.items id).chunks; handed = (slot_in bags.new.items id).handed } else slot_in bags.old.items u) }
+    ensures slots { (u : ℕ) → slot_in bags.new.items u
+        ≡ (if nat_eq id u
+        then record (slot_in bags.old.items id) {
+          chunks = (slot_in bags.new.items id).chunks;
+          handed = (slot_in bags.new.items id).handed;
+        } else slot_in bags.old.items u) }
     ensures len { vec_len bags.new ≡ vec_len bags.old }
     ensures capacity { vec_capacity bags.new ≡ vec_capacity bags.old }
 {
@@ -233,9 +296,22 @@ pub fn dismiss(alloc: Global, bags: &mut Vec<Slot>, id: usize, c: ChunkPos)
 /// Adds an empty bag.
 pub fn open(alloc: Global, bags: &mut Vec<Slot>, tick: u64, owed: u32)
     requires { vec_len bags.old < vec_capacity bags.old }
-    ensures body { SameThings (record no_data { tick = tick; owed = owed }) (slot_in bags.new.items (vec_len bags.old)).body }
+    ensures body { SameThings (record no_data { tick = tick; owed = owed })
+        (slot_in bags.new.items (vec_len bags.old)).body }
     ensures tasks { (slot_in bags.new.items (vec_len bags.old)).body.queues.tasks ≡ [] }
-    ensures slots { (u : ℕ) → slot_in bags.new.items u ≡ (if nat_eq (vec_len bags.old) u then record { body = (slot_in bags.new.items (vec_len bags.old)).body; here = true; taken = false; listed = true; calm = true; chunks = []; handed = []; touched = [] } else slot_in bags.old.items u) }
+    ensures slots { (u : ℕ) → slot_in bags.new.items u
+        ≡ (if nat_eq (vec_len bags.old) u
+        then record {
+          body = (slot_in bags.new.items (vec_len bags.old)).body;
+          here = true;
+          taken = false;
+          listed = true;
+          calm = true;
+          chunks = [];
+          handed = [];
+          touched = [];
+        }
+        else slot_in bags.old.items u) }
     ensures len { vec_len bags.new ≡ vec_len bags.old + 1 }
     ensures capacity { vec_capacity bags.new ≡ vec_capacity bags.old }
 {
@@ -270,7 +346,14 @@ pub fn take_out(alloc: Global, bags: &mut Vec<Slot>, id: usize) -> Taken
     ensures handed { result.chunks.items ≡ (slot_in bags.old.items id).handed }
     ensures left { SameThings no_data (slot_in bags.new.items id).body }
     ensures tasks { (slot_in bags.new.items id).body.queues.tasks ≡ [] }
-    ensures slots { (u : ℕ) → slot_in bags.new.items u ≡ (if nat_eq id u then record (slot_in bags.old.items id) { body = (slot_in bags.new.items id).body; here = false; taken = true; handed = [] } else slot_in bags.old.items u) }
+    ensures slots { (u : ℕ) → slot_in bags.new.items u
+        ≡ (if nat_eq id u
+        then record (slot_in bags.old.items id) {
+          body = (slot_in bags.new.items id).body;
+          here = false;
+          taken = true;
+          handed = [];
+        } else slot_in bags.old.items u) }
     ensures len { vec_len bags.new ≡ vec_len bags.old }
     ensures capacity { vec_capacity bags.new ≡ vec_capacity bags.old }
 {
@@ -288,7 +371,13 @@ pub fn take_out(alloc: Global, bags: &mut Vec<Slot>, id: usize) -> Taken
 /// Puts back what was taken out.
 pub fn put_in(bags: &mut Vec<Slot>, id: usize, chunks: Vec<ChunkPos>, body: RegionData)
     requires { id < vec_len bags.old }
-    ensures slots { (u : ℕ) → slot_in bags.new.items u ≡ (if nat_eq id u then record (slot_in bags.old.items id) { body = body; here = true; taken = false; handed = chunks.items } else slot_in bags.old.items u) }
+    ensures slots { (u : ℕ) → slot_in bags.new.items u
+        ≡ (if nat_eq id u then record (slot_in bags.old.items id) {
+          body = body;
+          here = true;
+          taken = false;
+          handed = chunks.items;
+        } else slot_in bags.old.items u) }
     ensures len { vec_len bags.new ≡ vec_len bags.old }
     ensures capacity { vec_capacity bags.new ≡ vec_capacity bags.old }
 {
@@ -316,11 +405,23 @@ pub fn shift_bags(
     requires apart { AreApart (slot_in bags.old.items from).body (slot_in bags.old.items to).body }
     ensures timely { IsTimely (slot_in bags.new.items from).body }
     ensures to_timely { IsTimely (slot_in bags.new.items to).body }
-    ensures loses { OnOk result (Loses chunks.now (slot_in bags.old.items from).body (slot_in bags.new.items from).body) }
-    ensures gains { OnOk result (Gains chunks.now (slot_in bags.old.items from).body (slot_in bags.old.items to).body (slot_in bags.new.items to).body) }
-    ensures err { OnErr result (SameThings (slot_in bags.old.items from).body (slot_in bags.new.items from).body) }
-    ensures to_err { OnErr result (SameThings (slot_in bags.old.items to).body (slot_in bags.new.items to).body) }
-    ensures slots { (u : ℕ) → slot_in bags.new.items u ≡ (if nat_eq from u then record (slot_in bags.old.items from) { body = (slot_in bags.new.items from).body; listed = false } else (if nat_eq to u then record (slot_in bags.old.items to) { body = (slot_in bags.new.items to).body } else slot_in bags.old.items u)) }
+    ensures loses { OnOk result (Loses chunks.now (slot_in bags.old.items from).body
+        (slot_in bags.new.items from).body) }
+    ensures gains { OnOk result (Gains chunks.now (slot_in bags.old.items from).body
+        (slot_in bags.old.items to).body (slot_in bags.new.items to).body) }
+    ensures err { OnErr result (SameThings (slot_in bags.old.items from).body
+        (slot_in bags.new.items from).body) }
+    ensures to_err { OnErr result (SameThings (slot_in bags.old.items to).body
+        (slot_in bags.new.items to).body) }
+    ensures slots { (u : ℕ) → slot_in bags.new.items u
+        ≡ (if nat_eq from u
+        then record (slot_in bags.old.items from) {
+          body = (slot_in bags.new.items from).body;
+          listed = false;
+        }
+        else (if nat_eq to u
+        then record (slot_in bags.old.items to) { body = (slot_in bags.new.items to).body }
+        else slot_in bags.old.items u)) }
     ensures len { vec_len bags.new ≡ vec_len bags.old }
     ensures capacity { vec_capacity bags.new ≡ vec_capacity bags.old }
 {
@@ -346,16 +447,42 @@ pub fn merge(
     requires differ { from ≢ into }
     requires timely { IsTimely (slot_in bags.old.items from).body }
     requires into_timely { IsTimely (slot_in bags.old.items into).body }
-    requires apart { AreApart (slot_in bags.old.items from).body (slot_in bags.old.items into).body }
+    requires apart { AreApart (slot_in bags.old.items from).body
+        (slot_in bags.old.items into).body }
     ensures moved { IfOk result (λ list. list.items ≡ (slot_in bags.old.items from).handed) }
     ensures timely { IsTimely (slot_in bags.new.items from).body }
     ensures into_timely { IsTimely (slot_in bags.new.items into).body }
-    ensures loses { OnOk result (Loses (slot_in bags.old.items from).handed (slot_in bags.old.items from).body (slot_in bags.new.items from).body) }
-    ensures gains { OnOk result (Gains (slot_in bags.old.items from).handed (slot_in bags.old.items from).body (slot_in bags.old.items into).body (slot_in bags.new.items into).body) }
-    ensures err { OnErr result (SameThings (slot_in bags.old.items from).body (slot_in bags.new.items from).body) }
-    ensures into_err { OnErr result (SameThings (slot_in bags.old.items into).body (slot_in bags.new.items into).body) }
-    ensures slots { OnOk result ((u : ℕ) → slot_in bags.new.items u ≡ (if nat_eq from u then record no_slot { body = (slot_in bags.new.items from).body } else (if nat_eq into u then record (slot_in bags.old.items into) { body = (slot_in bags.new.items into).body; listed = true; calm = true; chunks = chunks.items; handed = handed.items; touched = [] } else slot_in bags.old.items u))) }
-    ensures slots_err { OnErr result ((u : ℕ) → slot_in bags.new.items u ≡ (if nat_eq from u then record no_slot { body = (slot_in bags.new.items from).body } else (if nat_eq into u then record (slot_in bags.old.items into) { body = (slot_in bags.new.items into).body; listed = false; chunks = chunks.items } else slot_in bags.old.items u))) }
+    ensures loses { OnOk result (Loses (slot_in bags.old.items from).handed
+        (slot_in bags.old.items from).body (slot_in bags.new.items from).body) }
+    ensures gains { OnOk result (Gains (slot_in bags.old.items from).handed
+        (slot_in bags.old.items from).body (slot_in bags.old.items into).body
+        (slot_in bags.new.items into).body) }
+    ensures err { OnErr result (SameThings (slot_in bags.old.items from).body
+        (slot_in bags.new.items from).body) }
+    ensures into_err { OnErr result (SameThings (slot_in bags.old.items into).body
+        (slot_in bags.new.items into).body) }
+    ensures slots { OnOk result ((u : ℕ)
+        → slot_in bags.new.items u ≡ (if nat_eq from u
+        then record no_slot { body = (slot_in bags.new.items from).body }
+        else (if nat_eq into u
+        then record (slot_in bags.old.items into) {
+          body = (slot_in bags.new.items into).body;
+          listed = true;
+          calm = true;
+          chunks = chunks.items;
+          handed = handed.items;
+          touched = [];
+        }
+        else slot_in bags.old.items u))) }
+    ensures slots_err { OnErr result ((u : ℕ)
+        → slot_in bags.new.items u ≡ (if nat_eq from u
+        then record no_slot { body = (slot_in bags.new.items from).body }
+        else (if nat_eq into u
+        then record (slot_in bags.old.items into) {
+          body = (slot_in bags.new.items into).body;
+          listed = false;
+          chunks = chunks.items;
+        } else slot_in bags.old.items u))) }
     ensures len { vec_len bags.new ≡ vec_len bags.old }
     ensures capacity { vec_capacity bags.new ≡ vec_capacity bags.old }
 {
@@ -373,7 +500,9 @@ pub fn merge(
 fn dissolve(alloc: Global, bags: &mut Vec<Slot>, id: usize) -> Vec<ChunkPos>
     requires { id < vec_len bags.old }
     ensures handed { result.items ≡ (slot_in bags.old.items id).handed }
-    ensures slots { (u : ℕ) → slot_in bags.new.items u ≡ (if nat_eq id u then record no_slot { body = (slot_in bags.old.items id).body } else slot_in bags.old.items u) }
+    ensures slots { (u : ℕ) → slot_in bags.new.items u
+        ≡ (if nat_eq id u then record no_slot { body = (slot_in bags.old.items id).body }
+        else slot_in bags.old.items u) }
     ensures len { vec_len bags.new ≡ vec_len bags.old }
     ensures capacity { vec_capacity bags.new ≡ vec_capacity bags.old }
 {
@@ -386,7 +515,12 @@ fn dissolve(alloc: Global, bags: &mut Vec<Slot>, id: usize) -> Vec<ChunkPos>
 fn take_body(alloc: Global, bags: &mut Vec<Slot>, id: usize) -> RegionData
     requires { id < vec_len bags.old }
     ensures body { result ≡ (slot_in bags.old.items id).body }
-    ensures slots { (u : ℕ) → slot_in bags.new.items u ≡ (if nat_eq id u then record (slot_in bags.old.items id) { body = (slot_in bags.new.items id).body; listed = false } else slot_in bags.old.items u) }
+    ensures slots { (u : ℕ) → slot_in bags.new.items u
+        ≡ (if nat_eq id u
+        then record (slot_in bags.old.items id) {
+          body = (slot_in bags.new.items id).body;
+          listed = false;
+        } else slot_in bags.old.items u) }
     ensures len { vec_len bags.new ≡ vec_len bags.old }
     ensures capacity { vec_capacity bags.new ≡ vec_capacity bags.old }
 {
@@ -398,7 +532,9 @@ fn take_body(alloc: Global, bags: &mut Vec<Slot>, id: usize) -> RegionData
 /// Puts something into a bag in place of what lies in it.
 fn put_body(bags: &mut Vec<Slot>, id: usize, body: RegionData)
     requires { id < vec_len bags.old }
-    ensures slots { (u : ℕ) → slot_in bags.new.items u ≡ (if nat_eq id u then record (slot_in bags.old.items id) { body = body } else slot_in bags.old.items u) }
+    ensures slots { (u : ℕ) → slot_in bags.new.items u
+        ≡ (if nat_eq id u then record (slot_in bags.old.items id) { body = body }
+        else slot_in bags.old.items u) }
     ensures len { vec_len bags.new ≡ vec_len bags.old }
     ensures capacity { vec_capacity bags.new ≡ vec_capacity bags.old }
 {
@@ -421,10 +557,15 @@ pub fn shift_into(
     ensures timely { IsTimely from.new }
     ensures to_timely { IsTimely (slot_in bags.new.items id).body }
     ensures loses { OnOk result (Loses chunks.now from.old from.new) }
-    ensures gains { OnOk result (Gains chunks.now from.old (slot_in bags.old.items id).body (slot_in bags.new.items id).body) }
+    ensures gains { OnOk result (Gains chunks.now from.old (slot_in bags.old.items id).body
+        (slot_in bags.new.items id).body) }
     ensures err { OnErr result (SameThings from.old from.new) }
-    ensures to_err { OnErr result (SameThings (slot_in bags.old.items id).body (slot_in bags.new.items id).body) }
-    ensures slots { (u : ℕ) → slot_in bags.new.items u ≡ (if nat_eq id u then record (slot_in bags.old.items id) { body = (slot_in bags.new.items id).body } else slot_in bags.old.items u) }
+    ensures to_err { OnErr result (SameThings (slot_in bags.old.items id).body
+        (slot_in bags.new.items id).body) }
+    ensures slots { (u : ℕ) → slot_in bags.new.items u
+        ≡ (if nat_eq id u
+        then record (slot_in bags.old.items id) { body = (slot_in bags.new.items id).body }
+        else slot_in bags.old.items u) }
     ensures len { vec_len bags.new ≡ vec_len bags.old }
     ensures capacity { vec_capacity bags.new ≡ vec_capacity bags.old }
 {
@@ -446,11 +587,16 @@ pub fn shift_out(
     requires apart { AreApart (slot_in bags.old.items id).body to.old }
     ensures timely { IsTimely (slot_in bags.new.items id).body }
     ensures to_timely { IsTimely to.new }
-    ensures loses { OnOk result (Loses chunks.now (slot_in bags.old.items id).body (slot_in bags.new.items id).body) }
+    ensures loses { OnOk result (Loses chunks.now (slot_in bags.old.items id).body
+        (slot_in bags.new.items id).body) }
     ensures gains { OnOk result (Gains chunks.now (slot_in bags.old.items id).body to.old to.new) }
-    ensures err { OnErr result (SameThings (slot_in bags.old.items id).body (slot_in bags.new.items id).body) }
+    ensures err { OnErr result (SameThings (slot_in bags.old.items id).body
+        (slot_in bags.new.items id).body) }
     ensures to_err { OnErr result (SameThings to.old to.new) }
-    ensures slots { (u : ℕ) → slot_in bags.new.items u ≡ (if nat_eq id u then record (slot_in bags.old.items id) { body = (slot_in bags.new.items id).body } else slot_in bags.old.items u) }
+    ensures slots { (u : ℕ) → slot_in bags.new.items u
+        ≡ (if nat_eq id u
+        then record (slot_in bags.old.items id) { body = (slot_in bags.new.items id).body }
+        else slot_in bags.old.items u) }
     ensures len { vec_len bags.new ≡ vec_len bags.old }
     ensures capacity { vec_capacity bags.new ≡ vec_capacity bags.old }
 {
@@ -461,9 +607,11 @@ pub fn shift_out(
 /// The bags of no region: one that is closed, for an id that no region has.
 pub fn closed(alloc: Global) -> Result<Vec<Slot>, AllocError>
     ensures len { IfOk result (λ bags. vec_len bags ≡ 1) }
-    ensures things { IfOk result (λ bags. (u : ℕ) → SameThings no_data (slot_in bags.items u).body) }
+    ensures things { IfOk result (λ bags. (u : ℕ)
+        → SameThings no_data (slot_in bags.items u).body) }
     ensures tasks { IfOk result (λ bags. (u : ℕ) → (slot_in bags.items u).body.queues.tasks ≡ []) }
-    ensures slots { IfOk result (λ bags. (u : ℕ) → slot_in bags.items u ≡ record no_slot { body = (slot_in bags.items u).body }) }
+    ensures slots { IfOk result (λ bags. (u : ℕ)
+        → slot_in bags.items u ≡ record no_slot { body = (slot_in bags.items u).body }) }
 {
     let slot = Slot {
         body: new_data(alloc, 0, 0),

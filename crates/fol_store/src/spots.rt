@@ -19,9 +19,12 @@ use std::alloc::{AllocError, Global};
 
 /// Adds an empty spot.
 pub fn add(alloc: Global, spots: &mut Vec<RegionData>) -> Result<(), AllocError>
-    ensures things { OnOk result (SameThings no_data (spot_in spots.new.items (vec_len spots.old))) }
+    ensures things { OnOk result
+        (SameThings no_data (spot_in spots.new.items (vec_len spots.old))) }
     ensures tasks { OnOk result ((spot_in spots.new.items (vec_len spots.old)).queues.tasks ≡ []) }
-    ensures spots { OnOk result ((i : ℕ) → spot_in spots.new.items i ≡ (if nat_eq (vec_len spots.old) i then spot_in spots.new.items (vec_len spots.old) else spot_in spots.old.items i)) }
+    ensures spots { OnOk result ((i : ℕ)
+        → spot_in spots.new.items i ≡ (if nat_eq (vec_len spots.old) i
+        then spot_in spots.new.items (vec_len spots.old) else spot_in spots.old.items i)) }
     ensures len { OnOk result (vec_len spots.new ≡ vec_len spots.old + 1) }
     ensures err { OnErr result (spots.new.items ≡ spots.old.items) }
 {
@@ -45,12 +48,20 @@ pub fn shift_to_bag(
     requires apart { AreApart (spot_in spots.old.items i) (slot_in bags.old.items id).body }
     ensures timely { IsTimely (spot_in spots.new.items i) }
     ensures to_timely { IsTimely (slot_in bags.new.items id).body }
-    ensures loses { OnOk result (Loses chunks.now (spot_in spots.old.items i) (spot_in spots.new.items i)) }
-    ensures gains { OnOk result (Gains chunks.now (spot_in spots.old.items i) (slot_in bags.old.items id).body (slot_in bags.new.items id).body) }
-    ensures err { OnErr result (SameThings (spot_in spots.old.items i) (spot_in spots.new.items i)) }
-    ensures to_err { OnErr result (SameThings (slot_in bags.old.items id).body (slot_in bags.new.items id).body) }
-    ensures spots { (n : ℕ) → spot_in spots.new.items n ≡ (if nat_eq i n then spot_in spots.new.items i else spot_in spots.old.items n) }
-    ensures slots { (u : ℕ) → slot_in bags.new.items u ≡ (if nat_eq id u then record (slot_in bags.old.items id) { body = (slot_in bags.new.items id).body } else slot_in bags.old.items u) }
+    ensures loses { OnOk result (Loses chunks.now (spot_in spots.old.items i)
+        (spot_in spots.new.items i)) }
+    ensures gains { OnOk result (Gains chunks.now (spot_in spots.old.items i)
+        (slot_in bags.old.items id).body (slot_in bags.new.items id).body) }
+    ensures err { OnErr result (SameThings (spot_in spots.old.items i)
+        (spot_in spots.new.items i)) }
+    ensures to_err { OnErr result (SameThings (slot_in bags.old.items id).body
+        (slot_in bags.new.items id).body) }
+    ensures spots { (n : ℕ) → spot_in spots.new.items n
+        ≡ (if nat_eq i n then spot_in spots.new.items i else spot_in spots.old.items n) }
+    ensures slots { (u : ℕ) → slot_in bags.new.items u
+        ≡ (if nat_eq id u
+        then record (slot_in bags.old.items id) { body = (slot_in bags.new.items id).body }
+        else slot_in bags.old.items u) }
     ensures spots_len { vec_len spots.new ≡ vec_len spots.old }
     ensures len { vec_len bags.new ≡ vec_len bags.old }
     ensures capacity { vec_capacity bags.new ≡ vec_capacity bags.old }
@@ -75,12 +86,20 @@ pub fn shift_from_bag(
     requires apart { AreApart (slot_in bags.old.items id).body (spot_in spots.old.items i) }
     ensures timely { IsTimely (slot_in bags.new.items id).body }
     ensures to_timely { IsTimely (spot_in spots.new.items i) }
-    ensures loses { OnOk result (Loses chunks.now (slot_in bags.old.items id).body (slot_in bags.new.items id).body) }
-    ensures gains { OnOk result (Gains chunks.now (slot_in bags.old.items id).body (spot_in spots.old.items i) (spot_in spots.new.items i)) }
-    ensures err { OnErr result (SameThings (slot_in bags.old.items id).body (slot_in bags.new.items id).body) }
-    ensures to_err { OnErr result (SameThings (spot_in spots.old.items i) (spot_in spots.new.items i)) }
-    ensures spots { (n : ℕ) → spot_in spots.new.items n ≡ (if nat_eq i n then spot_in spots.new.items i else spot_in spots.old.items n) }
-    ensures slots { (u : ℕ) → slot_in bags.new.items u ≡ (if nat_eq id u then record (slot_in bags.old.items id) { body = (slot_in bags.new.items id).body } else slot_in bags.old.items u) }
+    ensures loses { OnOk result (Loses chunks.now (slot_in bags.old.items id).body
+        (slot_in bags.new.items id).body) }
+    ensures gains { OnOk result (Gains chunks.now (slot_in bags.old.items id).body
+        (spot_in spots.old.items i) (spot_in spots.new.items i)) }
+    ensures err { OnErr result (SameThings (slot_in bags.old.items id).body
+        (slot_in bags.new.items id).body) }
+    ensures to_err { OnErr result (SameThings (spot_in spots.old.items i)
+        (spot_in spots.new.items i)) }
+    ensures spots { (n : ℕ) → spot_in spots.new.items n
+        ≡ (if nat_eq i n then spot_in spots.new.items i else spot_in spots.old.items n) }
+    ensures slots { (u : ℕ) → slot_in bags.new.items u
+        ≡ (if nat_eq id u
+        then record (slot_in bags.old.items id) { body = (slot_in bags.new.items id).body }
+        else slot_in bags.old.items u) }
     ensures spots_len { vec_len spots.new ≡ vec_len spots.old }
     ensures len { vec_len bags.new ≡ vec_len bags.old }
     ensures capacity { vec_capacity bags.new ≡ vec_capacity bags.old }
@@ -96,7 +115,8 @@ pub fn make_room(spots: &mut Vec<RegionData>, i: usize) -> Result<(), AllocError
     ensures same { SameThings (spot_in spots.old.items i) (spot_in spots.new.items i) }
     ensures timely { IsTimely (spot_in spots.new.items i) }
     ensures room { OnOk result (1 ≤ (spot_in spots.new.items i).queues.spare) }
-    ensures spots { (n : ℕ) → spot_in spots.new.items n ≡ (if nat_eq i n then spot_in spots.new.items i else spot_in spots.old.items n) }
+    ensures spots { (n : ℕ) → spot_in spots.new.items n
+        ≡ (if nat_eq i n then spot_in spots.new.items i else spot_in spots.old.items n) }
     ensures len { vec_len spots.new ≡ vec_len spots.old }
 {
     let spot = &mut spots[i];
@@ -125,7 +145,8 @@ pub fn queue(spots: &mut Vec<RegionData>, i: usize, dated: Dated)
     requires in_time { IsInTime 0 dated }
     ensures queued { Queues dated (spot_in spots.old.items i) (spot_in spots.new.items i) }
     ensures timely { IsTimely (spot_in spots.new.items i) }
-    ensures spots { (n : ℕ) → spot_in spots.new.items n ≡ (if nat_eq i n then spot_in spots.new.items i else spot_in spots.old.items n) }
+    ensures spots { (n : ℕ) → spot_in spots.new.items n
+        ≡ (if nat_eq i n then spot_in spots.new.items i else spot_in spots.old.items n) }
     ensures len { vec_len spots.new ≡ vec_len spots.old }
 {
     let spot = &mut spots[i];
@@ -155,10 +176,13 @@ pub fn lay_block(
 ) -> Result<(), AllocError>
     requires there { i < vec_len spots.old }
     requires timely { IsTimely (spot_in spots.old.items i) }
-    ensures laid { OnOk result (LaysBlock at id (spot_in spots.old.items i) (spot_in spots.new.items i)) }
-    ensures err { OnErr result (SameThings (spot_in spots.old.items i) (spot_in spots.new.items i)) }
+    ensures laid { OnOk result (LaysBlock at id (spot_in spots.old.items i)
+        (spot_in spots.new.items i)) }
+    ensures err { OnErr result (SameThings (spot_in spots.old.items i)
+        (spot_in spots.new.items i)) }
     ensures timely { IsTimely (spot_in spots.new.items i) }
-    ensures spots { (n : ℕ) → spot_in spots.new.items n ≡ (if nat_eq i n then spot_in spots.new.items i else spot_in spots.old.items n) }
+    ensures spots { (n : ℕ) → spot_in spots.new.items n
+        ≡ (if nat_eq i n then spot_in spots.new.items i else spot_in spots.old.items n) }
     ensures len { vec_len spots.new ≡ vec_len spots.old }
 {
     let spot = &mut spots[i];
@@ -200,10 +224,13 @@ pub fn lay_entity(spots: &mut Vec<RegionData>, i: usize, e: Entity) -> Result<()
     requires there { i < vec_len spots.old }
     requires timely { IsTimely (spot_in spots.old.items i) }
     requires fresh { things (spot_in spots.old.items i) (of_entity e.id) ≡ None }
-    ensures laid { OnOk result (LaysEntity e (spot_in spots.old.items i) (spot_in spots.new.items i)) }
-    ensures err { OnErr result (SameThings (spot_in spots.old.items i) (spot_in spots.new.items i)) }
+    ensures laid { OnOk result (LaysEntity e (spot_in spots.old.items i)
+        (spot_in spots.new.items i)) }
+    ensures err { OnErr result (SameThings (spot_in spots.old.items i)
+        (spot_in spots.new.items i)) }
     ensures timely { IsTimely (spot_in spots.new.items i) }
-    ensures spots { (n : ℕ) → spot_in spots.new.items n ≡ (if nat_eq i n then spot_in spots.new.items i else spot_in spots.old.items n) }
+    ensures spots { (n : ℕ) → spot_in spots.new.items n
+        ≡ (if nat_eq i n then spot_in spots.new.items i else spot_in spots.old.items n) }
     ensures len { vec_len spots.new ≡ vec_len spots.old }
 {
     let spot = &mut spots[i];

@@ -124,7 +124,8 @@ impl Store {
     /// Sets how many ticks a region owes.
     pub fn set_owed(&mut self, id: u64, owed: u32)
         requires here { (bag_of self.old id).here ≡ true }
-        ensures bags { bag_of self.new ≡ at_id (bag_of self.old) id (record (bag_of self.old id) { owed = owed }) }
+        ensures bags { bag_of self.new
+            ≡ at_id (bag_of self.old) id (record (bag_of self.old id) { owed = owed }) }
         ensures next { next_of self.new ≡ next_of self.old }
         ensures contents { flat_of self.new ≡ flat_of self.old }
         ensures tasks { jobs_of self.new ≡ jobs_of self.old }
@@ -162,7 +163,8 @@ impl Store {
     /// Says that the bag of a region has to be gathered anew, since other chunks are loaded.
     pub fn unsettle(&mut self, id: u64)
         requires known { ((bag_of self.old id).here || (bag_of self.old id).taken) ≡ true }
-        ensures bags { bag_of self.new ≡ at_id (bag_of self.old) id (record (bag_of self.old id) { listed = false }) }
+        ensures bags { bag_of self.new
+            ≡ at_id (bag_of self.old) id (record (bag_of self.old id) { listed = false }) }
         ensures next { next_of self.new ≡ next_of self.old }
         ensures contents { flat_of self.new ≡ flat_of self.old }
         ensures tasks { jobs_of self.new ≡ jobs_of self.old }
@@ -179,7 +181,8 @@ impl Store {
         requires fresh { IsNone (jobs_of self.old task.number) }
         requires delay_low { 1 ≤ delay }
         requires delay_high { delay ≤ 1000000 }
-        ensures tasks { jobs_of self.new ≡ at_id (jobs_of self.old) task.number (Some (queued task.chunk delay task.action)) }
+        ensures tasks { jobs_of self.new
+            ≡ at_id (jobs_of self.old) task.number (Some (queued task.chunk delay task.action)) }
         ensures contents { flat_of self.new ≡ flat_of self.old }
         ensures bags { bag_of self.new ≡ λ id. disturbed task.chunk (bag_of self.old id) }
         ensures next { next_of self.new ≡ next_of self.old }
@@ -218,13 +221,21 @@ impl Store {
         ensures tick { result.body.tick ≡ (bag_of self.old id).tick }
         ensures owed { result.body.owed ≡ (bag_of self.old id).owed }
         ensures bound { result.body.tick ≤ 2 ^ 62 }
-        ensures in_time { (n : ℕ) → ForSome (dated result.body.queues n) (IsInTime result.body.tick) }
-        ensures moved_contents { contents_of result.body.chunks ≡ within (is_recorded (bag_of self.old id).chunks) (flat_of self.old) }
+        ensures in_time { (n : ℕ)
+            → ForSome (dated result.body.queues n) (IsInTime result.body.tick) }
+        ensures moved_contents { contents_of result.body.chunks
+            ≡ within (is_recorded (bag_of self.old id).chunks) (flat_of self.old) }
         ensures due { due_count (result.body.tick + 1) result.body.queues ≡ due_of self.old id }
-        ensures moved_tasks { rests_of result.body ≡ λ n. option_filter (λ j. is_recorded (bag_of self.old id).chunks j.chunk) (jobs_of self.old n) }
-        ensures contents { flat_of self.new ≡ outside (is_recorded (bag_of self.old id).chunks) (flat_of self.old) }
-        ensures tasks { jobs_of self.new ≡ λ n. option_filter (λ j. not (is_recorded (bag_of self.old id).chunks j.chunk)) (jobs_of self.old n) }
-        ensures bags { bag_of self.new ≡ at_id (bag_of self.old) id (taken_out (bag_of self.old id)) }
+        ensures moved_tasks { rests_of result.body ≡ λ n.
+            option_filter (λ j. is_recorded (bag_of self.old id).chunks j.chunk)
+            (jobs_of self.old n) }
+        ensures contents { flat_of self.new
+            ≡ outside (is_recorded (bag_of self.old id).chunks) (flat_of self.old) }
+        ensures tasks { jobs_of self.new ≡ λ n.
+            option_filter (λ j. not (is_recorded (bag_of self.old id).chunks j.chunk))
+            (jobs_of self.old n) }
+        ensures bags { bag_of self.new
+            ≡ at_id (bag_of self.old) id (taken_out (bag_of self.old id)) }
         ensures next { next_of self.new ≡ next_of self.old }
         ensures spare { self.new.spare ≡ self.old.spare }
         ensures slots { self.new.slots ≡ self.old.slots }
@@ -239,13 +250,17 @@ impl Store {
         requires chunks { chunks.items ≡ (bag_of self.old id).chunks }
         requires bound { body.tick ≤ 2 ^ 62 }
         requires in_time { (n : ℕ) → ForSome (dated body.queues n) (IsInTime body.tick) }
-        requires contents_there { contents_of body.chunks ≡ within (is_recorded chunks.items) (contents_of body.chunks) }
-        requires tasks_there { (n : ℕ) → ForSome (rests_of body n) (λ j. is_recorded chunks.items j.chunk ≡ true) }
+        requires contents_there { contents_of body.chunks
+            ≡ within (is_recorded chunks.items) (contents_of body.chunks) }
+        requires tasks_there { (n : ℕ)
+            → ForSome (rests_of body n) (λ j. is_recorded chunks.items j.chunk ≡ true) }
         requires contents_apart { Apart (flat_of self.old) (contents_of body.chunks) }
-        requires tasks_apart { (n : ℕ) → IsTrue (is_none (jobs_of self.old n) || is_none (rests_of body n)) }
+        requires tasks_apart { (n : ℕ)
+            → IsTrue (is_none (jobs_of self.old n) || is_none (rests_of body n)) }
         ensures contents { flat_of self.new ≡ joined (flat_of self.old) (contents_of body.chunks) }
         ensures tasks { jobs_of self.new ≡ λ n. option_or (jobs_of self.old n) (rests_of body n) }
-        ensures bags { bag_of self.new ≡ at_id (bag_of self.old) id (put_back body.tick body.owed (bag_of self.old id)) }
+        ensures bags { bag_of self.new
+            ≡ at_id (bag_of self.old) id (put_back body.tick body.owed (bag_of self.old id)) }
         ensures next { next_of self.new ≡ next_of self.old }
         ensures spare { self.new.spare ≡ self.old.spare }
         ensures slots { self.new.slots ≡ self.old.slots }
@@ -259,7 +274,8 @@ impl Store {
         ensures blocks { IfOk result (λ r. block_in r.blocks.items ≡ (flat_of self).blocks) }
         ensures block_order { IfOk result (λ r. IsStrictlySortedBy by_place r.blocks.items) }
         ensures none_empty { IfOk result (λ r. All (λ x. 0 < x.id) r.blocks.items) }
-        ensures entities { IfOk result (λ r. standing_in r.entities.items ≡ (flat_of self).standing) }
+        ensures entities { IfOk result (λ r. standing_in r.entities.items
+            ≡ (flat_of self).standing) }
         ensures entity_order { IfOk result (λ r. IsStrictlySortedBy by_id r.entities.items) }
         ensures tasks { IfOk result (λ r. rows_of r.tasks.items ≡ jobs_of self) }
         ensures task_order { IfOk result (λ r. IsStrictlySortedBy by_number r.tasks.items) }

@@ -21,7 +21,8 @@ fn reserve(ran: &mut Vec<Ran>, wishes: &mut Vec<Wish>, tasks: usize) -> Result<(
     ensures ran { ran.new.items ≡ ran.old.items }
     ensures wishes { wishes.new.items ≡ wishes.old.items }
     ensures room_for_ran { OnOk result (vec_len ran.new + tasks ≤ vec_capacity ran.new) }
-    ensures room_for_wishes { OnOk result (vec_len wishes.new + 2 * tasks ≤ vec_capacity wishes.new) }
+    ensures room_for_wishes { OnOk result (vec_len wishes.new + 2 * tasks
+        ≤ vec_capacity wishes.new) }
 {
     ran.reserve(tasks)?;
     wishes.reserve(2 * tasks)
@@ -33,7 +34,8 @@ pub(crate) fn open(alloc: Global, log: &mut TickLog, tasks: usize) -> Result<Ope
     ensures ran { IfOk result (λ o. o.ran.items ≡ log.old.ran) }
     ensures wishes { IfOk result (λ o. o.wishes.items ≡ log.old.wishes) }
     ensures room_for_ran { IfOk result (λ o. vec_len o.ran + tasks ≤ vec_capacity o.ran) }
-    ensures room_for_wishes { IfOk result (λ o. vec_len o.wishes + 2 * tasks ≤ vec_capacity o.wishes) }
+    ensures room_for_wishes { IfOk result (λ o. vec_len o.wishes + 2 * tasks
+        ≤ vec_capacity o.wishes) }
     ensures err { OnErr result (log.new ≡ log.old) }
 {
     let mut ran = mem::replace(&mut log.ran, Sequence::new(alloc)).into_vec();
@@ -70,8 +72,10 @@ impl OpenLog {
     )
         requires room_for_ran { vec_len self.old.ran < vec_capacity self.old.ran }
         requires room_for_wishes { vec_len self.old.wishes + 2 ≤ vec_capacity self.old.wishes }
-        ensures ran { self.new.ran.items ≡ self.old.ran.items ++ (record { number = number; outcome = outcome }) ∷ [] }
-        ensures wishes { self.new.wishes.items ≡ self.old.wishes.items ++ (option_to_list wish ++ option_to_list again) }
+        ensures ran { self.new.ran.items
+            ≡ self.old.ran.items ++ (record { number = number; outcome = outcome }) ∷ [] }
+        ensures wishes { self.new.wishes.items
+            ≡ self.old.wishes.items ++ (option_to_list wish ++ option_to_list again) }
         ensures ran_len { vec_len self.new.ran ≡ vec_len self.old.ran + 1 }
         ensures ran_capacity { vec_capacity self.new.ran ≡ vec_capacity self.old.ran }
         ensures wishes_len { vec_len self.new.wishes ≤ vec_len self.old.wishes + 2 }

@@ -23,8 +23,10 @@ use std::collections::VecDeque;
 /// changed, or it was the host that found none, for the task at `next`: the tasks before it have run, and another call goes on there.
 pub fn run_tick<H: Host>(alloc: Global, tick: &mut Tick, host: &mut H) -> Result<(), AllocError>
     requires { MayRun tick.old }
-    ensures ok { OnOk result ((calls : List HostCall) × H.reaches host.old calls host.new × Finishes tick.old tick.new calls) }
-    ensures err { OnErr result ((calls : List HostCall) × H.reaches host.old calls host.new × Runs tick.old tick.new calls) }
+    ensures ok { OnOk result ((calls : List HostCall) × H.reaches host.old calls host.new
+        × Finishes tick.old tick.new calls) }
+    ensures err { OnErr result ((calls : List HostCall) × H.reaches host.old calls host.new
+        × Runs tick.old tick.new calls) }
     ensures stop { OnErr result ((tick.new.next ≡ tick.old.next) ⊎ StopsAtHost tick.new) }
     ensures again { OnErr result (MayRun tick.new) }
 {
@@ -53,8 +55,10 @@ fn run_tasks<H: Host>(
     requires prepared { prepared.items ≡ map prepared_of (drop tick.old.next tick.old.due) }
     requires spare { deque_len prepared ≤ tick.old.body.chunks.spare }
     requires room_for_ran { vec_len log.old.ran + deque_len prepared ≤ vec_capacity log.old.ran }
-    requires room_for_wishes { vec_len log.old.wishes + 2 * deque_len prepared ≤ vec_capacity log.old.wishes }
-    ensures runs { (calls : List HostCall) × H.reaches host.old calls host.new × Runs (with_log tick.old log.old) (with_log tick.new log.new) calls }
+    requires room_for_wishes { vec_len log.old.wishes + 2 * deque_len prepared
+        ≤ vec_capacity log.old.wishes }
+    ensures runs { (calls : List HostCall) × H.reaches host.old calls host.new
+        × Runs (with_log tick.old log.old) (with_log tick.new log.new) calls }
     ensures may_run { MayRun tick.new }
     ensures ok { OnOk result (tick.new.next ≡ length tick.new.due) }
     ensures stop { OnErr result (StopsAtHost tick.new) }
@@ -78,7 +82,8 @@ fn run_next<H: Host>(
     requires spare { 1 ≤ tick.old.body.chunks.spare }
     requires room_for_ran { vec_len log.old.ran < vec_capacity log.old.ran }
     requires room_for_wishes { vec_len log.old.wishes + 2 ≤ vec_capacity log.old.wishes }
-    ensures runs { (calls : List HostCall) × H.reaches host.old calls host.new × Runs (with_log tick.old log.old) (with_log tick.new log.new) calls }
+    ensures runs { (calls : List HostCall) × H.reaches host.old calls host.new
+        × Runs (with_log tick.old log.old) (with_log tick.new log.new) calls }
     ensures may_run { MayRun tick.new }
     ensures ok { OnOk result (tick.new.next ≡ tick.old.next + 1) }
     ensures stop { OnErr result (StopsAtHost tick.new) }

@@ -62,7 +62,8 @@ fn unload_outcome(answer: Unloaded) -> Outcome
 /// Gives a block of a recorded chunk a number.
 fn set(recorded: &ChunkList, chunks: &mut Chunks, at: BlockPos, id: u16) -> Effect
     requires spare { 1 ≤ chunks.old.spare }
-    ensures acts { Acts (is_recorded recorded.now.chunks.now) Outcome.Done (Action.Set at id) (flat_of chunks.old) (flat_of chunks.new) result }
+    ensures acts { Acts (is_recorded recorded.now.chunks.now) Outcome.Done (Action.Set at id)
+        (flat_of chunks.old) (flat_of chunks.new) result }
     ensures spare { chunks.old.spare ≤ chunks.new.spare + 1 }
 {
     if !recorded.has(chunk_of(at)) {
@@ -75,7 +76,8 @@ fn set(recorded: &ChunkList, chunks: &mut Chunks, at: BlockPos, id: u16) -> Effe
 /// Gives a block the number that another has now, where both are in recorded chunks.
 fn copy(recorded: &ChunkList, chunks: &mut Chunks, at: BlockPos, to: BlockPos) -> Effect
     requires spare { 1 ≤ chunks.old.spare }
-    ensures acts { Acts (is_recorded recorded.now.chunks.now) Outcome.Done (Action.Copy at to) (flat_of chunks.old) (flat_of chunks.new) result }
+    ensures acts { Acts (is_recorded recorded.now.chunks.now) Outcome.Done (Action.Copy at to)
+        (flat_of chunks.old) (flat_of chunks.new) result }
     ensures spare { chunks.old.spare ≤ chunks.new.spare + 1 }
 {
     if !recorded.has(chunk_of(at)) || !recorded.has(chunk_of(to)) {
@@ -88,7 +90,8 @@ fn copy(recorded: &ChunkList, chunks: &mut Chunks, at: BlockPos, to: BlockPos) -
 
 /// Whether the entity stands at a block of a recorded chunk.
 fn is_here(recorded: &ChunkList, chunks: &Chunks, id: u32) -> bool
-    ensures { result ≡ stands (is_recorded recorded.now.chunks.now) ((flat_of chunks.now).standing id) }
+    ensures { result ≡ stands (is_recorded recorded.now.chunks.now)
+        ((flat_of chunks.now).standing id) }
 {
     match chunks.find(id) {
         Some(at) => recorded.has(chunk_of(at)),
@@ -98,7 +101,8 @@ fn is_here(recorded: &ChunkList, chunks: &Chunks, id: u32) -> bool
 
 /// Takes an entity from its block, where that is in a recorded chunk, and asks for its arrival.
 fn send(recorded: &ChunkList, chunks: &mut Chunks, id: u32, to: BlockPos) -> Effect
-    ensures acts { Acts (is_recorded recorded.now.chunks.now) Outcome.Done (Action.Send id to) (flat_of chunks.old) (flat_of chunks.new) result }
+    ensures acts { Acts (is_recorded recorded.now.chunks.now) Outcome.Done (Action.Send id to)
+        (flat_of chunks.old) (flat_of chunks.new) result }
     ensures spare { chunks.old.spare ≤ chunks.new.spare }
 {
     if !is_here(recorded, chunks, id) {
@@ -112,7 +116,15 @@ fn send(recorded: &ChunkList, chunks: &mut Chunks, id: u32, to: BlockPos) -> Eff
 
 /// Asks for the arrival of an entity that left its block.
 fn departure(entity: Entity, to: BlockPos) -> Effect
-    ensures { result ≡ record { outcome = Outcome.Done; wish = Some (record { chunk = chunk_around to; delay = 1; action = Action.Arrive (record entity { at = to }); back = Some entity.at }) } }
+    ensures { result ≡ record {
+      outcome = Outcome.Done;
+      wish = Some (record {
+        chunk = chunk_around to;
+        delay = 1;
+        action = Action.Arrive (record entity { at = to });
+        back = Some entity.at;
+      });
+    } }
 {
     Effect {
         outcome: Outcome::Done,
@@ -134,7 +146,11 @@ fn departure(entity: Entity, to: BlockPos) -> Effect
 fn arrive(chunks: &mut Chunks, entity: Entity) -> Effect
     requires spare { 1 ≤ chunks.old.spare }
     requires fresh { IsNone ((flat_of chunks.old).standing entity.id) }
-    ensures flat { flat_of chunks.new ≡ record (flat_of chunks.old) { standing = at_id (flat_of chunks.old).standing entity.id (Some (standing_of entity)) } }
+    ensures flat { flat_of chunks.new
+        ≡ record (flat_of chunks.old) {
+          standing = at_id (flat_of chunks.old).standing entity.id
+              (Some (standing_of entity));
+        } }
     ensures effect { result ≡ record { outcome = Outcome.Done; wish = None } }
     ensures spare { chunks.old.spare ≤ chunks.new.spare + 1 }
 {
@@ -145,7 +161,9 @@ fn arrive(chunks: &mut Chunks, entity: Entity) -> Effect
 /// Adds a ticket to a chunk.
 fn load<H: Host>(alloc: Global, c: ChunkPos, host: &mut H) -> Result<Effect, AllocError>
     requires { IsTrue (is_chunk c) }
-    ensures ok { IfOk result (λ e. (calls : List HostCall) × H.reaches host.old calls host.new × IsCallOf (Action.Load c) calls × (e ≡ record { outcome = outcome_given calls; wish = None })) }
+    ensures ok { IfOk result (λ e. (calls : List HostCall) × H.reaches host.old calls host.new
+        × IsCallOf (Action.Load c) calls
+        × (e ≡ record { outcome = outcome_given calls; wish = None })) }
     ensures err { OnErr result (H.reaches host.old [] host.new) }
 {
     let answer = host.load(alloc, c)?;
@@ -155,7 +173,9 @@ fn load<H: Host>(alloc: Global, c: ChunkPos, host: &mut H) -> Result<Effect, All
 /// Takes a ticket from a chunk.
 fn unload<H: Host>(alloc: Global, c: ChunkPos, host: &mut H) -> Result<Effect, AllocError>
     requires { IsTrue (is_chunk c) }
-    ensures ok { IfOk result (λ e. (calls : List HostCall) × H.reaches host.old calls host.new × IsCallOf (Action.Unload c) calls × (e ≡ record { outcome = outcome_given calls; wish = None })) }
+    ensures ok { IfOk result (λ e. (calls : List HostCall) × H.reaches host.old calls host.new
+        × IsCallOf (Action.Unload c) calls
+        × (e ≡ record { outcome = outcome_given calls; wish = None })) }
     ensures err { OnErr result (H.reaches host.old [] host.new) }
 {
     let answer = host.unload(alloc, c)?;
@@ -167,7 +187,8 @@ fn act_here(recorded: &ChunkList, chunks: &mut Chunks, action: &Action, own: Opt
     requires spare { 1 ≤ chunks.old.spare }
     requires fresh { All (λ id. IsNone ((flat_of chunks.old).standing id)) (arrival_of action.now) }
     requires own { own ≡ posted_by action.now }
-    ensures acts { Acts (is_recorded recorded.now.chunks.now) Outcome.Done action.now (flat_of chunks.old) (flat_of chunks.new) result }
+    ensures acts { Acts (is_recorded recorded.now.chunks.now) Outcome.Done action.now
+        (flat_of chunks.old) (flat_of chunks.new) result }
     ensures spare { chunks.old.spare ≤ chunks.new.spare + 1 }
 {
     match action {
@@ -196,7 +217,10 @@ fn act<H: Host>(
     requires fresh { All (λ id. IsNone ((flat_of chunks.old).standing id)) (arrival_of action.now) }
     requires limits { IsTrue (is_action action.now) }
     requires own { own ≡ posted_by action.now }
-    ensures ok { IfOk result (λ e. (calls : List HostCall) × H.reaches host.old calls host.new × IsCallOf action.now calls × Acts (is_recorded recorded.now.chunks.now) (outcome_given calls) action.now (flat_of chunks.old) (flat_of chunks.new) e) }
+    ensures ok { IfOk result (λ e. (calls : List HostCall) × H.reaches host.old calls host.new
+        × IsCallOf action.now calls
+        × Acts (is_recorded recorded.now.chunks.now) (outcome_given calls) action.now
+        (flat_of chunks.old) (flat_of chunks.new) e) }
     ensures refused { OnErr result (H.reaches host.old [] host.new) }
     ensures hosted { OnErr result (IsTrue (is_hosted action.now)) }
     ensures same { OnErr result (chunks.new ≡ chunks.old) }
@@ -220,12 +244,15 @@ pub(crate) fn run_task<H: Host>(
     host: &mut H,
 ) -> Result<(), AllocError>
     requires spare { 1 ≤ chunks.old.spare }
-    requires fresh { All (λ id. IsNone ((flat_of chunks.old).standing id)) (arrival_of (plain_action_of task.now.action)) }
+    requires fresh { All (λ id. IsNone ((flat_of chunks.old).standing id))
+        (arrival_of (plain_action_of task.now.action)) }
     requires limits { IsTrue (is_action task.now.action) }
     requires prepared { prepared ≡ prepared_of task.now }
     requires room_for_ran { vec_len log.old.ran < vec_capacity log.old.ran }
     requires room_for_wishes { vec_len log.old.wishes + 2 ≤ vec_capacity log.old.wishes }
-    ensures ok { OnOk result ((calls : List HostCall) × H.reaches host.old calls host.new × TasksRan (is_recorded recorded.now.chunks.now) (task.now ∷ []) (stage_at chunks.old log.old) (stage_at chunks.new log.new) calls) }
+    ensures ok { OnOk result ((calls : List HostCall) × H.reaches host.old calls host.new
+        × TasksRan (is_recorded recorded.now.chunks.now) (task.now ∷ [])
+        (stage_at chunks.old log.old) (stage_at chunks.new log.new) calls) }
     ensures refused { OnErr result (H.reaches host.old [] host.new) }
     ensures hosted { OnErr result (IsTrue (is_hosted (plain_action_of task.now.action))) }
     ensures same_chunks { OnErr result (chunks.new ≡ chunks.old) }

@@ -30,7 +30,11 @@ const AWAY: ChunkPos = ChunkPos { x: 9, z: 9 };
 
 /// A task on chunk 0.
 fn task(number: u64, action: Action) -> Task
-    ensures { result ≡ record { number = number; chunk = record { x = pos 0; z = pos 0 }; action = action } }
+    ensures { result ≡ record {
+      number = number;
+      chunk = record { x = pos 0; z = pos 0 };
+      action = action;
+    } }
 {
     Task {
         number,
@@ -41,7 +45,12 @@ fn task(number: u64, action: Action) -> Task
 
 /// Walks one chunk a tick, and stands where the second step would leave chunk 1.
 fn walker(id: u32) -> Entity
-    ensures { result ≡ record { id = id; at = record { x = pos 15; y = pos 64; z = pos 1 }; vx = pos 16; vz = pos 0 } }
+    ensures { result ≡ record {
+      id = id;
+      at = record { x = pos 15; y = pos 64; z = pos 1 };
+      vx = pos 16;
+      vz = pos 0;
+    } }
 {
     Entity {
         id,

@@ -119,7 +119,8 @@ impl Busy {
 
     /// Asks for a tick of a region.
     fn ask(&mut self, rt: &impl Abort, alloc: Global, worker: u32, region: u64) -> BeginAnswer
-        ensures begins { (reserved : Meaning) × Begins reserved self.new worker worker region result }
+        ensures begins { (reserved : Meaning)
+            × Begins reserved self.new worker worker region result }
         ensures kept { KeepsOpen self.old self.new }
     {
         assert!(rt; self.core.state(region).is_some());
@@ -157,7 +158,8 @@ impl Busy {
     /// Ends a tick that has run.
     fn give_back(&mut self, rt: &impl Abort, alloc: Global, tick: Tick)
         requires { IsOut self.old tick }
-        ensures { Records self.old self.new tick.worker (end_event (world_of self.old) tick.worker tick.region tick.log.ran) }
+        ensures { Records self.old self.new tick.worker
+            (end_event (world_of self.old) tick.worker tick.region tick.log.ran) }
     {
         match self.core.release(alloc, tick) {
             Ok(_) => {}

@@ -24,7 +24,24 @@ pub(crate) fn check_files<F: Shelf, K: Sink>(
     shelf: &mut F,
     out: &mut K,
 ) -> Ending
-    ensures { (words : List (List ℕ)) → request_in words ≡ Some (check (record { world = names.entry.world.now; script = names.entry.script.now }) report.now) → Came (record { words = words; held = F.held shelf.old; faults = F.faults shelf.old; faults_later = F.faults shelf.new; taken = F.taken shelf.old; taken_later = F.taken shelf.new; reads = F.reads shelf.old; reads_later = F.reads shelf.new; received = K.received out.old; received_later = K.received out.new; write_faults = K.faults out.old; write_faults_later = K.faults out.new; puts = K.puts out.old; puts_later = K.puts out.new }) result }
+    ensures { (words : List (List ℕ)) → request_in words
+        ≡ Some (check (record { world = names.entry.world.now; script = names.entry.script.now })
+        report.now) → Came (record {
+          words = words;
+          held = F.held shelf.old;
+          faults = F.faults shelf.old;
+          faults_later = F.faults shelf.new;
+          taken = F.taken shelf.old;
+          taken_later = F.taken shelf.new;
+          reads = F.reads shelf.old;
+          reads_later = F.reads shelf.new;
+          received = K.received out.old;
+          received_later = K.received out.new;
+          write_faults = K.faults out.old;
+          write_faults_later = K.faults out.new;
+          puts = K.puts out.old;
+          puts_later = K.puts out.new;
+        }) result }
 {
     let ReportFiles { files, report } = match read_report_files(alloc, names, report, shelf) {
         Ok(files) => files,
@@ -41,7 +58,9 @@ pub(crate) fn check_files<F: Shelf, K: Sink>(
 fn check_texts<K: Sink>(alloc: Global, texts: Texts, report: &[u8], out: &mut K) -> Ending
     requires grid { IsGrid texts.opening.grid }
     requires within { length report.now ≤ size_limit }
-    ensures { CheckEnds texts.opening texts.script report.now (K.received out.old) (K.received out.new) (K.faults out.old) (K.faults out.new) (K.puts out.old) (K.puts out.new) result }
+    ensures { CheckEnds texts.opening texts.script report.now (K.received out.old)
+        (K.received out.new) (K.faults out.old) (K.faults out.new) (K.puts out.old) (K.puts out.new)
+        result }
 {
     let Texts { opening, script } = texts;
     match check(alloc, opening, script, report) {

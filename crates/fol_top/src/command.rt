@@ -36,7 +36,8 @@ pub(crate) enum Request<'a> {
 
 /// What `run WORLD SCRIPT WORKERS`, `run WORLD SCRIPT WORKERS json`, `check WORLD SCRIPT REPORT` or `make N` asks for; `None` exactly where the words are no command.
 pub(crate) fn request_in<'a>(words: &[&'a str]) -> Option<Request<'a>>
-    ensures request { MatchOption result (request_in (map (λ w. w.now) words.now) ≡ None) (λ r. request_in (map (λ w. w.now) words.now) ≡ Some (asked r)) }
+    ensures request { MatchOption result (request_in (map (λ w. w.now) words.now) ≡ None) (λ r.
+        request_in (map (λ w. w.now) words.now) ≡ Some (asked r)) }
     ensures within { IfSome result IsWithin }
 {
     match words {
@@ -67,7 +68,10 @@ fn run_asked<'a>(
     workers: &str,
     more: &[&str],
 ) -> Option<Request<'a>>
-    ensures request { MatchOption result (run_asked command.now world.now script.now workers.now (map (λ w. w.now) more.now) ≡ None) (λ r. run_asked command.now world.now script.now workers.now (map (λ w. w.now) more.now) ≡ Some (asked r)) }
+    ensures request { MatchOption result
+        (run_asked command.now world.now script.now workers.now (map (λ w. w.now) more.now)
+        ≡ None) (λ r. run_asked command.now world.now script.now workers.now
+        (map (λ w. w.now) more.now) ≡ Some (asked r)) }
     ensures within { IfSome result IsWithin }
 {
     if !is_run(command, world, script) {
@@ -99,7 +103,10 @@ fn check_asked<'a>(
     report: &'a str,
     more: &[&str],
 ) -> Option<Request<'a>>
-    ensures request { MatchOption result (check_asked command.now world.now script.now report.now (map (λ w. w.now) more.now) ≡ None) (λ r. check_asked command.now world.now script.now report.now (map (λ w. w.now) more.now) ≡ Some (asked r)) }
+    ensures request { MatchOption result
+        (check_asked command.now world.now script.now report.now (map (λ w. w.now) more.now)
+        ≡ None) (λ r. check_asked command.now world.now script.now report.now
+        (map (λ w. w.now) more.now) ≡ Some (asked r)) }
     ensures within { IfSome result IsWithin }
 {
     if is_check(command, world, script, report) && more.is_empty() {
@@ -151,7 +158,8 @@ fn form_in(more: &[&str]) -> Option<Form>
 
 /// What `make` asks for with this word; `None` where the word is no number from 1 to 500.
 fn make_of<'a>(number: &str) -> Option<Request<'a>>
-    ensures request { MatchOption result (make_of (reading (pos 1) (pos 500) number.now) ≡ None) (λ r. make_of (reading (pos 1) (pos 500) number.now) ≡ Some (asked r)) }
+    ensures request { MatchOption result (make_of (reading (pos 1) (pos 500) number.now)
+        ≡ None) (λ r. make_of (reading (pos 1) (pos 500) number.now) ≡ Some (asked r)) }
     ensures within { IfSome result IsWithin }
 {
     match read_number(number.as_bytes(), 1, 500) {

@@ -14,7 +14,8 @@ use std::fmt::Write;
 /// is out of memory. A fault of the sink changes nothing.
 pub(crate) fn complain<E: Sink>(alloc: Global, ending: Ending, err: &mut E) -> Ending
     ensures told { IsTold ending result }
-    ensures text { Complains (E.received err.old) (E.received err.new) (E.faults err.old) (E.faults err.new) (status_of result) }
+    ensures text { Complains (E.received err.old) (E.received err.new) (E.faults err.old)
+        (E.faults err.new) (status_of result) }
 {
     match ending {
         Ending::Written => ending,
@@ -50,7 +51,8 @@ pub(crate) fn complain<E: Sink>(alloc: Global, ending: Ending, err: &mut E) -> E
 fn put_text<E: Sink>(ending: Ending, text: &str, err: &mut E) -> Ending
     requires { text.now ≡ text_of (status_of ending) }
     ensures same { result ≡ ending }
-    ensures puts { Puts (E.received err.old) (E.received err.new) (E.faults err.old) (E.faults err.new) (text_of (status_of result)) }
+    ensures puts { Puts (E.received err.old) (E.received err.new) (E.faults err.old)
+        (E.faults err.new) (text_of (status_of result)) }
 {
     let _answer = err.put(text.as_bytes());
     ending
@@ -61,7 +63,8 @@ fn put_line<E: Sink>(ending: Ending, text: Result<String, AllocError>, err: &mut
     requires number { has_number ending ≡ true }
     requires text { IfOk text (λ t. string_bytes t ≡ text_of (status_of ending)) }
     ensures told { IsTold ending result }
-    ensures puts { Puts (E.received err.old) (E.received err.new) (E.faults err.old) (E.faults err.new) (text_of (status_of result)) }
+    ensures puts { Puts (E.received err.old) (E.received err.new) (E.faults err.old)
+        (E.faults err.new) (text_of (status_of result)) }
 {
     match text {
         Ok(text) => put_text(ending, text.as_str(), err),

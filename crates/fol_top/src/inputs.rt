@@ -34,11 +34,15 @@ pub(crate) fn read_files<F: Shelf>(
     names: Names<'_>,
     shelf: &mut F,
 ) -> Result<Files, Ending>
-    ensures world_held { IfOk result (λ files. IsHeld (F.held shelf.old names.entry.world.now) files.world) }
+    ensures world_held { IfOk result (λ files.
+        IsHeld (F.held shelf.old names.entry.world.now) files.world) }
     ensures world_within { IfOk result (λ files. length files.world ≤ size_limit) }
-    ensures script_held { IfOk result (λ files. IsHeld (F.held shelf.old names.entry.script.now) files.script) }
+    ensures script_held { IfOk result (λ files.
+        IsHeld (F.held shelf.old names.entry.script.now) files.script) }
     ensures script_within { IfOk result (λ files. length files.script ≤ size_limit) }
-    ensures ends { IfErr result (ReadsEnd (F.held shelf.old) (F.faults shelf.old) (F.faults shelf.new) (F.taken shelf.old) (F.taken shelf.new) (F.reads shelf.old) (F.reads shelf.new) (names.entry.world.now ∷ names.entry.script.now ∷ [])) }
+    ensures ends { IfErr result (ReadsEnd (F.held shelf.old) (F.faults shelf.old)
+        (F.faults shelf.new) (F.taken shelf.old) (F.taken shelf.new) (F.reads shelf.old)
+        (F.reads shelf.new) (names.entry.world.now ∷ names.entry.script.now ∷ [])) }
     ensures holds_the_same { (n : List ℕ) → F.held shelf.new n ≡ F.held shelf.old n }
     ensures faults_never_fall { (n : List ℕ) → F.faults shelf.old n ≤ F.faults shelf.new n }
     ensures taken_never_falls { F.taken shelf.old ≤ F.taken shelf.new }
@@ -56,13 +60,17 @@ pub(crate) fn read_report_files<F: Shelf>(
     report: &str,
     shelf: &mut F,
 ) -> Result<ReportFiles, Ending>
-    ensures world_held { IfOk result (λ all. IsHeld (F.held shelf.old names.entry.world.now) all.files.world) }
+    ensures world_held { IfOk result (λ all.
+        IsHeld (F.held shelf.old names.entry.world.now) all.files.world) }
     ensures world_within { IfOk result (λ all. length all.files.world ≤ size_limit) }
-    ensures script_held { IfOk result (λ all. IsHeld (F.held shelf.old names.entry.script.now) all.files.script) }
+    ensures script_held { IfOk result (λ all.
+        IsHeld (F.held shelf.old names.entry.script.now) all.files.script) }
     ensures script_within { IfOk result (λ all. length all.files.script ≤ size_limit) }
     ensures report_held { IfOk result (λ all. IsHeld (F.held shelf.old report.now) all.report) }
     ensures report_within { IfOk result (λ all. length all.report ≤ size_limit) }
-    ensures ends { IfErr result (ReadsEnd (F.held shelf.old) (F.faults shelf.old) (F.faults shelf.new) (F.taken shelf.old) (F.taken shelf.new) (F.reads shelf.old) (F.reads shelf.new) (names.entry.world.now ∷ names.entry.script.now ∷ report.now ∷ [])) }
+    ensures ends { IfErr result (ReadsEnd (F.held shelf.old) (F.faults shelf.old)
+        (F.faults shelf.new) (F.taken shelf.old) (F.taken shelf.new) (F.reads shelf.old)
+        (F.reads shelf.new) (names.entry.world.now ∷ names.entry.script.now ∷ report.now ∷ [])) }
 {
     let files = read_files(alloc, names, shelf)?;
     let report = read_file(alloc, report, shelf)?;
@@ -73,7 +81,8 @@ pub(crate) fn read_report_files<F: Shelf>(
 fn read_file<F: Shelf>(alloc: Global, name: &str, shelf: &mut F) -> Result<Bytes, Ending>
     ensures held { IfOk result (λ bytes. IsHeld (F.held shelf.old name.now) bytes) }
     ensures within { IfOk result (λ bytes. length bytes ≤ size_limit) }
-    ensures ends { IfErr result (ReadEnds (F.held shelf.old name.now) (F.faults shelf.old name.now) (F.faults shelf.new name.now) (F.taken shelf.old) (F.taken shelf.new)) }
+    ensures ends { IfErr result (ReadEnds (F.held shelf.old name.now) (F.faults shelf.old name.now)
+        (F.faults shelf.new name.now) (F.taken shelf.old) (F.taken shelf.new)) }
     ensures holds_the_same { (n : List ℕ) → F.held shelf.new n ≡ F.held shelf.old n }
     ensures faults_never_fall { (n : List ℕ) → F.faults shelf.old n ≤ F.faults shelf.new n }
     ensures taken_never_falls { F.taken shelf.old ≤ F.taken shelf.new }

@@ -18,7 +18,8 @@ pub(crate) fn write_output<K: Sink>(
     form: Form,
     out: &mut K,
 ) -> Ending
-    ensures { WriteEnds (K.received out.old) (K.received out.new) (K.faults out.old) (K.faults out.new) (K.puts out.old) (K.puts out.new) (text_in form closing.now) result }
+    ensures { WriteEnds (K.received out.old) (K.received out.new) (K.faults out.old)
+        (K.faults out.new) (K.puts out.old) (K.puts out.new) (text_in form closing.now) result }
 {
     let bytes = match text_in(alloc, closing, form) {
         Ok(bytes) => bytes,
@@ -29,7 +30,8 @@ pub(crate) fn write_output<K: Sink>(
 
 /// Puts an output that is whole.
 pub(crate) fn put_output<K: Sink>(bytes: &[u8], out: &mut K) -> Ending
-    ensures { WriteEnds (K.received out.old) (K.received out.new) (K.faults out.old) (K.faults out.new) (K.puts out.old) (K.puts out.new) bytes.now result }
+    ensures { WriteEnds (K.received out.old) (K.received out.new) (K.faults out.old)
+        (K.faults out.new) (K.puts out.old) (K.puts out.new) bytes.now result }
 {
     match put_in_pieces(out, bytes) {
         Put::Ok => Ending::Written,

@@ -60,8 +60,24 @@ pub fn run<R: Threads + Wait + Sync, F: Shelf, K: Sink, E: Sink, G: Gate + Sync>
     err: &mut E,
     gate: &G,
 ) -> Status
-    ensures outcome { Outcome (record { words = map (λ w. w.now) words.now; held = F.held shelf.old; faults = F.faults shelf.old; faults_later = F.faults shelf.new; taken = F.taken shelf.old; taken_later = F.taken shelf.new; reads = F.reads shelf.old; reads_later = F.reads shelf.new; received = K.received out.old; received_later = K.received out.new; write_faults = K.faults out.old; write_faults_later = K.faults out.new; puts = K.puts out.old; puts_later = K.puts out.new }) result }
-    ensures complaint { Complains (E.received err.old) (E.received err.new) (E.faults err.old) (E.faults err.new) result }
+    ensures outcome { Outcome (record {
+      words = map (λ w. w.now) words.now;
+      held = F.held shelf.old;
+      faults = F.faults shelf.old;
+      faults_later = F.faults shelf.new;
+      taken = F.taken shelf.old;
+      taken_later = F.taken shelf.new;
+      reads = F.reads shelf.old;
+      reads_later = F.reads shelf.new;
+      received = K.received out.old;
+      received_later = K.received out.new;
+      write_faults = K.faults out.old;
+      write_faults_later = K.faults out.new;
+      puts = K.puts out.old;
+      puts_later = K.puts out.new;
+    }) result }
+    ensures complaint { Complains (E.received err.old) (E.received err.new) (E.faults err.old)
+        (E.faults err.new) result }
 {
     let ending = work(rt, alloc, words, shelf, out, gate);
     complain(alloc, ending, err).status()
@@ -76,8 +92,39 @@ fn work<R: Threads + Wait + Sync, F: Shelf, K: Sink, G: Gate + Sync>(
     out: &mut K,
     gate: &G,
 ) -> Ending
-    ensures came { Came (record { words = map (λ w. w.now) words.now; held = F.held shelf.old; faults = F.faults shelf.old; faults_later = F.faults shelf.new; taken = F.taken shelf.old; taken_later = F.taken shelf.new; reads = F.reads shelf.old; reads_later = F.reads shelf.new; received = K.received out.old; received_later = K.received out.new; write_faults = K.faults out.old; write_faults_later = K.faults out.new; puts = K.puts out.old; puts_later = K.puts out.new }) result }
-    ensures untouched { asks_for_files (request_in (map (λ w. w.now) words.now)) ≡ false → Untouched (record { words = map (λ w. w.now) words.now; held = F.held shelf.old; faults = F.faults shelf.old; faults_later = F.faults shelf.new; taken = F.taken shelf.old; taken_later = F.taken shelf.new; reads = F.reads shelf.old; reads_later = F.reads shelf.new; received = K.received out.old; received_later = K.received out.new; write_faults = K.faults out.old; write_faults_later = K.faults out.new; puts = K.puts out.old; puts_later = K.puts out.new }) }
+    ensures came { Came (record {
+      words = map (λ w. w.now) words.now;
+      held = F.held shelf.old;
+      faults = F.faults shelf.old;
+      faults_later = F.faults shelf.new;
+      taken = F.taken shelf.old;
+      taken_later = F.taken shelf.new;
+      reads = F.reads shelf.old;
+      reads_later = F.reads shelf.new;
+      received = K.received out.old;
+      received_later = K.received out.new;
+      write_faults = K.faults out.old;
+      write_faults_later = K.faults out.new;
+      puts = K.puts out.old;
+      puts_later = K.puts out.new;
+    }) result }
+    ensures untouched { asks_for_files (request_in (map (λ w. w.now) words.now)) ≡ false
+        → Untouched (record {
+          words = map (λ w. w.now) words.now;
+          held = F.held shelf.old;
+          faults = F.faults shelf.old;
+          faults_later = F.faults shelf.new;
+          taken = F.taken shelf.old;
+          taken_later = F.taken shelf.new;
+          reads = F.reads shelf.old;
+          reads_later = F.reads shelf.new;
+          received = K.received out.old;
+          received_later = K.received out.new;
+          write_faults = K.faults out.old;
+          write_faults_later = K.faults out.new;
+          puts = K.puts out.old;
+          puts_later = K.puts out.new;
+        }) }
 {
     match request_in(words) {
         None => Ending::Words,
@@ -105,7 +152,25 @@ fn run_files<R: Threads + Wait + Sync, F: Shelf, K: Sink, G: Gate + Sync>(
     gate: &G,
 ) -> Ending
     requires { (1 ≤ workers) × (workers ≤ 64) }
-    ensures { (words : List (List ℕ)) → request_in words ≡ Some (run (record { world = names.entry.world.now; script = names.entry.script.now }) workers form) → Came (record { words = words; held = F.held shelf.old; faults = F.faults shelf.old; faults_later = F.faults shelf.new; taken = F.taken shelf.old; taken_later = F.taken shelf.new; reads = F.reads shelf.old; reads_later = F.reads shelf.new; received = K.received out.old; received_later = K.received out.new; write_faults = K.faults out.old; write_faults_later = K.faults out.new; puts = K.puts out.old; puts_later = K.puts out.new }) result }
+    ensures { (words : List (List ℕ)) → request_in words
+        ≡ Some (run (record { world = names.entry.world.now; script = names.entry.script.now })
+        workers form)
+        → Came (record {
+          words = words;
+          held = F.held shelf.old;
+          faults = F.faults shelf.old;
+          faults_later = F.faults shelf.new;
+          taken = F.taken shelf.old;
+          taken_later = F.taken shelf.new;
+          reads = F.reads shelf.old;
+          reads_later = F.reads shelf.new;
+          received = K.received out.old;
+          received_later = K.received out.new;
+          write_faults = K.faults out.old;
+          write_faults_later = K.faults out.new;
+          puts = K.puts out.old;
+          puts_later = K.puts out.new;
+        }) result }
 {
     let files = match read_files(alloc, names, shelf) {
         Ok(files) => files,
@@ -128,7 +193,8 @@ fn run_made<R: Threads + Wait + Sync, K: Sink, G: Gate + Sync>(
 ) -> Ending
     requires some { 1 ≤ clusters }
     requires few { clusters ≤ 500 }
-    ensures { OutputEnds (IsSummary clusters) (K.received out.old) (K.received out.new) (K.faults out.old) (K.faults out.new) (K.puts out.old) (K.puts out.new) result }
+    ensures { OutputEnds (IsSummary clusters) (K.received out.old) (K.received out.new)
+        (K.faults out.old) (K.faults out.new) (K.puts out.old) (K.puts out.new) result }
 {
     match make_texts(alloc, clusters) {
         Ok(texts) => {
@@ -151,7 +217,9 @@ fn run_texts<R: Threads + Wait + Sync, K: Sink, G: Gate + Sync>(
 ) -> Ending
     requires grid { IsGrid texts.opening.grid }
     requires workers { (1 ≤ workers) × (workers ≤ 64) }
-    ensures { OutputEnds (IsReport form texts.opening texts.script workers) (K.received out.old) (K.received out.new) (K.faults out.old) (K.faults out.new) (K.puts out.old) (K.puts out.new) result }
+    ensures { OutputEnds (IsReport form texts.opening texts.script workers) (K.received out.old)
+        (K.received out.new) (K.faults out.old) (K.faults out.new) (K.puts out.old) (K.puts out.new)
+        result }
 {
     let Texts { opening, script } = texts;
     match run_script(rt, alloc, opening, script, workers, gate) {

@@ -20,7 +20,8 @@ pub(crate) struct Texts {
 /// Reads the texts of both files, the world first.
 pub(crate) fn read_texts(alloc: Global, files: &Files) -> Result<Texts, Ending>
     ensures world { IfOk result (λ texts. IsWorldText files.now.world texts.opening) }
-    ensures script { IfOk result (λ texts. IsScriptText texts.opening.version files.now.script texts.script) }
+    ensures script { IfOk result (λ texts.
+        IsScriptText texts.opening.version files.now.script texts.script) }
     ensures ends { IfErr result (TextsEnd files.now.world files.now.script) }
 {
     let opening = match read_world(alloc, files.world.as_slice()) {

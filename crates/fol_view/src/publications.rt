@@ -136,7 +136,8 @@ impl Publications {
         requires room { length self.old.list < 2 ^ 62 }
         requires next { MayFollow self.old.list publication.now }
         ensures book { self.new.book ≡ self.old.book }
-        ensures added { MatchBool result (self.new.list ≡ self.old.list ++ publication.now ∷ []) (StartsWith self.new.list self.old.list) }
+        ensures added { MatchBool result (self.new.list ≡ self.old.list ++ publication.now ∷ [])
+            (StartsWith self.new.list self.old.list) }
     {
         let mut offer: Offer<Publication, u64, FrontsNeverFall, Nothing> = self
             .seen

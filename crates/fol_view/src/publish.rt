@@ -56,7 +56,8 @@ pub(crate) fn show<R: Wait>(rt: &R, writer: Writer, shown: Shown) -> Writer
 /// Shows readers the last of what was appended. A refusal of the copies does not mean that memory ran out, and is tried again.
 pub(crate) fn publish<R: Wait>(rt: &R, writer: Writer) -> Writer
     requires { CanPublish writer.desk.shown.value (drop writer.behind writer.log.items) }
-    ensures { Published (drop writer.behind writer.log.items) result.desk.shown.value (view result.desk.place) }
+    ensures { Published (drop writer.behind writer.log.items) result.desk.shown.value
+        (view result.desk.place) }
 {
     let mut writer = writer;
     for _ in rt.forever() {

@@ -47,7 +47,8 @@ impl OwnerReader {
             s,
             |reader: Reader, s: SectionPos| -> (Reader, Found)
                 requires { KnowsBook (view reader.place) known.now.book }
-                ensures { KnowsBook (view result.0.place) known.entry.now.book × Finds known.entry.now s result.1 }
+                ensures { KnowsBook (view result.0.place) known.entry.now.book
+                    × Finds known.entry.now s result.1 }
             { read(rt, reader, known, s) },
         );
         let Found { all, seen } = found;

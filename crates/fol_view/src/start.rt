@@ -52,9 +52,13 @@ impl View {
         requires own { seat.lock ≡ live_id live.now }
         ensures book { IfOk result (λ p. p.writer.book ≡ p.view.book) }
         ensures goes { IfOk result (λ p. Goes seat p.writer.seat []) }
-        ensures first { IfOk result (λ p. p.writer.list ≡ publication_of p.writer.seat.opening p.writer.seat.seen ∷ []) }
-        ensures readers { IfOk result (λ p. All (λ (r : Listed). (r.book ≡ p.view.book) × (r.list ≡ p.writer.list)) p.readers.items) }
-        ensures count { IfOk result (λ p. (p.view.readers ≡ readers) × (length p.readers.items ≡ readers)) }
+        ensures first { IfOk result (λ p. p.writer.list
+            ≡ publication_of p.writer.seat.opening p.writer.seat.seen ∷ []) }
+        ensures readers { IfOk result (λ p.
+            All (λ (r : Listed). (r.book ≡ p.view.book)
+            × (r.list ≡ p.writer.list)) p.readers.items) }
+        ensures count { IfOk result (λ p. (p.view.readers ≡ readers)
+            × (length p.readers.items ≡ readers)) }
         ensures back { IfErr result (λ s. Goes seat s []) }
     {
         let mut seat = seat;

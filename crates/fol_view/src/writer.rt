@@ -81,7 +81,8 @@ impl OwnerWriter {
         ensures book { self.new.book ≡ self.old.book }
         ensures goes { Goes self.old.seat self.new.seat [] }
         ensures front { IfOk result (λ n. n ≡ length self.new.seat.seen) }
-        ensures published { OnOk result (self.new.list ≡ self.old.list ++ publication_of self.new.seat.opening self.new.seat.seen ∷ []) }
+        ensures published { OnOk result (self.new.list
+            ≡ self.old.list ++ publication_of self.new.seat.opening self.new.seat.seen ∷ []) }
         ensures refused { OnErr result (self.new.list ≡ self.old.list) }
     {
         let owners = live.owner_rows(rt, &mut self.seat)?;

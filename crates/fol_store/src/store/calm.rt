@@ -21,7 +21,8 @@ impl Store {
     pub fn settle(&mut self, id: u64) -> Result<(), AllocError>
         requires here { (bag_of self.old id).here ≡ true }
         requires listed { (bag_of self.old id).listed ≡ true }
-        ensures whole { OnOk result (bag_of self.new id ≡ record (bag_of self.old id) { calm = true }) }
+        ensures whole { OnOk result (bag_of self.new id
+            ≡ record (bag_of self.old id) { calm = true }) }
         ensures err { OnErr result (Touched (bag_of self.old id) (bag_of self.new id)) }
         ensures others { (u : ℕ) → u ≢ id → bag_of self.new u ≡ bag_of self.old u }
         ensures next { next_of self.new ≡ next_of self.old }
@@ -43,8 +44,10 @@ impl Store {
         requires listed { (bag_of self.old id).listed ≡ true }
         requires empty { self.old.arrivals ≡ [] }
         ensures same { SameMeaning self.old self.new }
-        ensures whole { OnOk result (bag_of self.new id ≡ record (bag_of self.old id) { calm = true }) }
-        ensures err { OnErr result (bag_of self.new id ≡ record (bag_of self.old id) { listed = false }) }
+        ensures whole { OnOk result (bag_of self.new id
+            ≡ record (bag_of self.old id) { calm = true }) }
+        ensures err { OnErr result (bag_of self.new id
+            ≡ record (bag_of self.old id) { listed = false }) }
         ensures others { (u : ℕ) → u ≢ id → bag_of self.new u ≡ bag_of self.old u }
     {
         let Reopened { chunks, touched } = self.reopen(id);
@@ -62,7 +65,8 @@ impl Store {
         requires listed { (bag_of self.old id).listed ≡ true }
         requires empty { self.old.arrivals ≡ [] }
         ensures same { SameMeaning self.old self.new }
-        ensures bags { bag_of self.new ≡ at_id (bag_of self.old) id (record (bag_of self.old id) { listed = false }) }
+        ensures bags { bag_of self.new
+            ≡ at_id (bag_of self.old) id (record (bag_of self.old id) { listed = false }) }
         ensures chunks { result.chunks.items ≡ (bag_of self.old id).chunks }
         ensures reopened { IsReopened id result.chunks.items result.touched.items self.new }
     {
@@ -78,7 +82,8 @@ impl Store {
     ) -> Result<(), AllocError>
         requires { IsReopened id chunks.now touched.now self.old }
         ensures draws { Draws id chunks.now self.old self.new }
-        ensures gathered { OnOk result ((q : ChunkPos) → is_recorded chunks.now q ≡ true → IsGathered self.new id q) }
+        ensures gathered { OnOk result ((q : ChunkPos) → is_recorded chunks.now q ≡ true
+            → IsGathered self.new id q) }
     {
         for c in touched {
             match self.draw_known(id, chunks, *c) {
@@ -94,7 +99,8 @@ impl Store {
         requires { IsTarget id chunks.now self.old }
         ensures draws { Draws id chunks.now self.old self.new }
         ensures places { self.new.places ≡ self.old.places }
-        ensures gathered { OnOk result ((place self.old c).bag ≡ Some id → IsGathered self.new id c) }
+        ensures gathered { OnOk result ((place self.old c).bag ≡ Some id
+            → IsGathered self.new id c) }
     {
         if has_bag(self.places.at(c), id) {
             self.draw_rest(id, chunks, c)

@@ -22,7 +22,8 @@ impl Store {
         requires order { IsStrictlySortedBy chunk_cmp chunks.now }
         requires target { IsTarget id chunks.now self.old }
         ensures draws { Draws id chunks.now self.old self.new }
-        ensures gathered { OnOk result ((q : ChunkPos) → is_recorded chunks.now q ≡ true → IsGathered self.new id q) }
+        ensures gathered { OnOk result ((q : ChunkPos) → is_recorded chunks.now q ≡ true
+            → IsGathered self.new id q) }
     {
         for c in chunks {
             match self.draw(id, chunks, *c) {

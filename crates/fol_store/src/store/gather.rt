@@ -24,7 +24,8 @@ impl Store {
         requires order { IsStrictlySortedBy chunk_cmp chunks.now }
         requires places { All (λ c. IsTrue (is_chunk c)) chunks.now }
         requires free { AreFree (bag_of self.old) chunks.now }
-        ensures whole { OnOk result (bag_of self.new id ≡ record (bag_of self.old id) { listed = true; calm = true; chunks = chunks.now }) }
+        ensures whole { OnOk result (bag_of self.new id
+            ≡ record (bag_of self.old id) { listed = true; calm = true; chunks = chunks.now }) }
         ensures err { OnErr result (Touched (bag_of self.old id) (bag_of self.new id)) }
         ensures others { OthersSpared id chunks.now (bag_of self.old) (bag_of self.new) }
         ensures next { next_of self.new ≡ next_of self.old }
@@ -61,7 +62,8 @@ impl Store {
         requires listed { listed.items ≡ chunks.now }
         requires handed { handed.items ≡ chunks.now }
         ensures same { SameMeaning self.old self.new }
-        ensures whole { OnOk result (bag_of self.new id ≡ record (bag_of self.old id) { listed = true; calm = true; chunks = chunks.now }) }
+        ensures whole { OnOk result (bag_of self.new id
+            ≡ record (bag_of self.old id) { listed = true; calm = true; chunks = chunks.now }) }
         ensures err { OnErr result (Touched (bag_of self.old id) (bag_of self.new id)) }
         ensures others { OthersSpared id chunks.now (bag_of self.old) (bag_of self.new) }
     {
@@ -89,7 +91,8 @@ impl Store {
         requires order { IsStrictlySortedBy chunk_cmp chunks.now }
         requires listed { listed.items ≡ chunks.now }
         ensures same { SameMeaning self.old self.new }
-        ensures ok { OnOk result (bag_of self.new ≡ at_id (bag_of self.old) id (record (bag_of self.old id) { chunks = chunks.now })) }
+        ensures ok { OnOk result (bag_of self.new
+            ≡ at_id (bag_of self.old) id (record (bag_of self.old id) { chunks = chunks.now })) }
         ensures err { OnErr result (bag_of self.new ≡ bag_of self.old) }
         ensures empty { OnOk result (self.new.arrivals ≡ []) }
     {
@@ -110,9 +113,13 @@ impl Store {
         requires here { (bag_of self.old id).here ≡ true }
         requires not_listed { (bag_of self.old id).listed ≡ false }
         requires listed { listed.items ≡ chunks.now }
-        requires gone { (k : ℕ) (d : ChunkPos) → k < length (bag_of self.old id).chunks → (is_recorded chunks.now (slice_index_or (bag_of self.old id).chunks k d) ≡ true) ⊎ ((place self.old (slice_index_or (bag_of self.old id).chunks k d)).bag ≡ Some id → ⊥) }
+        requires gone { (k : ℕ) (d : ChunkPos) → k < length (bag_of self.old id).chunks
+            → (is_recorded chunks.now (slice_index_or (bag_of self.old id).chunks k d) ≡ true)
+            ⊎ ((place self.old (slice_index_or (bag_of self.old id).chunks k d)).bag ≡ Some id
+            → ⊥) }
         ensures same { SameMeaning self.old self.new }
-        ensures bags { bag_of self.new ≡ at_id (bag_of self.old) id (record (bag_of self.old id) { chunks = chunks.now }) }
+        ensures bags { bag_of self.new
+            ≡ at_id (bag_of self.old) id (record (bag_of self.old id) { chunks = chunks.now }) }
         ensures arrivals { self.new.arrivals ≡ self.old.arrivals }
     {
         let _chunks = chunks;
@@ -123,9 +130,12 @@ impl Store {
     pub(super) fn finish(&mut self, id: usize, handed: Vec<ChunkPos>)
         requires here { (bag_of self.old id).here ≡ true }
         requires chunks { (bag_of self.old id).chunks ≡ handed.items }
-        requires gathered { (q : ChunkPos) → is_recorded handed.items q ≡ true → IsGathered self.old id q }
+        requires gathered { (q : ChunkPos) → is_recorded handed.items q ≡ true
+            → IsGathered self.old id q }
         ensures same { SameMeaning self.old self.new }
-        ensures bags { bag_of self.new ≡ at_id (bag_of self.old) id (record (bag_of self.old id) { listed = true; calm = true }) }
+        ensures bags { bag_of self.new
+            ≡ at_id (bag_of self.old) id
+            (record (bag_of self.old id) { listed = true; calm = true }) }
     {
         slots::finish(self.alloc, &mut self.bags, id, handed);
     }

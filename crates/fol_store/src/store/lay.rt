@@ -68,7 +68,8 @@ impl Store {
         requires order { IsStrictlySortedBy block_cmp (map (λ (b : BlockAt). b.at) blocks.now) }
         requires each { IsTrue (list_all is_block_at blocks.now) }
         requires bare { IsBare self.old }
-        ensures blocks { OnOk result ((q : BlockPos) → found self.new (of_block q) ≡ some_number (block_in blocks.now q)) }
+        ensures blocks { OnOk result ((q : BlockPos)
+            → found self.new (of_block q) ≡ some_number (block_in blocks.now q)) }
         ensures entities { OnOk result ((id : ℕ) → found self.new (of_entity id) ≡ None) }
         ensures tasks { OnOk result ((n : ℕ) → found self.new (of_task n) ≡ None) }
         ensures bags { self.new.bags ≡ self.old.bags }
@@ -87,9 +88,13 @@ impl Store {
         requires closed { AllClosed self.old }
         requires fresh { found self.old (of_block at) ≡ None }
         requires above { 0 < id }
-        ensures blocks { OnOk result ((q : BlockPos) → found self.new (of_block q) ≡ (if same_block at q then some_number id else found self.old (of_block q))) }
-        ensures entities { OnOk result ((n : ℕ) → found self.new (of_entity n) ≡ found self.old (of_entity n)) }
-        ensures tasks { OnOk result ((n : ℕ) → found self.new (of_task n) ≡ found self.old (of_task n)) }
+        ensures blocks { OnOk result ((q : BlockPos)
+            → found self.new (of_block q)
+            ≡ (if same_block at q then some_number id else found self.old (of_block q))) }
+        ensures entities { OnOk result ((n : ℕ)
+            → found self.new (of_entity n) ≡ found self.old (of_entity n)) }
+        ensures tasks { OnOk result ((n : ℕ)
+            → found self.new (of_task n) ≡ found self.old (of_task n)) }
         ensures bags { self.new.bags ≡ self.old.bags }
     {
         match self.spot_of(chunk_of(at)) {
@@ -104,9 +109,13 @@ impl Store {
         requires fresh { found self.old (of_block at) ≡ None }
         requires above { 0 < id }
         requires spot { (place self.old (chunk_around at)).spot ≡ Some i }
-        ensures blocks { OnOk result ((q : BlockPos) → found self.new (of_block q) ≡ (if same_block at q then some_number id else found self.old (of_block q))) }
-        ensures entities { OnOk result ((n : ℕ) → found self.new (of_entity n) ≡ found self.old (of_entity n)) }
-        ensures tasks { OnOk result ((n : ℕ) → found self.new (of_task n) ≡ found self.old (of_task n)) }
+        ensures blocks { OnOk result ((q : BlockPos)
+            → found self.new (of_block q)
+            ≡ (if same_block at q then some_number id else found self.old (of_block q))) }
+        ensures entities { OnOk result ((n : ℕ)
+            → found self.new (of_entity n) ≡ found self.old (of_entity n)) }
+        ensures tasks { OnOk result ((n : ℕ)
+            → found self.new (of_task n) ≡ found self.old (of_task n)) }
         ensures bags { self.new.bags ≡ self.old.bags }
     {
         spots::lay_block(&mut self.spots, i, at, id)
@@ -117,9 +126,12 @@ impl Store {
         requires order { IsStrictlySortedBy nat_cmp (map (λ (e : Entity). e.id) entities.now) }
         requires closed { AllClosed self.old }
         requires none { (n : ℕ) → found self.old (of_entity n) ≡ None }
-        ensures entities { OnOk result ((n : ℕ) → found self.new (of_entity n) ≡ standing_in entities.now n) }
-        ensures blocks { OnOk result ((q : BlockPos) → found self.new (of_block q) ≡ found self.old (of_block q)) }
-        ensures tasks { OnOk result ((n : ℕ) → found self.new (of_task n) ≡ found self.old (of_task n)) }
+        ensures entities { OnOk result ((n : ℕ)
+            → found self.new (of_entity n) ≡ standing_in entities.now n) }
+        ensures blocks { OnOk result ((q : BlockPos)
+            → found self.new (of_block q) ≡ found self.old (of_block q)) }
+        ensures tasks { OnOk result ((n : ℕ)
+            → found self.new (of_task n) ≡ found self.old (of_task n)) }
         ensures bags { self.new.bags ≡ self.old.bags }
     {
         for entity in entities {
@@ -135,9 +147,13 @@ impl Store {
     fn lay_entity(&mut self, e: Entity) -> Result<(), AllocError>
         requires closed { AllClosed self.old }
         requires fresh { found self.old (of_entity e.id) ≡ None }
-        ensures entities { OnOk result ((n : ℕ) → found self.new (of_entity n) ≡ (if nat_eq e.id n then Some (standing_of e) else found self.old (of_entity n))) }
-        ensures blocks { OnOk result ((q : BlockPos) → found self.new (of_block q) ≡ found self.old (of_block q)) }
-        ensures tasks { OnOk result ((n : ℕ) → found self.new (of_task n) ≡ found self.old (of_task n)) }
+        ensures entities { OnOk result ((n : ℕ)
+            → found self.new (of_entity n)
+            ≡ (if nat_eq e.id n then Some (standing_of e) else found self.old (of_entity n))) }
+        ensures blocks { OnOk result ((q : BlockPos)
+            → found self.new (of_block q) ≡ found self.old (of_block q)) }
+        ensures tasks { OnOk result ((n : ℕ)
+            → found self.new (of_task n) ≡ found self.old (of_task n)) }
         ensures bags { self.new.bags ≡ self.old.bags }
     {
         match self.spot_of(chunk_of(e.at)) {
@@ -151,9 +167,13 @@ impl Store {
         requires closed { AllClosed self.old }
         requires fresh { found self.old (of_entity e.id) ≡ None }
         requires spot { (place self.old (chunk_around e.at)).spot ≡ Some i }
-        ensures entities { OnOk result ((n : ℕ) → found self.new (of_entity n) ≡ (if nat_eq e.id n then Some (standing_of e) else found self.old (of_entity n))) }
-        ensures blocks { OnOk result ((q : BlockPos) → found self.new (of_block q) ≡ found self.old (of_block q)) }
-        ensures tasks { OnOk result ((n : ℕ) → found self.new (of_task n) ≡ found self.old (of_task n)) }
+        ensures entities { OnOk result ((n : ℕ)
+            → found self.new (of_entity n)
+            ≡ (if nat_eq e.id n then Some (standing_of e) else found self.old (of_entity n))) }
+        ensures blocks { OnOk result ((q : BlockPos)
+            → found self.new (of_block q) ≡ found self.old (of_block q)) }
+        ensures tasks { OnOk result ((n : ℕ)
+            → found self.new (of_task n) ≡ found self.old (of_task n)) }
         ensures bags { self.new.bags ≡ self.old.bags }
     {
         spots::lay_entity(&mut self.spots, i, e)

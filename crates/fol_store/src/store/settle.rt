@@ -42,7 +42,8 @@ impl Store {
         ensures same { SameMeaning self.old self.new }
         ensures bags { self.new.bags ≡ self.old.bags }
         ensures arrivals { self.new.arrivals ≡ self.old.arrivals }
-        ensures homes { (q : ChunkPos) → (place_at self.new.places q).bag ≡ (place_at self.old.places q).bag }
+        ensures homes { (q : ChunkPos) → (place_at self.new.places q).bag
+            ≡ (place_at self.old.places q).bag }
     {
         match self.add_spot() {
             Ok(i) => self.name_spot(c, place, i),
@@ -75,7 +76,8 @@ impl Store {
         ensures same { SameMeaning self.old self.new }
         ensures bags { self.new.bags ≡ self.old.bags }
         ensures arrivals { self.new.arrivals ≡ self.old.arrivals }
-        ensures homes { (q : ChunkPos) → (place_at self.new.places q).bag ≡ (place_at self.old.places q).bag }
+        ensures homes { (q : ChunkPos) → (place_at self.new.places q).bag
+            ≡ (place_at self.old.places q).bag }
     {
         let named = Place {
             spot: Some(i),
@@ -154,7 +156,8 @@ impl Store {
     /// The chunk of the last task that came.
     fn last_chunk(&self) -> ChunkPos
         requires { 0 < length self.now.arrivals }
-        ensures { (xs : List Dated) (d : Dated) → self.now.arrivals ≡ xs ++ d ∷ [] → result ≡ d.task.chunk }
+        ensures { (xs : List Dated) (d : Dated) → self.now.arrivals ≡ xs ++ d ∷ []
+            → result ≡ d.task.chunk }
     {
         self.arrivals[self.arrivals.len() - 1].task.chunk
     }
@@ -162,7 +165,8 @@ impl Store {
     /// Hands the last task that came to the spot of its chunk.
     fn hand_out_to(&mut self, i: usize, c: ChunkPos) -> Result<(), AllocError>
         requires some { 0 < length self.old.arrivals }
-        requires last { (xs : List Dated) (d : Dated) → self.old.arrivals ≡ xs ++ d ∷ [] → c ≡ d.task.chunk }
+        requires last { (xs : List Dated) (d : Dated) → self.old.arrivals ≡ xs ++ d ∷ []
+            → c ≡ d.task.chunk }
         requires spot { (place self.old c).spot ≡ Some i }
         requires noted { IsNoted self.old c }
         ensures same { SameMeaning self.old self.new }
@@ -188,7 +192,8 @@ impl Store {
         ensures bags { bag_of self.new ≡ bag_of self.old }
         ensures arrivals { self.new.arrivals ≡ self.old.arrivals }
         ensures gone { OnOk result ((place self.new c).bag ≡ Some id → ⊥) }
-        ensures fewer { (q : ChunkPos) → (place self.new q).bag ≡ Some id → (place self.old q).bag ≡ Some id }
+        ensures fewer { (q : ChunkPos) → (place self.new q).bag ≡ Some id
+            → (place self.old q).bag ≡ Some id }
     {
         if !has_bag(self.places.at(c), id) {
             return Ok(());
@@ -209,7 +214,8 @@ impl Store {
         ensures bags { bag_of self.new ≡ bag_of self.old }
         ensures arrivals { self.new.arrivals ≡ self.old.arrivals }
         ensures gone { OnOk result ((place self.new c).bag ≡ Some id → ⊥) }
-        ensures fewer { (q : ChunkPos) → (place self.new q).bag ≡ Some id → (place self.old q).bag ≡ Some id }
+        ensures fewer { (q : ChunkPos) → (place self.new q).bag ≡ Some id
+            → (place self.old q).bag ≡ Some id }
     {
         match spots::shift_from_bag(&mut self.bags, id, &[c], &mut self.spots, i) {
             Ok(()) => {
@@ -228,7 +234,10 @@ impl Store {
         ensures same { SameMeaning self.old self.new }
         ensures bags { bag_of self.new ≡ bag_of self.old }
         ensures arrivals { self.new.arrivals ≡ self.old.arrivals }
-        ensures gone { OnOk result ((k : ℕ) (d : ChunkPos) → k < length (bag_of self.new id).chunks → (is_recorded chunks.now (slice_index_or (bag_of self.new id).chunks k d) ≡ true) ⊎ ((place self.new (slice_index_or (bag_of self.new id).chunks k d)).bag ≡ Some id → ⊥)) }
+        ensures gone { OnOk result ((k : ℕ) (d : ChunkPos) → k < length (bag_of self.new id).chunks
+            → (is_recorded chunks.now (slice_index_or (bag_of self.new id).chunks k d) ≡ true)
+            ⊎ ((place self.new (slice_index_or (bag_of self.new id).chunks k d)).bag ≡ Some id
+            → ⊥)) }
     {
         let list = ChunkList::of(chunks);
         for k in 0..self.count_of(id) {

@@ -88,9 +88,13 @@ impl Store {
         requires into_listed { (bag_of self.old into).listed ≡ true }
         requires from_order { IsInOrder (bag_of self.old from) }
         requires into_order { IsInOrder (bag_of self.old into) }
-        ensures from { OnOk result (bag_of self.new from ≡ record (bag_of self.old from) { calm = true }) }
-        ensures into { OnOk result (bag_of self.new into ≡ record (bag_of self.old into) { calm = true }) }
-        ensures chunks { IfOk result (λ lists. IsUnion (bag_of self.old into).chunks (bag_of self.old from).chunks lists.chunks.items) }
+        ensures from { OnOk result (bag_of self.new from
+            ≡ record (bag_of self.old from) { calm = true }) }
+        ensures into { OnOk result (bag_of self.new into
+            ≡ record (bag_of self.old into) { calm = true }) }
+        ensures chunks { IfOk result (λ lists.
+            IsUnion (bag_of self.old into).chunks (bag_of self.old from).chunks
+            lists.chunks.items) }
         ensures handed { IfOk result (λ lists. lists.handed.items ≡ lists.chunks.items) }
         ensures from_stays { Stays (bag_of self.old from) (bag_of self.new from) }
         ensures into_stays { Stays (bag_of self.old into) (bag_of self.new into) }
@@ -112,7 +116,8 @@ impl Store {
     fn make_whole(&mut self, id: u64) -> Result<(), AllocError>
         requires here { (bag_of self.old id).here ≡ true }
         requires listed { (bag_of self.old id).listed ≡ true }
-        ensures whole { OnOk result (bag_of self.new id ≡ record (bag_of self.old id) { calm = true }) }
+        ensures whole { OnOk result (bag_of self.new id
+            ≡ record (bag_of self.old id) { calm = true }) }
         ensures stays { Stays (bag_of self.old id) (bag_of self.new id) }
         ensures others { (u : ℕ) → u ≢ id → bag_of self.new u ≡ bag_of self.old u }
         ensures same { SameWorld self.old self.new }
@@ -133,7 +138,9 @@ impl Store {
         requires into_listed { (bag_of self.now into).listed ≡ true }
         requires from_order { IsInOrder (bag_of self.now from) }
         requires into_order { IsInOrder (bag_of self.now into) }
-        ensures chunks { IfOk result (λ lists. IsUnion (bag_of self.now into).chunks (bag_of self.now from).chunks lists.chunks.items) }
+        ensures chunks { IfOk result (λ lists.
+            IsUnion (bag_of self.now into).chunks (bag_of self.now from).chunks
+            lists.chunks.items) }
         ensures handed { IfOk result (λ lists. lists.handed.items ≡ lists.chunks.items) }
     {
         let chunks = members::union(self.alloc, self.chunks_of(into), self.chunks_of(from))?;
@@ -158,7 +165,8 @@ impl Store {
         requires from_whole { is_whole (bag_of self.old from) ≡ true }
         requires into_whole { is_whole (bag_of self.old into) ≡ true }
         requires from_order { IsInOrder (bag_of self.old from) }
-        requires chunks { IsUnion (bag_of self.old into).chunks (bag_of self.old from).chunks lists.chunks.items }
+        requires chunks { IsUnion (bag_of self.old into).chunks (bag_of self.old from).chunks
+            lists.chunks.items }
         requires handed { lists.handed.items ≡ lists.chunks.items }
         ensures joined { Joined from into (bag_of self.old) (bag_of self.new) }
         ensures same { SameWorld self.old self.new }
