@@ -1,10 +1,11 @@
 //! The loaded chunks of some sections, listed in order.
 
 ghost use Rattle.std.specs.Prelude.{◌≡◌, ◌≤◌, ◌&&◌, nat_lt, count_by, filter, []};
-ghost use Rattle.std.specs.List.Sorted.{IsStrictlySortedBy};
+ghost use Rattle.std.specs.List.Sorted.{IsPermutation, IsSortedBy, IsStrictlySortedBy};
+ghost use Rattle.std.specs.Ordering.{is_lt};
 ghost use Rattle.std.specs.Vec.{vec_capacity};
 ghost use Rattle.fol_model.specs.Geometry.{section_of, is_among};
-ghost use Rattle.fol_model.specs.Universe.{all_chunks, section_cmp};
+ghost use Rattle.fol_model.specs.Universe.{all_chunks, chunk_cmp, section_cmp};
 ghost use Rattle.fol_sections.specs.Table.{holds_of};
 
 use fol_model::{ChunkPos, SectionPos};
@@ -23,5 +24,16 @@ pub fn list_chunks(sections: &Sections, row: &[SectionPos], out: &mut Vec<ChunkP
     for s in row {
         sections.chunks_in(*s, out);
     }
-    out.sort_unstable_by_key(|c| (c.z, c.x));
+    put_in_order(out);
+}
+
+/// Puts a list of chunks in order, by `(z, x)`. It is mostly in order already, and is then left as it is. Takes no memory.
+fn put_in_order(list: &mut Vec<ChunkPos>)
+    ensures moved { IsPermutation list.old.items list.new.items }
+    ensures sorted { IsSortedBy (λ a b. is_lt (chunk_cmp a b)) list.new.items }
+    ensures capacity { vec_capacity list.new ≡ vec_capacity list.old }
+{
+    if !list.is_sorted_by_key(|c| (c.z, c.x)) {
+        list.sort_unstable_by_key(|c| (c.z, c.x));
+    }
 }

@@ -1,8 +1,6 @@
-use Rattle.std.proofs.Common.{refl, ◌∙◌, arith, rules, []}
+use Rattle.std.proofs.Common.{refl, ◌∙◌, arith, []}
 use Rattle.std.specs.Prelude.{pos}
-use Rattle.std.proofs.lemmas.List.Sorted.{answers_always, IsPermutation-refl}
-use Rattle.fol_model.specs.Universe.{chunk_cmp}
-use Rattle.fol_model.specs.declared.places.ChunkPos.{ChunkPos}
+use Rattle.std.proofs.lemmas.List.Sorted.{IsPermutation-refl}
 use Rattle.fol_model.specs.declared.places.SectionPos.{SectionPos}
 use Rattle.fol_regions.proofs.ChunkCounts.{fresh_section, listed_all, listed_fits, listed_more, listed_none}
 use Rattle.fol_regions.proofs.chunks.list_chunks.Goals as goal
@@ -31,10 +29,8 @@ loop-s-preserved c =
     }
 
 pub returns-clause-chunks : goal.returns-clause-chunks
-unfolding chunk_cmp
 returns-clause-chunks c =
-    listed_all c.args.sections.now c.args.row.now c.loop-s.s-index c.loop-s.out.items _ (omega arith) c.loop-s.invariant.listed c.sort_unstable_by_key.ensures.permutation
-    (c.sort_unstable_by_key.ensures.sorted (λ (s : ChunkPos). (s.z, s.x)) (answers_always _ _ _ (λ f a r g h. search rules)))
+    listed_all c.args.sections.now c.args.row.now c.loop-s.s-index c.loop-s.out.items _ (omega arith) c.loop-s.invariant.listed c.put_in_order.ensures.moved c.put_in_order.ensures.sorted
 
 pub returns-clause-capacity : goal.returns-clause-capacity
-returns-clause-capacity c = c.sort_unstable_by_key.ensures.capacity ∙ c.loop-s.invariant.capacity
+returns-clause-capacity c = c.put_in_order.ensures.capacity ∙ c.loop-s.invariant.capacity
