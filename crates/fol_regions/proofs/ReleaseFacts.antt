@@ -196,7 +196,7 @@ module _ (s : sections.Table) (b : Book) (t : ℕ) (rules : Rules (grid_of s b))
     row_owner : (q : SectionPos) → is_among (rows_of j t) q ≡ nat_eq (owner_of j q) t
     row_owner q = row_members j t (joins.t_pos (grid_of s b) t rules ticks) k q
 
-    pub row_present : IsPresence s b → (q : SectionPos) → is_among (rows_of j t) q ≡ true → presence_of s q ≡ true
+    row_present : IsPresence s b → (q : SectionPos) → is_among (rows_of j t) q ≡ true → presence_of s q ≡ true
     row_present p q e =
         let pos = joins.t_pos (grid_of s b) t rules ticks in
         presence_j p q ∙ lt-ltb 0 _ (let o : owner_of j q ≡ t = eqb-true _ _ (sym (row_owner q) ∙ e) in omega arith)

@@ -167,8 +167,6 @@ struct Cleaner {
 impl Cleaner {
     /// Puts the sections of a region that are in a margin into one list, and the others into another.
     fn sort_out(&mut self, sections: &Sections, row: &[SectionPos])
-        requires present { (s : SectionPos) → is_among row.now s ≡ true
-            → presence_of sections.now s ≡ true }
         requires living_room { length row.now ≤ vec_capacity self.old.living }
         requires dead_room { length row.now ≤ vec_capacity self.old.dead }
         ensures living { self.new.living.items ≡ filter (in_margin_of sections.now) row.now }
@@ -179,13 +177,7 @@ impl Cleaner {
     {
         self.living.clear();
         self.dead.clear();
-        for s in row {
-            if sections.is_dead(*s) {
-                self.dead.push_reserved(*s);
-            } else {
-                self.living.push_reserved(*s);
-            }
-        }
+        sections.sort_dead(row, &mut self.living, &mut self.dead);
     }
 
     /// Leaves a region its living sections, as one region or as several; its dead ones are no longer present.

@@ -4,6 +4,7 @@ use Rattle.std.specs.Prelude.{ℤ, nat_eq, nat_lt, is_some, None}
 use Rattle.std.specs.Option.{unwrap_or}
 use Rattle.std.specs.List.{count_by, filter}
 use Rattle.std.proofs.lemmas.Bool.{cases_Bool, and_parts, and_from, true≢false, le-leb, ltb-true, eqb-true, cases_lt, or_left, or_right}
+use Rattle.std.proofs.lemmas.Bool.Decides.{nat_tests}
 use Rattle.fol_model.specs.declared.places.ChunkPos.{ChunkPos}
 use Rattle.fol_model.specs.declared.places.SectionPos.{SectionPos}
 use Rattle.fol_model.specs.declared.grids.Grid.{Grid}
@@ -138,6 +139,18 @@ pub lonely-is : (grid : Grid) (holds : List ((ℤ × ℤ) × ℕ)) (pages : List
     → is_lonely pages s ≡ not (in_margin_of (table grid holds pages filled spare) s)
 lonely-is grid holds pages count filled spare kept s =
     table-dead grid holds pages filled spare count kept s (near_at pages s) (near-is grid holds pages count kept s ∙ sym (table-neighbours grid holds pages filled spare s))
+
+-- and the others are in a margin
+pub living-is : (grid : Grid) (holds : List ((ℤ × ℤ) × ℕ)) (pages : List ((ℤ × ℤ) × Page)) (count : ℕ) (filled : List SectionPos) (spare : ℕ) → IsKept grid holds pages count → (s : SectionPos)
+    → nat_lt 0 (near_at pages s) ≡ in_margin_of (table grid holds pages filled spare) s
+living-is grid holds pages count filled spare kept s = some_near (near_at pages s) ∙ ap not (lonely-is grid holds pages count filled spare kept s) ∙ twice (in_margin_of (table grid holds pages filled spare) s)
+  where
+    some_near : (n : ℕ) → nat_lt 0 n ≡ not (nat_eq n 0)
+    some_near n = grind (arith, nat_tests)
+
+    twice : (b : Bool) → not (not b) ≡ b
+    twice true = refl
+    twice false = refl
 
 pub filter-like : (p q : SectionPos → Bool) (xs : List SectionPos) → ((s : SectionPos) → is_among xs s ≡ true → p s ≡ q s) → filter p xs ≡ filter q xs
 filter-like p q [] h = refl

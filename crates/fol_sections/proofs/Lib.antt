@@ -17,3 +17,4 @@ pub mod TurnSteps
 pub mod PageRuns
 pub mod NinePages
 pub mod UsedPages
+pub mod PageStretches

@@ -1,6 +1,6 @@
 -- Sections side by side in one page.
 use Rattle.std.proofs.Common.{◌≡◌, ◌≢◌, ℕ, zero, suc, ◌+◌, ◌<◌, ◌≤◌, refl, sym, ◌∙◌, ap, arith, Bool, true, false, cond, inl, inr, ◌∷◌, [], ◌++◌, List, length}
-use Rattle.std.specs.Prelude.{ℤ, pos, ◌+ℤ◌, nat_abs, Option, Some, None, is_some, slice_index_or, slice_set}
+use Rattle.std.specs.Prelude.{ℤ, pos, ◌+ℤ◌, nat_abs, Some, None, is_some, slice_index_or, slice_set}
 use Rattle.std.specs.Int.{int_rem_euclid}
 use Rattle.std.specs.List.{count_by, filter}
 use Rattle.std.specs.Option.{option_and_then, unwrap_or}
@@ -20,7 +20,7 @@ use Rattle.fol_sections.specs.declared.turns.Turn.{Turn}
 use Rattle.fol_sections.proofs.PageSteps.{here-page, in_page, pages-same, place_few, place_tells, same_place, same_self}
 use Rattle.fol_sections.proofs.Quotients.{quotient_of_row}
 use Rattle.fol_sections.proofs.Rows.{count_more, filter_no, filter_yes, row-none}
-use Rattle.fol_sections.proofs.TurnSteps.{fall_more, fall_none, rise_more, rise_none}
+use Rattle.fol_sections.proofs.TurnSteps.{fall_none, rise_none}
 
 -- a section of the run lies in the page, at the next place
 module _ (s : SectionPos) (len : ℕ) (run : nat_abs (int_rem_euclid s.x (pos 8)) + len ≤ 8) (i : ℕ) (l : i < len) where

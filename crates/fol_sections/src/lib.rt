@@ -19,6 +19,7 @@ mod places;
 mod runs;
 mod sections;
 mod squares;
+mod stretches;
 #[cfg(test)]
 mod tests;
 mod turns;

@@ -5,7 +5,7 @@ ghost use Rattle.std.specs.List.{list_all};
 ghost use Rattle.std.specs.HashMap.{spare};
 ghost use Rattle.fol_model.specs.declared.places.SectionPos.{SectionPos};
 ghost use Rattle.fol_model.specs.Geometry.{same_section};
-ghost use Rattle.fol_sections.specs.Pages.{AllUsed, HasSection, counts_at, has_page, is_here, chunks_at, near_at, page_of as page, place_of as place};
+ghost use Rattle.fol_sections.specs.Pages.{AllUsed, HasSection, counts_at, has_page, is_here, chunks_at, counts_on, near_at, near_on, page_of as page, place_of as place};
 ghost use Rattle.fol_sections.specs.Places.{is_same};
 
 use fol_model::SectionPos;
@@ -42,6 +42,25 @@ pub fn place_of(s: SectionPos) -> usize
     ensures few { result < 64 }
 {
     (8 * s.z.rem_euclid(8) + s.x.rem_euclid(8)) as usize
+}
+
+/// A page with no present section.
+pub fn empty_page() -> Page
+    ensures { (q : SectionPos) → is_some (counts_on result q) ≡ false }
+{
+    Page {
+        sections: [None; 64],
+    }
+}
+
+/// How many sections with a loaded chunk are near a section of the page; 0 where it is not present.
+pub fn near_in(page: &Page, s: SectionPos) -> u32
+    ensures { result ≡ near_on page.now s }
+{
+    match page.sections[place_of(s)] {
+        Some(counts) => counts.near as u32,
+        None => 0,
+    }
 }
 
 /// What is kept of a section, if it is present.

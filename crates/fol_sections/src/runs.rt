@@ -1,6 +1,6 @@
 //! Sections side by side in one page, for which the page is looked up once.
 
-ghost use Rattle.std.specs.Prelude.{◌≡◌, ◌+◌, ◌<◌, ◌≤◌, ◌^◌, false, not, ◌++◌, IsTrue, is_some, length, nat_abs, pos, ◌+ℤ◌};
+ghost use Rattle.std.specs.Prelude.{◌≡◌, ◌+◌, ◌<◌, ◌≤◌, ◌^◌, not, ◌++◌, IsTrue, is_some, length, nat_abs, pos, ◌+ℤ◌};
 ghost use Rattle.std.specs.HashMap.{spare};
 ghost use Rattle.std.specs.Int.{int_rem_euclid};
 ghost use Rattle.std.specs.List.{count_by, filter};
@@ -11,7 +11,7 @@ ghost use Rattle.fol_sections.specs.Pages.{AllUsed, IsOnPage, KeepsOthers, chunk
 ghost use Rattle.fol_sections.specs.Rows.{row_of, section_at};
 ghost use Rattle.fol_sections.specs.Turns.{fall, rise};
 
-use crate::pages::{Counts, Page, Pages, page_of, place_of};
+use crate::pages::{Counts, Page, Pages, empty_page, page_of, place_of};
 use crate::turns::{Turn, turned};
 use fol_model::SectionPos;
 
@@ -51,15 +51,6 @@ fn find_on(page: &Page, missing: &mut Vec<SectionPos>, s: SectionPos, len: u32)
         if page.sections[place + i as usize].is_none() {
             let _ = missing.push(behind(s, i));
         }
-    }
-}
-
-/// A page with no present section.
-fn empty_page() -> Page
-    ensures { (q : SectionPos) → is_some (counts_on result q) ≡ false }
-{
-    Page {
-        sections: [None; 64],
     }
 }
 

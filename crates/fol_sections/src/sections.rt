@@ -16,6 +16,7 @@ use crate::chunks::list_section;
 use crate::pages::{self, Counts, Pages, is_present, loaded, near};
 use crate::places::{self, Numbers, number};
 use crate::squares::find_missing;
+use crate::stretches::split_list;
 use crate::turns::{Turn, turn_square, turned};
 use crate::{Added, Removed};
 use fol_model::{ChunkPos, Grid, MOST_SECTIONS, SectionPos, section_of};
@@ -130,6 +131,29 @@ impl Sections {
         ensures { result ≡ not (in_margin_of self.now s) }
     {
         near(&self.pages, s) == 0
+    }
+
+    /// Adds the dead ones of a list of sections to one list, and the others to another. The lists have room for them, and no memory
+    /// is taken.
+    ///
+    /// A section is dead where it is within the create radius of no section that holds a loaded chunk.
+    pub fn sort_dead(
+        &self,
+        list: &[SectionPos],
+        living: &mut Vec<SectionPos>,
+        dead: &mut Vec<SectionPos>,
+    )
+        requires living_room { length living.old.items + length list.now
+            ≤ vec_capacity living.old }
+        requires dead_room { length dead.old.items + length list.now ≤ vec_capacity dead.old }
+        ensures living { living.new.items ≡ living.old.items
+            ++ filter (in_margin_of self.now) list.now }
+        ensures dead { dead.new.items ≡ dead.old.items
+            ++ filter (λ s. not (in_margin_of self.now s)) list.now }
+        ensures living_room { vec_capacity living.new ≡ vec_capacity living.old }
+        ensures dead_room { vec_capacity dead.new ≡ vec_capacity dead.old }
+    {
+        split_list(&self.pages, list, living, dead);
     }
 
     /// How many loaded chunks a section has, at most 1,024; 0 for one that is not present.

@@ -1,7 +1,5 @@
-use Rattle.std.proofs.Common.{◌≡◌, ◌+◌, sym, ◌∙◌, ap, arith, not, true, false, ◌∷◌, [], ◌++◌, Bool, append_assoc, length, length-append}
-use Rattle.std.specs.Prelude.{None, Option, Some, ℤ, is_some, pos, slice_index_or, ◌+ℤ◌}
-use Rattle.std.specs.Option.{is_none}
-use borrow.Author.Differences.{ints}
+use Rattle.std.proofs.Common.{◌≡◌, ◌+◌, sym, ◌∙◌, ap, arith, not, true, false, ◌∷◌, [], ◌++◌, append_assoc, length, length-append}
+use Rattle.std.specs.Prelude.{None, is_some, pos, slice_index_or, ◌+ℤ◌}
 use Rattle.std.specs.List.{filter}
 use Rattle.fol_model.specs.declared.places.SectionPos.{SectionPos}
 use Rattle.fol_sections.specs.Pages.{counts_on}

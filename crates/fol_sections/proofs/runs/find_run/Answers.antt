@@ -1,8 +1,7 @@
-use Rattle.std.proofs.Common.{◌≡◌, ◌++◌, sym, ◌∙◌, ap, not}
-use Rattle.std.specs.Prelude.{Some, is_some, pos, ◌+ℤ◌}
+use Rattle.std.proofs.Common.{◌++◌, sym, ◌∙◌, ap, not}
+use Rattle.std.specs.Prelude.{is_some, pos, ◌+ℤ◌}
 use Rattle.std.specs.Option.{option_and_then, option_copied}
-use Rattle.fol_model.specs.declared.places.SectionPos.{SectionPos}
-use Rattle.fol_sections.specs.Pages.{counts_at, counts_on, is_here, page_at, page_of}
+use Rattle.fol_sections.specs.Pages.{counts_at, counts_on, is_here, page_at}
 use Rattle.fol_sections.specs.Rows.{section_at}
 use Rattle.fol_sections.proofs.PageRuns.{filter_row, run_page}
 use Rattle.fol_sections.proofs.runs.find_run.Goals as goal

@@ -9,7 +9,6 @@ use Rattle.fol_laws.proofs.SamePlaces.{same_section-self}
 use Rattle.fol_sections.specs.Pages.{IsOnPage, counts_on, near_on, no_counts, place_of}
 use Rattle.fol_sections.specs.declared.pages.Counts.{Counts}
 use Rattle.fol_sections.specs.Rows.{row_of, section_at}
-use Rattle.fol_sections.specs.Turns.{fall, rise}
 use Rattle.fol_sections.proofs.PageRuns.{keeps_self, keeps_then, run_few, run_page, run_place, step_keeps, step_turns}
 use Rattle.fol_sections.proofs.Rows.{count_more, row-none, row_part}
 use Rattle.fol_sections.proofs.TurnSteps.{fall_more, fall_none, fall_rises, rise_few, rise_more, rise_none}

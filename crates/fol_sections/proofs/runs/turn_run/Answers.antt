@@ -1,8 +1,7 @@
-use Rattle.std.proofs.Common.{◌≡◌, ◌+◌, ◌<◌, sym, ◌∙◌, ap, arith, cond, rules, List}
-use Rattle.std.specs.Prelude.{ℤ, Some, is_some}
-use Rattle.std.specs.Option.{option_and_then, option_copied_mut}
-use Rattle.std.proofs.lemmas.Bool.{true≢false}
-use Rattle.fol_sections.specs.Pages.{counts_at, is_here, page_at, page_of}
+use Rattle.std.proofs.Common.{◌≡◌, sym, ◌∙◌, ap, arith, rules}
+use Rattle.std.specs.Prelude.{is_some}
+use Rattle.std.specs.Option.{option_copied_mut}
+use Rattle.fol_sections.specs.Pages.{is_here, page_at}
 use Rattle.fol_sections.specs.Places.{is_same}
 use Rattle.fol_sections.proofs.PageRuns.{before_near, before_on, none_run, run_chunks, run_here, run_near, run_on, run_used, same_page}
 use Rattle.fol_sections.proofs.TurnSteps.{fall_none, rise_none}

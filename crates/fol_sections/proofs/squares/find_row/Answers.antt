@@ -1,4 +1,4 @@
-use Rattle.std.proofs.Common.{◌≡◌, ◌+◌, sym, ◌∙◌, ap, arith, not, ◌++◌, append_assoc, length}
+use Rattle.std.proofs.Common.{sym, ◌∙◌, ap, arith, not, ◌++◌, append_assoc}
 use Rattle.std.specs.Prelude.{pos, ◌+ℤ◌}
 use Rattle.std.specs.List.{filter}
 use Rattle.std.proofs.lemmas.List.Elements.{filter-append}

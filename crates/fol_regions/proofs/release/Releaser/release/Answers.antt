@@ -55,12 +55,6 @@ returns-then-is_waiting-clause-presence c =
     rw c.set_state.ensures.owner
     (facts.presence_j c.args.sections.now c.args.tables.now c.args.id c.requires.rules c.requires.ticks c.keeps_lists.ensures c.join_all.new.tables c.deref.result.now is c.join_all.ensures.joins c.keeps_lists-2.ensures c.requires.presence)
 
-pub sort_out-requires-clause-present : goal.sort_out-requires-clause-present
-sort_out-requires-clause-present c =
-    let is = c.deref.ensures.value ∙ c.list_waiting.ensures.ids in
-    rw c.sections.ensures
-    (facts.row_present c.args.sections.now c.args.tables.now c.args.id c.requires.rules c.requires.ticks c.keeps_lists.ensures c.join_all.new.tables c.deref.result.now is c.join_all.ensures.joins c.keeps_lists-2.ensures c.requires.presence)
-
 pub sort_out-requires-clause-living_room : goal.sort_out-requires-clause-living_room
 sort_out-requires-clause-living_room c =
     let is = c.deref.ensures.value ∙ c.list_waiting.ensures.ids in

@@ -1,0 +1,43 @@
+-- Stretches of a list of sections that lie in one page.
+use Rattle.std.proofs.Common.{◌≡◌, ℕ, ◌+◌, ◌≤◌, sym, ◌∙◌, ap, refl, arith, Bool, false, not, List, ◌++◌, length, append_assoc, length-append}
+use Rattle.std.specs.Prelude.{ℤ, Some, None, is_some}
+use Rattle.std.specs.List.{All, filter}
+use Rattle.std.specs.Option.{option_and_then, unwrap_or}
+use Rattle.std.proofs.lemmas.List.Elements.{filter-append}
+use Rattle.std.proofs.lemmas.List.Filters.{length-filter_both}
+use Rattle.fol_model.specs.declared.places.SectionPos.{SectionPos}
+use Rattle.fol_sections.specs.Pages.{IsOnPage, counts_at, counts_on, near_at, near_on, no_counts, page_at, page_of}
+use Rattle.fol_sections.specs.declared.pages.Page.{Page}
+use Rattle.fol_sections.proofs.DeadSteps.{filter-like}
+use Rattle.fol_sections.proofs.NumberSteps.{all_among}
+use Rattle.fol_sections.proofs.PageRuns.{before_near, same_page}
+use Rattle.fol_sections.proofs.PageSteps.{none_there}
+
+module _ (entries : List ((ℤ × ℤ) × Page)) (first q : SectionPos) (on : IsOnPage first q) where
+  -- what is near a section that lies in a page that is there
+  pub near_there : (p : Page) → page_at entries (page_of first.x) (page_of first.z) ≡ Some p → near_at entries q ≡ near_on p q
+  near_there p was = before_near entries entries first p p was (same_page entries first p was) q on
+
+  -- nothing is near a section whose page is not there, as in a page with nobody
+  pub near_nowhere : (p : Page) → page_at entries (page_of first.x) (page_of first.z) ≡ None → is_some (counts_on p q) ≡ false → near_at entries q ≡ near_on p q
+  unfolding near_at counts_at
+  near_nowhere p none blank =
+      ap (λ o. (unwrap_or (option_and_then (λ p. counts_on p q) o) no_counts).near) ((λ i. page_at entries (on.0 i) (on.1 i)) ∙ none)
+      ∙ sym (ap (λ o. (unwrap_or o no_counts).near) (none_there (counts_on p q) blank))
+
+-- tests of numbers that agree in the page keep the same of sections there
+pub filter_stretch : (test : ℕ → Bool) (f g : SectionPos → ℕ) (first : SectionPos) (xs : List SectionPos) → All (IsOnPage first) xs → ((q : SectionPos) → IsOnPage first q → g q ≡ f q)
+    → filter (λ s. test (f s)) xs ≡ filter (λ s. test (g s)) xs
+filter_stretch test f g first xs all same = filter-like (λ s. test (f s)) (λ s. test (g s)) xs (λ s h. ap test (sym (same s (all_among (IsOnPage first) xs s all h))))
+
+-- ---- a stretch more
+module _ (p : SectionPos → Bool) (old new rest part after : List SectionPos) (adds : new ≡ old ++ filter p part) (split : rest ≡ part ++ after) where
+  pub filter_on : (all : List SectionPos) → old ++ filter p rest ≡ all → new ++ filter p after ≡ all
+  filter_on all h =
+      ap (λ xs. xs ++ filter p after) adds ∙ append_assoc old (filter p part) (filter p after)
+      ∙ ap (λ xs. old ++ xs) (sym (ap (filter p) split ∙ filter-append p part after)) ∙ h
+
+  pub fits_on : (room : ℕ) → length old + length rest ≤ room → length new + length after ≤ room
+  fits_on room h =
+      let few = length-filter_both p (λ s. not (p s)) (λ s. refl) part in
+      omega (arith, ap length adds, ap length split, length-append old (filter p part), length-append part after, few)

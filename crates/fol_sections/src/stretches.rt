@@ -1,0 +1,97 @@
+//! Stretches of a list of sections that lie in one page, for which the page is looked up once.
+
+ghost use Rattle.std.specs.Prelude.{◌≡◌, ◌+◌, ◌≤◌, ◌++◌, filter, length, nat_eq, nat_lt, take};
+ghost use Rattle.std.specs.List.{All};
+ghost use Rattle.std.specs.Vec.{vec_capacity};
+ghost use Rattle.fol_sections.specs.Pages.{IsOnPage, near_at, near_on};
+
+use crate::pages::{Page, Pages, empty_page, near_in, page_of};
+use fol_model::SectionPos;
+
+/// How many sections at the head of a list lie in the page of a section.
+pub fn stretch(first: SectionPos, list: &[SectionPos]) -> usize
+    ensures few { result ≤ length list.now }
+    ensures page { All (IsOnPage first) (take result list.now) }
+{
+    let key = page_of(first);
+    for i in 0..list.len() {
+        if page_of(list[i]) != key {
+            return i;
+        }
+    }
+    list.len()
+}
+
+/// Adds those sections of a list to one list near which no section of their page holds a loaded chunk, and the others to another.
+fn split_on(
+    page: &Page,
+    part: &[SectionPos],
+    living: &mut Vec<SectionPos>,
+    dead: &mut Vec<SectionPos>,
+)
+    requires living_room { length living.old.items + length part.now ≤ vec_capacity living.old }
+    requires dead_room { length dead.old.items + length part.now ≤ vec_capacity dead.old }
+    ensures living { living.new.items
+        ≡ living.old.items ++ filter (λ s. nat_lt 0 (near_on page.now s)) part.now }
+    ensures dead { dead.new.items
+        ≡ dead.old.items ++ filter (λ s. nat_eq (near_on page.now s) 0) part.now }
+    ensures living_room { vec_capacity living.new ≡ vec_capacity living.old }
+    ensures dead_room { vec_capacity dead.new ≡ vec_capacity dead.old }
+{
+    for s in part {
+        if near_in(page, *s) == 0 {
+            dead.push_reserved(*s);
+        } else {
+            living.push_reserved(*s);
+        }
+    }
+}
+
+/// Adds those sections of a list, all in the page of `first`, to one list near which no section holds a loaded chunk, and the
+/// others to another.
+fn split_stretch(
+    pages: &Pages,
+    first: SectionPos,
+    part: &[SectionPos],
+    living: &mut Vec<SectionPos>,
+    dead: &mut Vec<SectionPos>,
+)
+    requires page { All (IsOnPage first) part.now }
+    requires living_room { length living.old.items + length part.now ≤ vec_capacity living.old }
+    requires dead_room { length dead.old.items + length part.now ≤ vec_capacity dead.old }
+    ensures living { living.new.items
+        ≡ living.old.items ++ filter (λ s. nat_lt 0 (near_at pages.now.entries s)) part.now }
+    ensures dead { dead.new.items
+        ≡ dead.old.items ++ filter (λ s. nat_eq (near_at pages.now.entries s) 0) part.now }
+    ensures living_room { vec_capacity living.new ≡ vec_capacity living.old }
+    ensures dead_room { vec_capacity dead.new ≡ vec_capacity dead.old }
+{
+    match pages.get(&page_of(first)) {
+        Some(page) => split_on(page, part, living, dead),
+        None => split_on(&empty_page(), part, living, dead),
+    }
+}
+
+/// Adds those sections of a list to one list near which no section holds a loaded chunk, and the others to another.
+pub fn split_list(
+    pages: &Pages,
+    list: &[SectionPos],
+    living: &mut Vec<SectionPos>,
+    dead: &mut Vec<SectionPos>,
+)
+    requires living_room { length living.old.items + length list.now ≤ vec_capacity living.old }
+    requires dead_room { length dead.old.items + length list.now ≤ vec_capacity dead.old }
+    ensures living { living.new.items
+        ≡ living.old.items ++ filter (λ s. nat_lt 0 (near_at pages.now.entries s)) list.now }
+    ensures dead { dead.new.items
+        ≡ dead.old.items ++ filter (λ s. nat_eq (near_at pages.now.entries s) 0) list.now }
+    ensures living_room { vec_capacity living.new ≡ vec_capacity living.old }
+    ensures dead_room { vec_capacity dead.new ≡ vec_capacity dead.old }
+{
+    let mut rest = list;
+    while let Some((first, others)) = rest.split_first() {
+        let (part, after) = rest.split_at(1 + stretch(*first, others));
+        split_stretch(pages, *first, part, living, dead);
+        rest = after;
+    }
+}
