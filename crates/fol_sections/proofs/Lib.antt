@@ -18,3 +18,4 @@ pub mod PageRuns
 pub mod NinePages
 pub mod UsedPages
 pub mod PageStretches
+pub mod DropSteps

@@ -148,21 +148,21 @@ module _ (before after : List ((ℤ × ℤ) × Page)) (s : SectionPos) (old new 
   unfolding counts_at
   before_on q on = (λ i. option_and_then (λ p. counts_on p q) (page_at before (on.0 i) (on.1 i))) ∙ ap (option_and_then (λ p. counts_on p q)) was
 
-  after_on : (q : SectionPos) → IsOnPage s q → counts_at after q ≡ counts_on new q
+  pub after_on : (q : SectionPos) → IsOnPage s q → counts_at after q ≡ counts_on new q
   unfolding counts_at
   after_on q on =
       let e : is_same (page_of s.x) (page_of s.z) (page_of s.x) (page_of s.z) ≡ true = same_self (page_of s.x) (page_of s.z) in
       (λ i. option_and_then (λ p. counts_on p q) (page_at after (on.0 i) (on.1 i)))
       ∙ ap (option_and_then (λ p. counts_on p q)) (step (page_of s.x) (page_of s.z) ∙ ap (λ b. cond b (Some new) (page_at before (page_of s.x) (page_of s.z))) e)
 
-  after_off : (q : SectionPos) → is_same (page_of s.x) (page_of s.z) (page_of q.x) (page_of q.z) ≡ false → counts_at after q ≡ counts_at before q
+  pub after_off : (q : SectionPos) → is_same (page_of s.x) (page_of s.z) (page_of q.x) (page_of q.z) ≡ false → counts_at after q ≡ counts_at before q
   unfolding counts_at
   after_off q e = ap (option_and_then (λ p. counts_on p q)) (step (page_of q.x) (page_of q.z) ∙ ap (λ b. cond b (Some new) (page_at before (page_of q.x) (page_of q.z))) e)
 
-  on_page : (q : SectionPos) → is_same (page_of s.x) (page_of s.z) (page_of q.x) (page_of q.z) ≡ true → IsOnPage s q
+  pub on_page : (q : SectionPos) → is_same (page_of s.x) (page_of s.z) (page_of q.x) (page_of q.z) ≡ true → IsOnPage s q
   on_page q e = let k = same_place (page_of s.x) (page_of s.z) (page_of q.x) (page_of q.z) e in (sym k.0, sym k.1)
 
-  off_page : (q : SectionPos) → is_same (page_of s.x) (page_of s.z) (page_of q.x) (page_of q.z) ≡ false → IsOnPage s q → ⊥
+  pub off_page : (q : SectionPos) → is_same (page_of s.x) (page_of s.z) (page_of q.x) (page_of q.z) ≡ false → IsOnPage s q → ⊥
   off_page q e on = true≢false (sym (same_self (page_of q.x) (page_of q.z)) ∙ (λ i. is_same (on.0 i) (on.1 i) (page_of q.x) (page_of q.z)) ∙ e)
 
   module _ (keeps : KeepsOthers old new) where

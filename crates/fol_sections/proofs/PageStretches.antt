@@ -18,12 +18,14 @@ module _ (entries : List ((ℤ × ℤ) × Page)) (first q : SectionPos) (on : Is
   pub near_there : (p : Page) → page_at entries (page_of first.x) (page_of first.z) ≡ Some p → near_at entries q ≡ near_on p q
   near_there p was = before_near entries entries first p p was (same_page entries first p was) q on
 
-  -- nothing is near a section whose page is not there, as in a page with nobody
-  pub near_nowhere : (p : Page) → page_at entries (page_of first.x) (page_of first.z) ≡ None → is_some (counts_on p q) ≡ false → near_at entries q ≡ near_on p q
+  -- nothing is near a section whose page is not there
+  pub near_nowhere : page_at entries (page_of first.x) (page_of first.z) ≡ None → near_at entries q ≡ 0
   unfolding near_at counts_at
-  near_nowhere p none blank =
-      ap (λ o. (unwrap_or (option_and_then (λ p. counts_on p q) o) no_counts).near) ((λ i. page_at entries (on.0 i) (on.1 i)) ∙ none)
-      ∙ sym (ap (λ o. (unwrap_or o no_counts).near) (none_there (counts_on p q) blank))
+  near_nowhere none = ap (λ o. (unwrap_or (option_and_then (λ p. counts_on p q) o) no_counts).near) ((λ i. page_at entries (on.0 i) (on.1 i)) ∙ none)
+
+-- as in a page where it is not present
+pub near_blank : (p : Page) (q : SectionPos) → is_some (counts_on p q) ≡ false → near_on p q ≡ 0
+near_blank p q blank = ap (λ o. (unwrap_or o no_counts).near) (none_there (counts_on p q) blank)
 
 -- tests of numbers that agree in the page keep the same of sections there
 pub filter_stretch : (test : ℕ → Bool) (f g : SectionPos → ℕ) (first : SectionPos) (xs : List SectionPos) → All (IsOnPage first) xs → ((q : SectionPos) → IsOnPage first q → g q ≡ f q)

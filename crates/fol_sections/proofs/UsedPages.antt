@@ -8,8 +8,8 @@ use Rattle.std.proofs.lemmas.Bool.{cases_Bool, or_cases, true≢false}
 use borrow.Author.Differences.{ints}
 use Rattle.fol_model.specs.declared.places.SectionPos.{SectionPos}
 use Rattle.fol_model.specs.Geometry.{same_section}
-use Rattle.fol_laws.proofs.SamePlaces.{same_section-true, same_section-self}
-use Rattle.fol_sections.specs.Pages.{AllUsed, HasSection, counts_at, counts_on, has_page, is_here, page_at, page_of, place_of}
+use Rattle.fol_laws.proofs.SamePlaces.{same_section-self}
+use Rattle.fol_sections.specs.Pages.{AllUsed, HasSection, IsOnPage, counts_at, counts_on, has_page, is_here, page_at, page_of, place_of}
 use Rattle.fol_sections.specs.Places.{is_same}
 use Rattle.fol_sections.specs.declared.pages.Counts.{Counts}
 use Rattle.fol_sections.specs.declared.pages.Page.{Page}
@@ -36,22 +36,22 @@ module _ (before after : List ((ℤ × ℤ) × Page)) (s : SectionPos) (counts :
   pub used-change : ((x z : ℤ) → has_page after x z ≡ has_page before x z) → AllUsed before → AllUsed after
   used-change pages used x z h = let w = used x z (sym (pages x z) ∙ h) in (w.0, w.1, w.2, still_here w.0 w.3)
 
--- ---- a section that leaves: its page is looked at alone
-pub used-out : (before after : List ((ℤ × ℤ) × Page)) (s : SectionPos) → ((q : SectionPos) → counts_at after q ≡ cond (same_section s q) None (counts_at before q))
+-- ---- sections of one page that leave: that page is looked at alone
+pub used-out : (before after : List ((ℤ × ℤ) × Page)) (s : SectionPos) (gone : SectionPos → Bool) → ((q : SectionPos) → gone q ≡ true → IsOnPage s q) → ((q : SectionPos) → counts_at after q ≡ cond (gone q) None (counts_at before q))
     → ((x z : ℤ) → has_page after x z ≡ true → has_page before x z ≡ true) → (has_page after (page_of s.x) (page_of s.z) ≡ true → HasSection after (page_of s.x) (page_of s.z)) → AllUsed before → AllUsed after
 unfolding is_here
-used-out before after s out pages own used x z h = elim (cases_Bool (is_same (page_of s.x) (page_of s.z) x z)) [
+used-out before after s gone near out pages own used x z h = elim (cases_Bool (is_same (page_of s.x) (page_of s.z) x z)) [
   | inl e ↦
       let k = same_place (page_of s.x) (page_of s.z) x z e in
       let w = own ((λ i. has_page after (k.0 i) (k.1 i)) ∙ h) in
       (w.0, w.1 ∙ k.0, w.2 ∙ k.1, w.3)
   | inr e ↦
       let w = used x z (pages x z h) in
-      let other : same_section s w.0 ≡ false = elim (cases_Bool (same_section s w.0)) [
+      let other : gone w.0 ≡ false = elim (cases_Bool (gone w.0)) [
         | inr f ↦ f
         | inl f ↦
-            let k = same_section-true s w.0 f in
-            let same : is_same (page_of s.x) (page_of s.z) x z ≡ true = (λ i. is_same (page_of s.x) (page_of s.z) (sym (ap (λ (q : SectionPos). page_of q.x) k ∙ w.1) i) (sym (ap (λ (q : SectionPos). page_of q.z) k ∙ w.2) i)) ∙ page_self s in
+            let k = near w.0 f in
+            let same : is_same (page_of s.x) (page_of s.z) x z ≡ true = (λ i. is_same (page_of s.x) (page_of s.z) (sym (sym k.0 ∙ w.1) i) (sym (sym k.1 ∙ w.2) i)) ∙ page_self s in
             absurd (true≢false (sym same ∙ e))
       ] in
       (w.0, w.1, w.2, ap is_some (out w.0 ∙ ap (λ b. cond b None (counts_at before w.0)) other) ∙ w.3)

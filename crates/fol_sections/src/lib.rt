@@ -14,6 +14,7 @@
 
 mod answers;
 mod chunks;
+mod drops;
 mod pages;
 mod places;
 mod runs;

@@ -179,20 +179,8 @@ fn is_empty(page: &Page) -> bool
     page.sections.iter().all(|counts| counts.is_none())
 }
 
-/// Takes a present section out, and its page with it where no other section of the page is present.
-pub fn take_out(pages: &mut Pages, s: SectionPos)
-    requires here { IsTrue (is_here pages.old.entries s) }
-    ensures out { (q : SectionPos) → counts_at pages.new.entries q
-        ≡ cond (same_section s q) None (counts_at pages.old.entries q) }
-    ensures room { spare pages.old ≤ spare pages.new }
-    ensures used { AllUsed pages.old.entries → AllUsed pages.new.entries }
-{
-    write(pages, s, None);
-    drop_if_empty(pages, page_of(s));
-}
-
 /// Takes a page out that has no present section.
-fn drop_if_empty(pages: &mut Pages, key: (i32, i32))
+pub fn drop_if_empty(pages: &mut Pages, key: (i32, i32))
     ensures same { (q : SectionPos) → counts_at pages.new.entries q
         ≡ counts_at pages.old.entries q }
     ensures others { (x z : ℤ) → IsTrue (has_page pages.new.entries x z)

@@ -1,7 +1,7 @@
 //! A table of holds and present sections.
 
 ghost use Rattle.std.specs.Prelude.{◌≡◌, ℤ, ◌+◌, ◌-◌, ◌*◌, ◌<◌, ◌≤◌, ◌^◌, not, ◌&&◌, ◌||◌, false, None, IsTrue, IfOk, OnOk, [], ◌++◌, length, nat_eq, nat_lt, cond, Some, nat_abs, if◌then◌else◌};
-ghost use Rattle.std.specs.List.{All, IsDistinct, filter};
+ghost use Rattle.std.specs.List.{All, IsDistinct, count_by, filter};
 ghost use Rattle.std.specs.Vec.{vec_capacity};
 ghost use Rattle.std.specs.HashMap.{spare as room_of};
 ghost use Rattle.fol_model.specs.declared.places.ChunkPos.{ChunkPos};
@@ -13,6 +13,7 @@ ghost use Rattle.fol_model.specs.Geometry.{is_chunk, is_within, same_section, is
 ghost use Rattle.fol_model.specs.GridState.{at_chunk};
 
 use crate::chunks::list_section;
+use crate::drops::drop_list;
 use crate::pages::{self, Counts, Pages, is_present, loaded, near};
 use crate::places::{self, Numbers, number};
 use crate::squares::find_missing;
@@ -264,13 +265,9 @@ impl Sections {
         ensures stays { (self.new.grid ≡ self.old.grid) × (self.new.filled ≡ self.old.filled)
             × (self.new.spare ≡ self.old.spare) }
     {
-        for s in list.as_slice() {
-            if near(&self.pages, *s) == 0 {
-                pages::take_out(&mut self.pages, *s);
-                self.count -= 1;
-            }
-        }
-        keep_present(list, &self.pages);
+        let dropped = drop_list(&mut self.pages, list);
+        self.count -= dropped as u32;
+        keep_present(list, &self.pages, dropped);
     }
 
     /// The same table, with at least the same spare. Takes memory.
@@ -296,12 +293,18 @@ impl Sections {
     }
 }
 
-/// Keeps those sections of a list that are present.
-fn keep_present(list: &mut Vec<SectionPos>, pages: &Pages)
+/// Keeps those sections of a list that are present, where so many of them are not. If none is, no page is looked up.
+fn keep_present(list: &mut Vec<SectionPos>, pages: &Pages, missing: usize)
+    requires missing { count_by (is_here pages.now.entries) list.old.items + missing
+        ≡ length list.old.items }
     ensures list { list.new.items ≡ filter (is_here pages.now.entries) list.old.items }
     ensures room { vec_capacity list.new ≡ vec_capacity list.old }
 {
-    list.retain(|s| is_present(pages, *s));
+    if missing == list.len() {
+        list.clear();
+    } else {
+        list.retain(|s| is_present(pages, *s));
+    }
 }
 
 /// What removing a hold comes to on a chunk that had so many.

@@ -1,0 +1,80 @@
+//! Dead sections that leave, by stretches of a list that lie in one page.
+
+ghost use Rattle.std.specs.Prelude.{◌≡◌, ℤ, ◌≤◌, ◌&&◌, cond, None, count_by, nat_eq};
+ghost use Rattle.std.specs.HashMap.{spare};
+ghost use Rattle.std.specs.List.{All};
+ghost use Rattle.fol_model.specs.declared.places.SectionPos.{SectionPos};
+ghost use Rattle.fol_model.specs.Geometry.{is_among};
+ghost use Rattle.fol_sections.specs.Pages.{AllUsed, IsOnPage, counts_at, counts_on, has_page, near_at, near_on};
+
+use crate::pages::{Page, Pages, drop_if_empty, near_in, page_of, place_of};
+use crate::stretches::stretch;
+use fol_model::SectionPos;
+
+/// Takes those sections of a list out of their page near which no section holds a loaded chunk, and returns how many they are.
+fn clear_on(page: &mut Page, part: &[SectionPos]) -> usize
+    ensures dead { result ≡ count_by (λ s. nat_eq (near_on page.old s) 0) part.now }
+    ensures out { (q : SectionPos) → All (IsOnPage q) part.now → counts_on page.new q
+        ≡ cond (is_among part.now q && nat_eq (near_on page.old q) 0) None (counts_on page.old q) }
+{
+    let mut dead = 0;
+    for s in part {
+        if near_in(page, *s) == 0 {
+            page.sections[place_of(*s)] = None;
+            dead += 1;
+        }
+    }
+    dead
+}
+
+/// Takes those sections of a list, all in the page of `first`, out of the page near which no section holds a loaded chunk, and
+/// returns how many they are.
+fn clear_stretch(pages: &mut Pages, first: SectionPos, part: &[SectionPos]) -> usize
+    requires page { All (IsOnPage first) part.now }
+    ensures dead { result ≡ count_by (λ s. nat_eq (near_at pages.old.entries s) 0) part.now }
+    ensures out { (q : SectionPos) → counts_at pages.new.entries q
+        ≡ cond (is_among part.now q && nat_eq (near_at pages.old.entries q) 0)
+        None (counts_at pages.old.entries q) }
+    ensures pages { (x z : ℤ) → has_page pages.new.entries x z ≡ has_page pages.old.entries x z }
+    ensures room { spare pages.new ≡ spare pages.old }
+{
+    match pages.get_mut(&page_of(first)) {
+        Some(page) => clear_on(page, part),
+        None => part.len(),
+    }
+}
+
+/// Takes those sections of a list, all in the page of `first`, out near which no section holds a loaded chunk, and the page with
+/// them where no other section of it is present. Returns how many they are.
+fn drop_stretch(pages: &mut Pages, first: SectionPos, part: &[SectionPos]) -> usize
+    requires page { All (IsOnPage first) part.now }
+    ensures dead { result ≡ count_by (λ s. nat_eq (near_at pages.old.entries s) 0) part.now }
+    ensures out { (q : SectionPos) → counts_at pages.new.entries q
+        ≡ cond (is_among part.now q && nat_eq (near_at pages.old.entries q) 0)
+        None (counts_at pages.old.entries q) }
+    ensures room { spare pages.old ≤ spare pages.new }
+    ensures used { AllUsed pages.old.entries → AllUsed pages.new.entries }
+{
+    let dead = clear_stretch(pages, first, part);
+    drop_if_empty(pages, page_of(first));
+    dead
+}
+
+/// Takes those sections of a list out near which no section holds a loaded chunk, and returns how many they are.
+pub fn drop_list(pages: &mut Pages, list: &[SectionPos]) -> usize
+    ensures dead { result ≡ count_by (λ s. nat_eq (near_at pages.old.entries s) 0) list.now }
+    ensures out { (q : SectionPos) → counts_at pages.new.entries q
+        ≡ cond (is_among list.now q && nat_eq (near_at pages.old.entries q) 0)
+        None (counts_at pages.old.entries q) }
+    ensures room { spare pages.old ≤ spare pages.new }
+    ensures used { AllUsed pages.old.entries → AllUsed pages.new.entries }
+{
+    let mut dead = 0;
+    let mut rest = list;
+    while let Some((first, others)) = rest.split_first() {
+        let (part, after) = rest.split_at(1 + stretch(*first, others));
+        dead += drop_stretch(pages, *first, part);
+        rest = after;
+    }
+    dead
+}
