@@ -1,6 +1,6 @@
 -- The sections that are dead since a chunk has no hold any more.
 use Rattle.std.proofs.Common.{◌≡◌, ℕ, ◌+◌, ◌-◌, ◌≤◌, ◌<◌, refl, sym, ◌∙◌, ap, arith, Bool, true, false, inl, inr, ◌⊎◌, not, ◌&&◌, cond, List, [], ◌∷◌}
-use Rattle.std.specs.Prelude.{nat_abs, nat_eq, nat_le, nat_lt, if◌then◌else◌, min, count_by, pos, ◌+ℤ◌}
+use Rattle.std.specs.Prelude.{nat_abs, nat_eq, nat_le, nat_lt, if◌then◌else◌, min, count_by, filter}
 use Rattle.std.proofs.lemmas.Bool.{cases_Bool, true≢false, and_parts, and_from, or_left, or_right, lt-ltb, ltb-true, ltb-false, leb-true, eq-eqb, eqb-true, eqb-false, not-true}
 use Rattle.fol_model.specs.declared.places.ChunkPos.{ChunkPos}
 use Rattle.fol_model.specs.declared.places.SectionPos.{SectionPos}
@@ -11,29 +11,48 @@ use Rattle.fol_model.specs.GridState.{GridState, at_chunk, in_margin}
 use Rattle.fol_model.specs.Universe.{all_chunks, all_sections, count_sections, some_chunk, square}
 use Rattle.fol_model.specs.Rules.{Rules}
 use Rattle.fol_laws.proofs.AllSections.{some_chunk-is, some_chunk-gives}
-use Rattle.fol_laws.proofs.Coordinates.{count_by-append}
 use Rattle.fol_laws.proofs.Distances.{self_distance}
 use Rattle.fol_laws.proofs.FloorDivision.{around_in_limits}
 use Rattle.fol_laws.proofs.ListCounts.{count_by-cons, count_by-mono, count_by-or}
 use Rattle.fol_laws.proofs.SamePlaces.{same_chunk-true, same_chunk-self, same_section-true}
 use Rattle.fol_laws.proofs.SectionOrder.{near_rows}
-use Rattle.fol_sections.specs.Table.{holds_of, in_margin_of, loaded_count, is_loaded_chunk_of, removed}
+use Rattle.fol_sections.specs.Table.{holds_of, in_margin_of, loaded_count, is_loaded_chunk_of, presence_of, removed}
 use Rattle.fol_sections.specs.declared.answers.Removed.TheVariants.{Gone}
 use Rattle.fol_sections.specs.Table as sections
 use Rattle.fol_sections.proofs.Margins.{any-count}
-use Rattle.fol_region_tables.specs.Book.{Book}
+use Rattle.fol_region_tables.specs.Book.{Book, owner_of}
 use Rattle.fol_regions.specs.declared.dead_bounds.Known.{Known}
 use Rattle.fol_regions.specs.DeadBounds.{BoundsDead, dead_count, is_dead_in, most_in}
-use Rattle.fol_regions.specs.Near.{row_of}
-use Rattle.fol_regions.specs.Released.{grid_of}
-use Rattle.fol_regions.proofs.NearRegions.{row-more}
+use Rattle.fol_regions.specs.Released.{IsPresence, grid_of}
 
--- one section more in a row
-pub row_count : (p : SectionPos → Bool) (first : SectionPos) (row n : ℕ) → count_by p (row_of first row (n + 1)) ≡ count_by p (row_of first row n) + cond (p (record { x = first.x +ℤ pos n; z = first.z +ℤ pos row })) 1 0
-row_count p first row n =
-    let s : SectionPos = record { x = first.x +ℤ pos n; z = first.z +ℤ pos row } in
-    let e = ap (count_by p) (row-more first row n) ∙ count_by-append p (row_of first row n) (s ∷ []) in
-    omega (arith, e, count_by-cons p s [])
+-- of the present and dead ones of some sections, those of a region
+pub dead_listed : (s : sections.Table) (b : Book) → IsPresence s b → (r : ℕ) → 0 < r → (xs : List SectionPos)
+    → count_by (λ q. nat_eq (owner_of b q) r) (filter (λ q. presence_of s q && not (in_margin_of s q)) xs) ≡ count_by (is_dead_in s b r) xs
+dead_listed s b here r p [] = refl
+dead_listed s b here r p (x ∷ xs) =
+    let rest = dead_listed s b here r p xs in
+    let all = count_by-cons (is_dead_in s b r) x xs in
+    let left = filter (λ q. presence_of s q && not (in_margin_of s q)) xs in
+    elim (cases_Bool (presence_of s x && not (in_margin_of s x))) [
+      | inl e ↦
+          let dead = (and_parts (presence_of s x) (not (in_margin_of s x)) e).1 in
+          let one = count_by-cons (λ q. nat_eq (owner_of b q) r) x left in
+          let same : is_dead_in s b r x ≡ nat_eq (owner_of b x) r = ap (λ v. nat_eq (owner_of b x) r && v) dead ∙ always (nat_eq (owner_of b x) r) in
+          rw e (omega (arith, rest, all, one, ap (λ v. cond {A = ℕ} v 1 0) same))
+      | inr e ↦
+          let none : is_dead_in s b r x ≡ false = elim (cases_Bool (is_dead_in s b r x)) [
+            | inr n ↦ n
+            | inl y ↦
+                let q = and_parts (nat_eq (owner_of b x) r) (not (in_margin_of s x)) y in
+                let present : presence_of s x ≡ true = here x ∙ lt-ltb 0 (owner_of b x) (omega (arith, eqb-true _ _ q.0)) in
+                absurd (true≢false (sym (and_from (presence_of s x) (not (in_margin_of s x)) present q.1) ∙ e))
+          ] in
+          rw e (omega (arith, rest, all, ap (λ v. cond {A = ℕ} v 1 0) none))
+    ]
+  where
+    always : (v : Bool) → (v && true) ≡ v
+    always true = refl
+    always false = refl
 
 -- the section of a chunk is within the limits
 pub home_near : (grid : Grid) (c : ChunkPos) → IsGrid grid → is_chunk c ≡ true → (nat_abs (section_of grid c).x ≤ 1000008) × (nat_abs (section_of grid c).z ≤ 1000008)

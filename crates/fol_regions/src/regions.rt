@@ -30,6 +30,9 @@ use std::marker::Model;
 /// The most regions near a chunk: each has a section within the create and the merge radius of the chunk's own.
 const MOST_NEAR: usize = 625;
 
+/// The most sections within a create radius of a section, which is at most 8.
+const MOST_DYING: usize = 289;
+
 /// The most regions that one event makes: each is a part of a split, and has the sections of a margin to itself.
 const MOST_MADE: usize = 1_820;
 
@@ -48,11 +51,14 @@ pub struct Regions {
     change: Change,
     /// How many dead sections each region has at most.
     dead: DeadBounds,
+    /// The dead sections near a chunk whose last hold was removed.
+    dying: Vec<SectionPos>,
     /// How many events there is memory for.
     spare: u32,
 }
 
 impl Model for Regions {
+    ghost use Rattle.std.specs.Prelude.{◌≤◌};
     ghost use Rattle.std.specs.Vec.{vec_capacity};
     ghost use Rattle.fol_regions.specs.DeadBounds.{BoundsDead, most_in};
     ghost use Rattle.fol_regions.specs.Kept.{IsKept};
@@ -63,7 +69,7 @@ impl Model for Regions {
 
     ghost view = { λ s. record { sections = s.sections; book = s.tables; last = s.change; spare = s.spare } };
 
-    ghost invariant = { λ s. IsKept s.grid s.sections s.tables s.spare (vec_capacity s.near) (vec_capacity s.made) × BoundsDead (grid_of s.sections s.tables) (most_in s.dead) };
+    ghost invariant = { λ s. IsKept s.grid s.sections s.tables s.spare (vec_capacity s.near) (vec_capacity s.made) × BoundsDead (grid_of s.sections s.tables) (most_in s.dead) × (289 ≤ vec_capacity s.dying) };
 }
 
 impl Regions {
@@ -86,6 +92,7 @@ impl Regions {
             made: Vec::with_capacity(alloc, MOST_NEAR)?,
             change: Change::new(alloc)?,
             dead: DeadBounds::new(alloc)?,
+            dying: Vec::with_capacity(alloc, MOST_DYING)?,
             spare: 0,
         })
     }
@@ -105,6 +112,7 @@ impl Regions {
             made: Vec::with_capacity(alloc, MOST_NEAR)?,
             change: self.change.copy(alloc)?,
             dead: DeadBounds::new(alloc)?,
+            dying: Vec::with_capacity(alloc, MOST_DYING)?,
             spare: self.spare,
         })
     }
@@ -180,6 +188,7 @@ impl Regions {
         let answer = self.sections.remove(c);
         note_dying(
             &mut self.dead,
+            &mut self.dying,
             &self.tables,
             &self.sections,
             &self.grid,

@@ -7,11 +7,13 @@ ghost use Rattle.std.specs.List.{count_by, filter};
 ghost use Rattle.std.specs.Vec.{vec_capacity};
 ghost use Rattle.fol_model.specs.declared.places.SectionPos.{SectionPos};
 ghost use Rattle.fol_model.specs.Geometry.{same_section};
-ghost use Rattle.fol_sections.specs.Pages.{AllUsed, IsOnPage, KeepsOthers, chunks_at, counts_on, is_here, near_at, near_on};
+ghost use Rattle.fol_sections.specs.Pages.{AllUsed, IsOnPage, KeepsOthers, chunks_at, counts_at, counts_on, is_here, near_at, near_on};
 ghost use Rattle.fol_sections.specs.Rows.{row_of, section_at};
 ghost use Rattle.fol_sections.specs.Turns.{fall, rise};
+ghost use Rattle.fol_sections.specs.Wanted.{is_wanted};
 
 use crate::pages::{Counts, Page, Pages, empty_page, page_of, place_of};
+use crate::squares::{Wanted, is_wanted};
 use crate::turns::{Turn, turned};
 use fol_model::SectionPos;
 
@@ -36,37 +38,38 @@ fn behind(s: SectionPos, columns: u32) -> SectionPos
     }
 }
 
-/// Adds those of the sections from one on that are missing in their page.
-fn find_on(page: &Page, missing: &mut Vec<SectionPos>, s: SectionPos, len: u32)
+/// Adds those of the sections from one on that are looked for, by what their page keeps of them.
+fn find_on(page: &Page, found: &mut Vec<SectionPos>, s: SectionPos, len: u32, wanted: Wanted)
     requires near { nat_abs s.x ≤ 1000040 }
     requires run { nat_abs (int_rem_euclid s.x (pos 8)) + len ≤ 8 }
-    requires room { length missing.old.items + len ≤ vec_capacity missing.old }
-    ensures found { missing.new.items ≡ missing.old.items
-        ++ filter (λ q. not (is_some (counts_on page.now q))) (row_of section_at s.x s.z len) }
-    ensures few { length missing.new.items ≤ length missing.old.items + len }
-    ensures room { vec_capacity missing.old ≤ vec_capacity missing.new }
+    requires room { length found.old.items + len ≤ vec_capacity found.old }
+    ensures found { found.new.items ≡ found.old.items
+        ++ filter (λ q. is_wanted wanted (counts_on page.now q)) (row_of section_at s.x s.z len) }
+    ensures few { length found.new.items ≤ length found.old.items + len }
+    ensures room { vec_capacity found.old ≤ vec_capacity found.new }
 {
     let place = place_of(s);
     for i in 0..len {
-        if page.sections[place + i as usize].is_none() {
-            let _ = missing.push(behind(s, i));
+        if is_wanted(page.sections[place + i as usize], wanted) {
+            let _ = found.push(behind(s, i));
         }
     }
 }
 
-/// Adds those of the sections from one on, all in one page, that are missing.
-pub fn find_run(pages: &Pages, missing: &mut Vec<SectionPos>, s: SectionPos, len: u32)
+/// Adds those of the sections from one on, all in one page, that are looked for.
+pub fn find_run(pages: &Pages, found: &mut Vec<SectionPos>, s: SectionPos, len: u32, wanted: Wanted)
     requires near { nat_abs s.x ≤ 1000040 }
     requires run { nat_abs (int_rem_euclid s.x (pos 8)) + len ≤ 8 }
-    requires room { length missing.old.items + len ≤ vec_capacity missing.old }
-    ensures found { missing.new.items ≡ missing.old.items
-        ++ filter (λ q. not (is_here pages.now.entries q)) (row_of section_at s.x s.z len) }
-    ensures few { length missing.new.items ≤ length missing.old.items + len }
-    ensures room { vec_capacity missing.old ≤ vec_capacity missing.new }
+    requires room { length found.old.items + len ≤ vec_capacity found.old }
+    ensures found { found.new.items ≡ found.old.items
+        ++ filter (λ q. is_wanted wanted (counts_at pages.now.entries q))
+        (row_of section_at s.x s.z len) }
+    ensures few { length found.new.items ≤ length found.old.items + len }
+    ensures room { vec_capacity found.old ≤ vec_capacity found.new }
 {
     match pages.get(&page_of(s)) {
-        Some(page) => find_on(page, missing, s, len),
-        None => find_on(&empty_page(), missing, s, len),
+        Some(page) => find_on(page, found, s, len, wanted),
+        None => find_on(&empty_page(), found, s, len, wanted),
     }
 }
 

@@ -16,7 +16,7 @@ use crate::chunks::list_section;
 use crate::drops::drop_list;
 use crate::pages::{self, Counts, Pages, is_present, loaded, near};
 use crate::places::{self, Numbers, number};
-use crate::squares::find_missing;
+use crate::squares::{Wanted, find_missing, find_square};
 use crate::stretches::split_list;
 use crate::turns::{Turn, turn_square, turned};
 use crate::{Added, Removed};
@@ -64,7 +64,7 @@ impl Model for Sections {
 }
 
 impl Sections {
-    ghost use Rattle.fol_model.specs.Universe.{all_chunks};
+    ghost use Rattle.fol_model.specs.Universe.{all_chunks, square};
     ghost use Rattle.fol_sections.specs.Table.{Table, holds_of, presence_of, neighbours_of, in_margin_of, present_count, is_full_for, is_loaded_chunk_of, loaded_count, added, removed, Adds, IsSame, IsEmpty, is_missing};
 
     /// Nothing is held and no section is present. Takes the memory for 16,384 present sections.
@@ -155,6 +155,23 @@ impl Sections {
         ensures dead_room { vec_capacity dead.new ≡ vec_capacity dead.old }
     {
         split_list(&self.pages, list, living, dead);
+    }
+
+    /// Finds the present sections within a radius of a section that are dead, for an empty list with room for 289 of them. Takes no
+    /// memory.
+    ///
+    /// A section is dead where it is within the create radius of no section that holds a loaded chunk.
+    pub fn find_dead(&self, s: SectionPos, radius: u8, dead: &mut Vec<SectionPos>)
+        requires near { (nat_abs s.x ≤ 1000008) × (nat_abs s.z ≤ 1000008) }
+        requires few { radius ≤ 8 }
+        requires none { dead.old.items ≡ [] }
+        requires room { 289 ≤ vec_capacity dead.old }
+        ensures dead { dead.new.items
+            ≡ filter (λ q. presence_of self.now q && not (in_margin_of self.now q))
+            (square s radius) }
+        ensures room { vec_capacity dead.old ≤ vec_capacity dead.new }
+    {
+        find_square(&self.pages, dead, s, radius, Wanted::Dead);
     }
 
     /// How many loaded chunks a section has, at most 1,024; 0 for one that is not present.

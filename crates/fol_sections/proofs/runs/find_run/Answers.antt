@@ -1,25 +1,28 @@
-use Rattle.std.proofs.Common.{◌++◌, sym, ◌∙◌, ap, not}
-use Rattle.std.specs.Prelude.{is_some, pos, ◌+ℤ◌}
+use Rattle.std.proofs.Common.{◌++◌, sym, ◌∙◌, ap}
+use Rattle.std.specs.Prelude.{pos, ◌+ℤ◌}
 use Rattle.std.specs.Option.{option_and_then, option_copied}
-use Rattle.fol_sections.specs.Pages.{counts_at, counts_on, is_here, page_at}
+use Rattle.fol_sections.specs.Pages.{counts_at, counts_on, page_at}
 use Rattle.fol_sections.specs.Rows.{section_at}
+use Rattle.fol_sections.specs.Wanted.{is_wanted}
 use Rattle.fol_sections.proofs.PageRuns.{filter_row, run_page}
+use Rattle.fol_sections.proofs.PageSteps.{none_there}
 use Rattle.fol_sections.proofs.runs.find_run.Goals as goal
 
 pub returns-in-Some-clause-found : goal.returns-in-Some-clause-found
-unfolding is_here counts_at page_at
+unfolding counts_at page_at
 returns-in-Some-clause-found c =
     let value = rw c.page_of.ensures at c.get.ensures.value in
     let there = ap option_copied (sym c.in-Some.is) ∙ value in
-    c.find_on.ensures.found ∙ ap (λ xs. c.args.missing.now.items ++ xs) (filter_row (λ q. not (is_some (counts_on c.in-Some.page.now q))) (λ q. not (is_here c.args.pages.now.entries q)) c.args.s.x c.args.s.z c.args.len (λ i l.
+    c.find_on.ensures.found ∙ ap (λ xs. c.args.found.now.items ++ xs) (filter_row (λ q. is_wanted c.args.wanted (counts_on c.in-Some.page.now q)) (λ q. is_wanted c.args.wanted (counts_at c.args.pages.now.entries q)) c.args.s.x c.args.s.z c.args.len (λ i l.
     let e = run_page c.args.s c.args.len c.requires.run i l in
-    rw e (ap (λ o. not (is_some (option_and_then (λ p. counts_on p (section_at (c.args.s.x +ℤ pos i) c.args.s.z)) o))) there)))
+    rw e (ap (λ o. is_wanted c.args.wanted (option_and_then (λ p. counts_on p (section_at (c.args.s.x +ℤ pos i) c.args.s.z)) o)) there)))
 
 pub returns-in-None-clause-found : goal.returns-in-None-clause-found
-unfolding is_here counts_at page_at
+unfolding counts_at page_at
 returns-in-None-clause-found c =
     let value = rw c.page_of.ensures at c.get.ensures.value in
     let none = ap option_copied (sym c.in-None.is) ∙ value in
-    c.find_on-in-None.ensures.found ∙ ap (λ xs. c.args.missing.now.items ++ xs) (filter_row (λ q. not (is_some (counts_on c.empty_page.result q))) (λ q. not (is_here c.args.pages.now.entries q)) c.args.s.x c.args.s.z c.args.len (λ i l.
+    c.find_on-in-None.ensures.found ∙ ap (λ xs. c.args.found.now.items ++ xs) (filter_row (λ q. is_wanted c.args.wanted (counts_on c.empty_page.result q)) (λ q. is_wanted c.args.wanted (counts_at c.args.pages.now.entries q)) c.args.s.x c.args.s.z c.args.len (λ i l.
+    let place = section_at (c.args.s.x +ℤ pos i) c.args.s.z in
     let e = run_page c.args.s c.args.len c.requires.run i l in
-    rw e (ap not (c.empty_page.ensures (section_at (c.args.s.x +ℤ pos i) c.args.s.z)) ∙ ap (λ o. not (is_some (option_and_then (λ p. counts_on p (section_at (c.args.s.x +ℤ pos i) c.args.s.z)) o))) none)))
+    rw e (ap (is_wanted c.args.wanted) (none_there (counts_on c.empty_page.result place) (c.empty_page.ensures place)) ∙ ap (λ o. is_wanted c.args.wanted (option_and_then (λ p. counts_on p place) o)) none)))

@@ -47,7 +47,7 @@ invariant_of-self c =
       near = c.hold-answer.ensures.rooms.0;
       made = c.hold-answer.ensures.rooms.1;
     } in
-    (after, bounds_added (grid_of c.self.inside.sections c.self.inside.tables) c.args.c c.self.invariant.0.rules (state_grid c.self.inside.sections c.self.inside.tables c.self.invariant.0.numbers) c.requires.in_range (grid_of c.hold-answer.new.sections c.hold-answer.new.tables) c.hold-answer.ensures.state after.rules _ _ c.self.invariant.1 c.merges.result.now (c.merges.ensures ∙ ap (λ (x : Changes). x.merges) c.hold-answer.ensures.change) c.forget_joined.ensures)
+    (after, bounds_added (grid_of c.self.inside.sections c.self.inside.tables) c.args.c c.self.invariant.0.rules (state_grid c.self.inside.sections c.self.inside.tables c.self.invariant.0.numbers) c.requires.in_range (grid_of c.hold-answer.new.sections c.hold-answer.new.tables) c.hold-answer.ensures.state after.rules _ _ c.self.invariant.1 c.merges.result.now (c.merges.ensures ∙ ap (λ (x : Changes). x.merges) c.hold-answer.ensures.change) c.forget_joined.ensures, c.self.invariant.2)
 
 pub returns-clause-state : goal.returns-clause-state
 unfolding grid_state grid_of

@@ -7,7 +7,7 @@ use Rattle.fol_regions.proofs.regions.Regions.begin.Goals as goal
 pub invariant_of-self : goal.invariant_of-self
 invariant_of-self c =
     let ready = sym c.state-state.ensures ∙ c.in-Ready.is in
-    (steps.begun_kept c.self.inside.grid c.self.inside.sections c.self.inside.tables c.self.inside.spare _ _ c.self.invariant.0 c.set_state.new.self c.args.id ready c.set_state.ensures, steps.begun_bounds c.self.inside.grid c.self.inside.sections c.self.inside.tables c.self.inside.spare _ _ c.self.invariant.0 c.set_state.new.self c.args.id ready c.set_state.ensures _ c.self.invariant.1)
+    (steps.begun_kept c.self.inside.grid c.self.inside.sections c.self.inside.tables c.self.inside.spare _ _ c.self.invariant.0 c.set_state.new.self c.args.id ready c.set_state.ensures, steps.begun_bounds c.self.inside.grid c.self.inside.sections c.self.inside.tables c.self.inside.spare _ _ c.self.invariant.0 c.set_state.new.self c.args.id ready c.set_state.ensures _ c.self.invariant.1, c.self.invariant.2)
 
 pub returns-in-Ready-clause-answer : goal.returns-in-Ready-clause-answer
 unfolding grid_state

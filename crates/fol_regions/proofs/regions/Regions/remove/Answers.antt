@@ -1,4 +1,4 @@
-use Rattle.std.proofs.Common.{◌∙◌, sym}
+use Rattle.std.proofs.Common.{◌∙◌, sym, arith}
 use Rattle.fol_regions.specs.Released.{grid_of}
 use Rattle.fol_regions.specs.Table.{grid_state}
 use Rattle.fol_regions.proofs.TableSteps as steps
@@ -9,7 +9,7 @@ invariant_of-self c =
     let is = c.remove-answer.ensures.answer in
     let gone = rw is at c.note_dying.ensures.gone in
     let others = rw is at c.note_dying.ensures.others in
-    (steps.removed_kept c.self.inside.grid c.self.inside.sections c.self.inside.tables c.self.inside.spare _ _ c.self.invariant.0 c.remove-answer.new.self c.args.c c.remove-answer.ensures.stays.0 c.remove-answer.ensures.stays.2 c.remove-answer.ensures.holds c.remove-answer.ensures.presence, steps.removed_bounds c.self.inside.grid c.self.inside.sections c.self.inside.tables c.self.inside.spare _ _ c.self.invariant.0 c.remove-answer.new.self c.args.c c.remove-answer.ensures.stays.0 c.remove-answer.ensures.stays.2 c.remove-answer.ensures.holds c.remove-answer.ensures.presence _ _ c.self.invariant.1 gone others)
+    (steps.removed_kept c.self.inside.grid c.self.inside.sections c.self.inside.tables c.self.inside.spare _ _ c.self.invariant.0 c.remove-answer.new.self c.args.c c.remove-answer.ensures.stays.0 c.remove-answer.ensures.stays.2 c.remove-answer.ensures.holds c.remove-answer.ensures.presence, steps.removed_bounds c.self.inside.grid c.self.inside.sections c.self.inside.tables c.self.inside.spare _ _ c.self.invariant.0 c.remove-answer.new.self c.args.c c.remove-answer.ensures.stays.0 c.remove-answer.ensures.stays.2 c.remove-answer.ensures.holds c.remove-answer.ensures.presence _ _ c.self.invariant.1 gone others, omega (arith, c.note_dying.ensures.room, c.self.invariant.2))
 
 pub note_dying-requires-clause-presence : goal.note_dying-requires-clause-presence
 note_dying-requires-clause-presence c = (steps.removed_kept c.self.inside.grid c.self.inside.sections c.self.inside.tables c.self.inside.spare _ _ c.self.invariant.0 c.remove-answer.new.self c.args.c c.remove-answer.ensures.stays.0 c.remove-answer.ensures.stays.2 c.remove-answer.ensures.holds c.remove-answer.ensures.presence).presence
