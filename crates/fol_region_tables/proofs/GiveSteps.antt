@@ -9,16 +9,18 @@ use Rattle.fol_lists.specs.Numbered.{total, with_list}
 use Rattle.fol_model.specs.declared.places.SectionPos.{SectionPos}
 use Rattle.fol_model.specs.Geometry.{is_section, is_among}
 use Rattle.fol_model.specs.Universe.{all_sections, count_sections}
-use Rattle.fol_region_tables.specs.Owners.{owner_in}
+use Rattle.fol_pages.specs.Pages.{LieIn}
 use Rattle.fol_region_tables.specs.Rows.{united}
 use Rattle.fol_region_tables.specs.Slots.{slot_of}
+use Rattle.fol_region_tables.specs.Owners.{owner_in}
+use Rattle.fol_region_tables.specs.declared.pages.OwnerPage.{OwnerPage}
 use Rattle.fol_region_tables.specs.Book.{Book, IsBook, Gives, owner_of, state_of, is_live, rows_of, ahead_of, behind_of, waits_of}
 use Rattle.fol_region_tables.proofs.BookFacts.{put_at, put_other, put_unused, live_slot}
 use Rattle.fol_region_tables.proofs.Chosen.{filter_like, count_either, united_chosen}
 use Rattle.fol_region_tables.proofs.OwnSteps.{own_other, own_here, own_length, own_count, own_limits}
 use Rattle.fol_region_tables.proofs.Totals.{total_with}
 
-module _ (b : Book) (is : IsBook b) (t : ℕ) (live : is_live b t ≡ true) (xs : List SectionPos) (owned : List ((ℤ × ℤ) × ℕ)) (free : ℕ)
+module _ (b : Book) (is : IsBook b) (t : ℕ) (live : is_live b t ≡ true) (xs : List SectionPos) (owned : List ((ℤ × ℤ) × OwnerPage)) (free : ℕ)
     (set : (q : SectionPos) → owner_in owned q ≡ cond (is_among xs q) t (owner_of b q)) (absent : (s : SectionPos) → is_among xs s ≡ true → owner_of b s ≡ 0)
     (row : xs ≡ filter (is_among xs) all_sections) where
   abbrev pub given : Book
@@ -84,6 +86,6 @@ module _ (b : Book) (is : IsBook b) (t : ℕ) (live : is_live b t ≡ true) (xs 
     room = is.room;
   }
 
-  pub given_is : b.free ≤ free + length xs → Gives b given xs t
+  pub given_is : ((n : ℕ) → LieIn (is_among xs) n → b.free ≤ free + n) → Gives b given xs t
   unfolding state_of is_live waits_of ahead_of
   given_is l = record { owner = fun_ext owners; state = refl; waits = refl; live = refl; next = refl; free = l }

@@ -19,3 +19,6 @@ pub mod MakeSteps
 pub mod LiveSlots
 pub mod RoomSteps
 pub mod CopySteps
+pub mod NewOwners
+pub mod PageOwners
+pub mod Stretches

@@ -12,10 +12,12 @@ use Rattle.fol_model.specs.declared.regions.State.{State}
 use Rattle.fol_model.specs.GridState.{with_state}
 use Rattle.fol_model.specs.Universe.{all_sections, numbers_below}
 use Rattle.fol_laws.proofs.ListCounts.{count_by-cons, count_by-none}
+use Rattle.fol_pages.specs.Pages.{LieIn}
 use Rattle.fol_region_tables.specs.declared.slots.Region.{Region}
-use Rattle.fol_region_tables.specs.Owners.{entry_of, owner_in}
 use Rattle.fol_model.specs.Geometry.{is_among}
 use Rattle.fol_region_tables.specs.Slots.{SlotTable, region_at, slot_of, slot_state}
+use Rattle.fol_region_tables.specs.Owners.{owner_in}
+use Rattle.fol_region_tables.specs.declared.pages.OwnerPage.{OwnerPage}
 use Rattle.fol_region_tables.specs.Book.{Book, IsBook, Makes, owner_of, state_of, is_live, rows_of, ahead_of, behind_of, waits_of}
 use Rattle.fol_region_tables.proofs.BookFacts.{slot_live, not_live, no_list, owner_live, live_next, waits_next, waiter_lives}
 use Rattle.fol_region_tables.proofs.Chosen.{filter_like, none_kept}
@@ -39,7 +41,7 @@ regions_few b is own within = live_few b.slots.regions b.rows.lists (λ k r e.
     omega (arith, is.some r.id l, ap (λ j. length (list_at b.rows j)) s))
 
 module _ (b : Book) (is : IsBook b) (xs : List SectionPos) (some : 0 < length xs) (absent : (s : SectionPos) → is_among xs s ≡ true → owner_of b s ≡ 0) (row : xs ≡ filter (is_among xs) all_sections)
-    (owned : List ((ℤ × ℤ) × ℕ)) (free : ℕ) (set : (q : SectionPos) → owner_in owned q ≡ cond (is_among xs q) b.next (owner_of b q))
+    (owned : List ((ℤ × ℤ) × OwnerPage)) (free : ℕ) (set : (q : SectionPos) → owner_in owned q ≡ cond (is_among xs q) b.next (owner_of b q))
     (slots : SlotTable) (k : ℕ) (within : k < b.slots.room) (fresh : (q : ℕ) → slot_of b.slots q ≢ k) (moved : slot_of slots ≡ (λ q. cond (nat_eq b.next q) k (slot_of b.slots q))) (room : slots.room ≡ b.slots.room) where
   abbrev pub made : Book
   made = record b { owned = owned; free = free; slots = slots; rows = with_list b.rows k xs; next = b.next + 1 }
@@ -174,7 +176,7 @@ module _ (b : Book) (is : IsBook b) (xs : List SectionPos) (some : 0 < length xs
     room = omega (arith, room, is.room);
   }
 
-  pub made_is : (state : State) → slot_state slots ≡ with_state (slot_state b.slots) b.next state → b.free ≤ free + length xs → Makes b made xs state
+  pub made_is : (state : State) → slot_state slots ≡ with_state (slot_state b.slots) b.next state → ((n : ℕ) → LieIn (is_among xs) n → b.free ≤ free + n) → Makes b made xs state
   unfolding state_of
   made_is state h l = record {
     owner = fun_ext owners;
@@ -196,14 +198,10 @@ module _ {X : Type 0} where
   list_none (suc n) zero = refl
   list_none (suc n) (suc k) = list_none n k
 
-pub nobody_owns : (s : SectionPos) → owner_in [] s ≡ 0
-unfolding owner_in entry_of
-nobody_owns s = refl
-
-pub empty_book : (b : Book) (n : ℕ) → b.owned ≡ [] → ((r : ℕ) → slot_of b.slots r ≡ b.slots.room) → b.slots.room ≡ n → b.rows ≡ record { lists = replicate n []; room = 16384 } → b.ahead ≡ record { lists = replicate n []; room = 0 } → b.behind ≡ record { lists = replicate n []; room = 0 } → b.next ≡ 1
+pub empty_book : (b : Book) (n : ℕ) → ((s : SectionPos) → owner_in b.owned s ≡ 0) → ((r : ℕ) → slot_of b.slots r ≡ b.slots.room) → b.slots.room ≡ n → b.rows ≡ record { lists = replicate n []; room = 16384 } → b.ahead ≡ record { lists = replicate n []; room = 0 } → b.behind ≡ record { lists = replicate n []; room = 0 } → b.next ≡ 1
     → 16384 ≤ b.slots.room → IsBook b
 unfolding is_live owner_of rows_of ahead_of behind_of waits_of
-empty_book b n owned none numbers rows ahead behind next room = record {
+empty_book b n nobody none numbers rows ahead behind next room = record {
   rows = λ r p. no_row r ∙ sym (none_kept (λ s. nat_eq (owner_in b.owned s) r) (λ s. ne_eqb (owner_in b.owned s) r (λ e. omega (arith, e, p, nobody s))) all_sections);
   limits = λ s p. absurd (omega (arith, p, nobody s));
   ahead = λ u. no_ahead u ∙ sym (none_kept (λ t. list_any (nat_eq t) (list_at b.ahead (slot_of b.slots u))) (λ t. ap (list_any (nat_eq t)) (no_ahead u)) (numbers_below b.next));
@@ -222,9 +220,6 @@ empty_book b n owned none numbers rows ahead behind next room = record {
   room = room;
 }
   where
-    nobody : (s : SectionPos) → owner_in b.owned s ≡ 0
-    nobody s = ap (λ es. owner_in es s) owned ∙ nobody_owns s
-
     no_row : (r : ℕ) → list_at b.rows (slot_of b.slots r) ≡ []
     no_row r = ap (λ v. list_at v (slot_of b.slots r)) rows ∙ list_none n (slot_of b.slots r)
 

@@ -11,9 +11,10 @@ use Rattle.fol_lists.specs.Numbered.{list_at, total, with_list}
 use Rattle.fol_model.specs.declared.places.SectionPos.{SectionPos}
 use Rattle.fol_model.specs.Geometry.{is_section, is_among}
 use Rattle.fol_model.specs.Universe.{all_sections, count_sections, numbers_below}
-use Rattle.fol_region_tables.specs.Owners.{owner_in}
 use Rattle.fol_region_tables.specs.Rows.{united}
 use Rattle.fol_region_tables.specs.Slots.{SlotTable, slot_of}
+use Rattle.fol_region_tables.specs.Owners.{owner_in}
+use Rattle.fol_region_tables.specs.declared.pages.OwnerPage.{OwnerPage}
 use Rattle.fol_region_tables.specs.Book.{Book, IsBook, owner_of, is_live, rows_of, ahead_of, behind_of, waits_of}
 use Rattle.fol_region_tables.proofs.BookFacts.{live_slot, no_list}
 use Rattle.fol_region_tables.proofs.Chosen.{chosen, filter_like, count_like, count_either, none_kept, united_chosen}
@@ -25,7 +26,7 @@ pub among_rows : (b : Book) → IsBook b → (r : ℕ) → 0 < r → (s : Sectio
 among_rows b is r p s = ap (λ xs. is_among xs s) (is.rows r p) ∙ chosen (λ q. nat_eq (owner_of b q) r) (λ q h. is.limits q (omega (arith, p, eqb-true (owner_of b q) r h))) s
 
 module _ (b : Book) (is : IsBook b) (u t : ℕ) (lu : is_live b u ≡ true) (lt : is_live b t ≡ true) (apart : u ≢ t) (none : (k : ℕ) → waits_of b u k ≡ false) (nobody : (a : ℕ) → waits_of b a u ≡ false)
-    (owned : List ((ℤ × ℤ) × ℕ)) (free : ℕ) (set : (q : SectionPos) → owner_in owned q ≡ cond (is_among (rows_of b u) q) t (owner_of b q))
+    (owned : List ((ℤ × ℤ) × OwnerPage)) (free : ℕ) (set : (q : SectionPos) → owner_in owned q ≡ cond (is_among (rows_of b u) q) t (owner_of b q))
     (slots : SlotTable) (moved : slot_of slots ≡ (λ q. cond (nat_eq u q) b.slots.room (slot_of b.slots q))) (room : slots.room ≡ b.slots.room) where
   abbrev pub merged : Book
   merged = record b { owned = owned; free = free; slots = slots; rows = with_list (with_list b.rows (slot_of b.slots u) []) (slot_of b.slots t) (united (rows_of b t) (rows_of b u)) }

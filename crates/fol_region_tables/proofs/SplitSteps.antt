@@ -35,7 +35,6 @@ pub record IsSplitting (b c : Book) (t : ℕ) (found : List (List SectionPos)) (
   pub gone : is_live c t ≡ false
   pub next : c.next ≡ b.next + i
   pub rooms : KeepsRoom b c
-  pub same_free : c.free ≡ b.free
 
 -- the number by which a section is found, where it is in one part alone
 pub id_found : (found : List (List SectionPos)) (n i : ℕ) (s : SectionPos) → i < length found → is_among (get_or found i []) s ≡ true
@@ -106,7 +105,7 @@ module _ (b : Book) (t : ℕ) (h : IsBook b) (live : is_live b t ≡ true) (foun
   part_id i s l e = id_found found b.next i s l e (λ j k f. parts.apart j i s k l f e)
 
   module _ (c : Book) (gone : IsBookBut c t) (owner : (s : SectionPos) → owner_of c s ≡ owner_of b s) (states : state_of c ≡ with_state (state_of b) t Dead)
-      (waits : (u v : ℕ) → waits_of c u v ≡ waits_of b u v) (dead : is_live c t ≡ false) (next : c.next ≡ b.next) (rooms : KeepsRoom b c) (free : c.free ≡ b.free) where
+      (waits : (u v : ℕ) → waits_of c u v ≡ waits_of b u v) (dead : is_live c t ≡ false) (next : c.next ≡ b.next) (rooms : KeepsRoom b c) where
     pub splitting_none : IsSplitting b c t found 0
     splitting_none = record {
       but = gone;
@@ -124,14 +123,13 @@ module _ (b : Book) (t : ℕ) (h : IsBook b) (live : is_live b t ≡ true) (foun
       gone = dead;
       next = next ∙ omega arith;
       rooms = rooms;
-      same_free = free;
     }
 
   module _ (i k : ℕ) (l : i < length found) (c d : Book) (w : IsSplitting b c t found i)
       (owner : (s : SectionPos) → owner_of d s ≡ (if is_among (get_or found i []) s then c.next else owner_of c s))
       (slots : slot_of d.slots ≡ (λ q. if nat_eq c.next q then k else slot_of c.slots q)) (states : slot_state d.slots ≡ with_state (slot_state c.slots) c.next Ready)
       (room : d.slots.room ≡ c.slots.room) (fits : k < c.slots.room) (fresh : (q : ℕ) → slot_of c.slots q ≢ k)
-      (rows : d.rows ≡ with_list c.rows k (get_or found i [])) (ahead : d.ahead ≡ c.ahead) (behind : d.behind ≡ c.behind) (next : d.next ≡ c.next + 1) (free : d.free ≡ c.free) where
+      (rows : d.rows ≡ with_list c.rows k (get_or found i [])) (ahead : d.ahead ≡ c.ahead) (behind : d.behind ≡ c.behind) (next : d.next ≡ c.next + 1) (free : c.free ≤ d.free) where
     below : t < c.next
     below = omega (arith, w.next, t_below)
 
@@ -205,13 +203,12 @@ module _ (b : Book) (t : ℕ) (h : IsBook b) (live : is_live b t ≡ true) (foun
       gone = gone_next;
       next = omega (arith, next, w.next);
       rooms = record {
-        free = omega (arith, free, w.same_free);
+        free = omega (arith, free, w.rooms.free);
         ahead = rw ahead w.rooms.ahead;
         behind = rw behind w.rooms.behind;
         ahead_room = rw ahead w.rooms.ahead_room;
         behind_room = rw behind w.rooms.behind_room;
       };
-      same_free = free ∙ w.same_free;
     }
 
   -- a section of the next part is still t's

@@ -10,12 +10,14 @@ use Rattle.fol_model.specs.Geometry.{is_section, is_among}
 use Rattle.fol_model.specs.GridState.{with_state}
 use Rattle.fol_model.specs.Universe.{all_sections, count_sections, numbers_below}
 use Rattle.fol_region_tables.specs.Slots.{SlotTable, slot_of, slot_state}
+use Rattle.fol_pages.specs.Pages.{LieIn}
 use Rattle.fol_region_tables.specs.Owners.{owner_in}
+use Rattle.fol_region_tables.specs.declared.pages.OwnerPage.{OwnerPage}
 
 pub record Book : Type 0 where
-  -- the region of each present section, by place
-  pub owned : List ((ℤ × ℤ) × ℕ)
-  -- how many sections more there is memory for
+  -- the region of each present section, by page
+  pub owned : List ((ℤ × ℤ) × OwnerPage)
+  -- how many pages of sections more there is memory for
   pub free : ℕ
   pub slots : SlotTable
   -- by slot: the sections of the region, the regions that it waits for, and those that wait for it
@@ -47,9 +49,9 @@ behind_of b t = list_at b.behind (slot_of b.slots t)
 unfoldable pub waits_of : Book → ℕ → ℕ → Bool
 waits_of b u t = list_any (nat_eq t) (ahead_of b u)
 
--- there is memory for so many sections and pairs more
+-- there is memory for so many pages of sections and pairs more
 pub record HasRoomFor (b : Book) (more pairs : ℕ) : Type 0 where
-  pub sections : more ≤ b.free
+  pub pages : more ≤ b.free
   pub ahead : total b.ahead + pairs ≤ b.ahead.room
   pub behind : total b.behind + pairs ≤ b.behind.room
 
@@ -158,7 +160,8 @@ pub record Gives (old new : Book) (sections : List SectionPos) (t : ℕ) : Type 
   pub waits : waits_of new ≡ waits_of old
   pub live : is_live new ≡ is_live old
   pub next : new.next ≡ old.next
-  pub free : old.free ≤ new.free + length sections
+  -- it takes no more than the pages that the sections lie in
+  pub free : (n : ℕ) → LieIn (is_among sections) n → old.free ≤ new.free + n
 
 -- a region with the next id, which has the sections of a list, which had no owner
 pub record Makes (old new : Book) (sections : List SectionPos) (value : State) : Type 0 where
@@ -167,4 +170,5 @@ pub record Makes (old new : Book) (sections : List SectionPos) (value : State) :
   pub waits : waits_of new ≡ waits_of old
   pub live : is_live new ≡ (λ r. nat_eq r old.next || is_live old r)
   pub next : new.next ≡ old.next + 1
-  pub free : old.free ≤ new.free + length sections
+  -- it takes no more than the pages that the sections lie in
+  pub free : (n : ℕ) → LieIn (is_among sections) n → old.free ≤ new.free + n

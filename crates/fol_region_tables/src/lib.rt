@@ -10,6 +10,7 @@
 
 mod links;
 mod owners;
+mod pages;
 mod parting;
 mod rows;
 mod slots;

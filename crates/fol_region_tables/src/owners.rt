@@ -1,93 +1,100 @@
 //! The region of each present section.
 
-ghost use Rattle.std.specs.Prelude.{◌≡◌, ◌≢◌, ℕ, ◌+◌, ◌<◌, ◌≤◌, true, Some, None, cond, is_some, IsTrue, length, if◌then◌else◌};
-ghost use Rattle.std.specs.List.{All};
-ghost use Rattle.std.specs.HashMap.{spare};
+ghost use Rattle.std.specs.Prelude.{◌≡◌, ℕ, ◌+◌, ◌<◌, ◌≤◌, IfOk, OnOk, nat_abs, pos, ◌+ℤ◌, length, if◌then◌else◌, slice_index_or};
+ghost use Rattle.std.specs.Int.{int_rem_euclid};
 ghost use Rattle.fol_model.specs.declared.places.SectionPos.{SectionPos};
-ghost use Rattle.fol_model.specs.Geometry.{same_section, is_among};
-ghost use Rattle.fol_region_tables.specs.Owners.{entry_of, owner_in};
+ghost use Rattle.fol_model.specs.Geometry.{is_among};
+ghost use Rattle.fol_pages.specs.Pages.{LieIn};
 
+use crate::pages::{Pages, give_all, owner, run, take_all_out};
 use fol_model::SectionPos;
+use std::alloc::{AllocError, Global};
 use std::collections::HashMap;
+use std::marker::Model;
 
-/// The region of a section by its `x` and `z`.
-pub type Owners = HashMap<(i32, i32), u64>;
+/// The region of each section that has one, in pages: a page is there only where one of its sections has a region.
+#[derive(Drop)]
+pub struct Owners {
+    pages: Pages,
+}
 
-/// The region of a section, or 0 where it has none.
-pub fn owner(owners: &Owners, s: SectionPos) -> u64
-    ensures { result ≡ owner_in owners.now.entries s }
-{
-    match owners.get(&(s.x, s.z)) {
-        Some(id) => *id,
-        None => 0,
+impl Model for Owners {
+    ghost use Rattle.std.specs.HashMap.{spare};
+    ghost use Rattle.fol_region_tables.specs.Owners.{AllOwned, Owned};
+
+    ghost Value = { Owned };
+
+    ghost view = { λ s. record { pages = s.pages.entries; free = spare s.pages } };
+
+    ghost invariant = { λ s. AllOwned s.pages.entries };
+}
+
+impl Owners {
+    ghost use Rattle.fol_region_tables.specs.Owners.{is_new, owner_in};
+
+    /// No section has a region. Takes no memory.
+    pub fn new(alloc: Global) -> Owners
+        ensures { (s : SectionPos) → owner_in result.pages s ≡ 0 }
+    {
+        Owners {
+            pages: HashMap::new(alloc),
+        }
     }
-}
 
-/// Gives a section to a region.
-pub fn give(owners: &mut Owners, s: SectionPos, id: u64)
-    requires { 0 < spare owners.old }
-    ensures entry { (q : SectionPos) → owner_in owners.new.entries q
-        ≡ (if same_section s q then id else owner_in owners.old.entries q) }
-    ensures room { spare owners.old ≤ spare owners.new + 1 }
-{
-    let _ = owners.insert((s.x, s.z), id);
-}
-
-/// Gives a section that has a region to another one.
-pub fn change(owners: &mut Owners, s: SectionPos, id: u64)
-    requires { 0 < owner_in owners.old.entries s }
-    ensures entry { (q : SectionPos) → owner_in owners.new.entries q
-        ≡ (if same_section s q then id else owner_in owners.old.entries q) }
-    ensures room { spare owners.new ≡ spare owners.old }
-{
-    match owners.get_mut(&(s.x, s.z)) {
-        Some(owner) => *owner = id,
-        None => {}
+    /// The region of a section, or 0 where it has none.
+    pub fn owner(&self, s: SectionPos) -> u64
+        ensures { result ≡ owner_in self.now.pages s }
+    {
+        owner(&self.pages, s)
     }
-}
 
-/// Takes a section out.
-pub fn take_out(owners: &mut Owners, s: SectionPos)
-    ensures entry { (q : SectionPos) → owner_in owners.new.entries q
-        ≡ (if same_section s q then 0 else owner_in owners.old.entries q) }
-    ensures room { spare owners.old ≤ spare owners.new }
-{
-    let _ = owners.remove(&(s.x, s.z));
-}
-
-/// Gives the sections of a list to a region.
-pub fn give_all(owners: &mut Owners, sections: &[SectionPos], id: u64)
-    requires { length sections.now ≤ spare owners.old }
-    ensures entry { (q : SectionPos) → owner_in owners.new.entries q
-        ≡ (if is_among sections.now q then id else owner_in owners.old.entries q) }
-    ensures room { spare owners.old ≤ spare owners.new + length sections.now }
-{
-    for s in sections {
-        give(owners, *s, id);
+    /// The regions of so many sections side by side in one page, from one on; fewer where the others have none.
+    pub fn run(&self, s: SectionPos, len: u32) -> &[u64]
+        requires { nat_abs (int_rem_euclid s.x (pos 8)) + len ≤ 8 }
+        ensures owners { (i : ℕ) → i < len → slice_index_or result.now i 0
+            ≡ owner_in self.now.pages (record { x = s.x +ℤ pos i; z = s.z }) }
+        ensures few { length result.now ≤ len }
+    {
+        run(&self.pages, s, len)
     }
-}
 
-/// Gives the sections of a list, which all have a region, to another one.
-pub fn change_all(owners: &mut Owners, sections: &[SectionPos], id: u64)
-    requires region { 0 < id }
-    requires owned { (q : SectionPos) → is_among sections.now q ≡ true
-        → 0 < owner_in owners.old.entries q }
-    ensures entry { (q : SectionPos) → owner_in owners.new.entries q
-        ≡ (if is_among sections.now q then id else owner_in owners.old.entries q) }
-    ensures room { spare owners.new ≡ spare owners.old }
-{
-    for s in sections {
-        change(owners, *s, id);
+    /// Gives the sections of a list to a region. Takes no memory.
+    pub fn give_all(&mut self, sections: &[SectionPos], id: u64)
+        requires region { 0 < id }
+        requires room { LieIn (is_new (owner_in self.old.pages) sections.now) self.old.free }
+        ensures owner { (q : SectionPos) → owner_in self.new.pages q
+            ≡ (if is_among sections.now q then id else owner_in self.old.pages q) }
+        ensures room { (n : ℕ) → LieIn (is_new (owner_in self.old.pages) sections.now) n
+            → self.old.free ≤ self.new.free + n }
+    {
+        give_all(&mut self.pages, sections, id);
     }
-}
 
-/// Takes the sections of a list out.
-pub fn take_all_out(owners: &mut Owners, sections: &[SectionPos])
-    ensures entry { (q : SectionPos) → owner_in owners.new.entries q
-        ≡ (if is_among sections.now q then 0 else owner_in owners.old.entries q) }
-    ensures room { spare owners.old ≤ spare owners.new }
-{
-    for s in sections {
-        take_out(owners, *s);
+    /// Takes the regions of the sections of a list.
+    pub fn take_all_out(&mut self, sections: &[SectionPos])
+        ensures owner { (q : SectionPos) → owner_in self.new.pages q
+            ≡ (if is_among sections.now q then 0 else owner_in self.old.pages q) }
+        ensures room { self.old.free ≤ self.new.free }
+    {
+        take_all_out(&mut self.pages, sections);
+    }
+
+    /// Makes room for so many pages more. The regions stay either way.
+    pub fn reserve(&mut self, pages: usize) -> Result<(), AllocError>
+        ensures owner { (q : SectionPos) → owner_in self.new.pages q ≡ owner_in self.old.pages q }
+        ensures ok { OnOk result (pages ≤ self.new.free) }
+        ensures room { self.old.free ≤ self.new.free }
+    {
+        self.pages.reserve(pages)
+    }
+
+    /// The same regions with the same room, in memory of their own.
+    pub fn copy(&self) -> Result<Owners, AllocError>
+        ensures owner { IfOk result (λ v. (q : SectionPos) → owner_in v.pages q ≡ owner_in self.now.pages q) }
+        ensures room { IfOk result (λ v. self.now.free ≤ v.free) }
+    {
+        let mut pages = self.pages.clone()?;
+        pages.reserve(self.pages.capacity() - self.pages.len())?;
+        Ok(Owners { pages })
     }
 }

@@ -7,7 +7,6 @@ ghost use Rattle.fol_model.specs.declared.regions.State.TheVariants.{Dead};
 ghost use Rattle.fol_model.specs.Universe.{count_sections};
 ghost use Rattle.fol_model.specs.Geometry.{is_among};
 
-use crate::owners::{change_all, take_all_out};
 use crate::tables::Tables;
 use fol_model::{MOST_SECTIONS, SectionPos, State};
 use fol_split::Splitter;
@@ -38,10 +37,10 @@ impl Tables {
         self.slots.keeps_slots();
     }
 
-    /// Makes room for so many sections, pairs and ids more. What the tables say stays either way.
-    pub fn reserve(&mut self, sections: usize, pairs: usize, ids: usize) -> Result<(), AllocError>
+    /// Makes room for so many pages of sections, pairs and ids more. What the tables say stays either way.
+    pub fn reserve(&mut self, pages: usize, pairs: usize, ids: usize) -> Result<(), AllocError>
         ensures same { IsAlike self.old self.new }
-        ensures ok { OnOk result (HasRoomFor self.new sections pairs) }
+        ensures ok { OnOk result (HasRoomFor self.new pages pairs) }
         ensures free { self.old.free ≤ self.new.free }
         ensures ahead { (total self.new.ahead ≡ total self.old.ahead)
             × (self.old.ahead.room ≤ self.new.ahead.room) }
@@ -50,7 +49,7 @@ impl Tables {
     {
         self.slots
             .reserve_keys((self.next as usize).saturating_add(ids))?;
-        self.owners.reserve(sections)?;
+        self.owners.reserve(pages)?;
         self.ahead.reserve(pairs)?;
         self.behind.reserve(pairs)
     }
@@ -66,7 +65,7 @@ impl Tables {
         ensures { Keeps self.old self.new id living.now }
     {
         let slot = self.slots.find(id);
-        take_all_out(&mut self.owners, dead);
+        self.owners.take_all_out(dead);
         self.rows.put(slot, living);
     }
 
@@ -78,7 +77,7 @@ impl Tables {
         ensures { Ends self.old self.new id }
     {
         let slot = self.slots.find(id);
-        take_all_out(&mut self.owners, self.rows.get(slot));
+        self.owners.take_all_out(self.rows.get(slot));
         self.rows.clear(slot);
         self.slots.remove(id);
     }
@@ -99,7 +98,7 @@ impl Tables {
         for i in 0..parts.count() {
             let part = parts.part(i);
             self.slots.keeps_slots();
-            change_all(&mut self.owners, part, self.next);
+            self.owners.give_all(part, self.next);
             let slot = self.slots.insert(self.next, State::Ready);
             self.rows.put(slot, part);
             self.next += 1;

@@ -7,14 +7,14 @@ ghost use Rattle.fol_model.specs.declared.regions.State.TheVariants.{Ready};
 ghost use Rattle.fol_model.specs.Universe.{all_sections, count_sections, numbers_below};
 ghost use Rattle.fol_region_tables.specs.Links.{first_id};
 ghost use Rattle.fol_model.specs.Geometry.{is_among};
+ghost use Rattle.fol_pages.specs.Pages.{LieIn};
 
 use crate::links::Links;
-use crate::owners::{Owners, change_all, give_all, owner};
+use crate::owners::Owners;
 use crate::rows::Rows;
 use crate::slots::Slots;
 use fol_model::{MOST_SECTIONS, SectionPos, State};
 use std::alloc::{AllocError, Global};
-use std::collections::HashMap;
 use std::marker::Model;
 
 /// Which region owns each section, what each region may do, and which region waits for which.
@@ -38,14 +38,13 @@ pub struct Tables {
 }
 
 impl Model for Tables {
-    ghost use Rattle.std.specs.HashMap.{spare};
     ghost use Rattle.fol_region_tables.specs.Book.{Book, IsBook};
 
     ghost Value = { Book };
 
-    ghost view = { λ s. record { owned = s.owners.entries; free = spare s.owners; slots = s.slots; rows = s.rows; ahead = s.ahead; behind = s.behind; next = s.next } };
+    ghost view = { λ s. record { owned = s.owners.pages; free = s.owners.free; slots = s.slots; rows = s.rows; ahead = s.ahead; behind = s.behind; next = s.next } };
 
-    ghost invariant = { λ s. IsBook (record { owned = s.owners.entries; free = spare s.owners; slots = s.slots; rows = s.rows; ahead = s.ahead; behind = s.behind; next = s.next }) };
+    ghost invariant = { λ s. IsBook (record { owned = s.owners.pages; free = s.owners.free; slots = s.slots; rows = s.rows; ahead = s.ahead; behind = s.behind; next = s.next }) };
 }
 
 impl Tables {
@@ -60,7 +59,7 @@ impl Tables {
         let slots = Slots::new(alloc)?;
         let numbers = slots.room();
         Ok(Tables {
-            owners: HashMap::new(alloc),
+            owners: Owners::new(alloc),
             slots,
             rows: Rows::new(alloc, numbers)?,
             ahead: Links::new(alloc, numbers)?,
@@ -81,10 +80,8 @@ impl Tables {
         self.slots.keeps_slots();
         let slots = self.slots.copy(alloc)?;
         let numbers = slots.room();
-        let mut owners = self.owners.clone()?;
-        owners.reserve(self.owners.capacity() - self.owners.len())?;
         Ok(Tables {
-            owners,
+            owners: self.owners.copy()?,
             slots,
             rows: self.rows.copy(alloc, numbers)?,
             ahead: self.ahead.copy(alloc, numbers)?,
@@ -104,7 +101,7 @@ impl Tables {
     pub fn owner(&self, s: SectionPos) -> u64
         ensures { result ≡ owner_of self.now s }
     {
-        owner(&self.owners, s)
+        self.owners.owner(s)
     }
 
     /// The state of a region; Dead where it has no slot.
@@ -215,7 +212,7 @@ impl Tables {
         self.hand_on(id, into);
         let slot = self.slots.find(id);
         let to = self.slots.find(into);
-        change_all(&mut self.owners, self.rows.get(slot), into);
+        self.owners.give_all(self.rows.get(slot), into);
         self.rows.join(to, slot);
         self.slots.remove(id);
     }
@@ -257,13 +254,13 @@ impl Tables {
         requires row { sections.now ≡ filter (is_among sections.now) all_sections }
         requires few { count_sections (λ s. nat_lt 0 (owner_of self.old s)) + length sections.now
             ≤ MOST_SECTIONS }
-        requires room { length sections.now ≤ self.old.free }
+        requires room { LieIn (is_among sections.now) self.old.free }
         ensures gives { Gives self.old self.new sections.now id }
         ensures pairs { (self.new.ahead ≡ self.old.ahead) × (self.new.behind ≡ self.old.behind) }
     {
         let slot = self.slots.find(id);
         self.rows.unite(slot, sections);
-        give_all(&mut self.owners, sections, id);
+        self.owners.give_all(sections, id);
     }
 
     /// Makes a region with the next id, which has sections that have no owner, and returns its id.
@@ -274,7 +271,7 @@ impl Tables {
         requires row { sections.now ≡ filter (is_among sections.now) all_sections }
         requires few { count_sections (λ s. nat_lt 0 (owner_of self.old s)) + length sections.now
             ≤ MOST_SECTIONS }
-        requires room { length sections.now ≤ self.old.free }
+        requires room { LieIn (is_among sections.now) self.old.free }
         requires few_ids { self.old.next < 2 ^ 63 }
         ensures id { result ≡ self.old.next }
         ensures makes { Makes self.old self.new sections.now state }
@@ -284,7 +281,7 @@ impl Tables {
         let id = self.next;
         let slot = self.slots.insert(id, state);
         self.rows.put(slot, sections);
-        give_all(&mut self.owners, sections, id);
+        self.owners.give_all(sections, id);
         self.next += 1;
         id
     }

@@ -1,5 +1,4 @@
 use Rattle.std.proofs.Common.{refl}
-use Rattle.std.specs.HashMap.{spare}
 use Rattle.fol_region_tables.specs.Book.{Book, owner_of, rows_of}
 use Rattle.fol_region_tables.proofs.PartedBooks.{slot_listed, ended_book, ended_is}
 use Rattle.fol_region_tables.proofs.tables.Tables.end.Goals as goal
@@ -20,10 +19,10 @@ invariant_of-self c =
     let live = rw (← c.self.view_is) at c.requires.region in
     let first = rw (← c.self.view_is) at c.requires.first in
     let last = rw (← c.self.view_is) at c.requires.last in
-    let m : Book = record { owned = c.take_all_out.new.owners.entries; free = spare c.take_all_out.new.owners; slots = c.self.inside.slots; rows = c.self.inside.rows; ahead = c.self.inside.ahead; behind = c.self.inside.behind; next = c.self.inside.next } in
-    let n : Book = record { owned = c.take_all_out.new.owners.entries; free = spare c.take_all_out.new.owners; slots = c.self.inside.slots; rows = c.clear.new.self; ahead = c.self.inside.ahead; behind = c.self.inside.behind; next = c.self.inside.next } in
+    let m : Book = record { owned = c.take_all_out.new.self.pages; free = c.take_all_out.new.self.free; slots = c.self.inside.slots; rows = c.self.inside.rows; ahead = c.self.inside.ahead; behind = c.self.inside.behind; next = c.self.inside.next } in
+    let n : Book = record { owned = c.take_all_out.new.self.pages; free = c.take_all_out.new.self.free; slots = c.self.inside.slots; rows = c.clear.new.self; ahead = c.self.inside.ahead; behind = c.self.inside.behind; next = c.self.inside.next } in
     let rows = rw c.find-slot.ensures at c.clear.ensures in
-    let out = rw (c.get.ensures, c.find-slot.ensures) at c.take_all_out.ensures.entry in
+    let out = rw (c.get.ensures, c.find-slot.ensures) at c.take_all_out.ensures.owner in
     ended_book _ m n _ c.args.id c.self.invariant live first last out refl refl refl refl refl
     (λ s. refl) refl rows refl refl refl (λ s. refl) c.remove.ensures.slots c.remove.ensures.states c.remove.ensures.room refl refl refl refl c.take_all_out.ensures.room
 
@@ -33,10 +32,10 @@ returns c =
     let live = rw (← c.self.view_is) at c.requires.region in
     let first = rw (← c.self.view_is) at c.requires.first in
     let last = rw (← c.self.view_is) at c.requires.last in
-    let m : Book = record { owned = c.take_all_out.new.owners.entries; free = spare c.take_all_out.new.owners; slots = c.self.inside.slots; rows = c.self.inside.rows; ahead = c.self.inside.ahead; behind = c.self.inside.behind; next = c.self.inside.next } in
-    let n : Book = record { owned = c.take_all_out.new.owners.entries; free = spare c.take_all_out.new.owners; slots = c.self.inside.slots; rows = c.clear.new.self; ahead = c.self.inside.ahead; behind = c.self.inside.behind; next = c.self.inside.next } in
+    let m : Book = record { owned = c.take_all_out.new.self.pages; free = c.take_all_out.new.self.free; slots = c.self.inside.slots; rows = c.self.inside.rows; ahead = c.self.inside.ahead; behind = c.self.inside.behind; next = c.self.inside.next } in
+    let n : Book = record { owned = c.take_all_out.new.self.pages; free = c.take_all_out.new.self.free; slots = c.self.inside.slots; rows = c.clear.new.self; ahead = c.self.inside.ahead; behind = c.self.inside.behind; next = c.self.inside.next } in
     let rows = rw c.find-slot.ensures at c.clear.ensures in
-    let out = rw (c.get.ensures, c.find-slot.ensures) at c.take_all_out.ensures.entry in
+    let out = rw (c.get.ensures, c.find-slot.ensures) at c.take_all_out.ensures.owner in
     rw (← c.self.view_is)
     (ended_is _ m n _ c.args.id c.self.invariant live first last out refl refl refl refl refl
     (λ s. refl) refl rows refl refl refl (λ s. refl) c.remove.ensures.slots c.remove.ensures.states c.remove.ensures.room refl refl refl refl c.take_all_out.ensures.room)

@@ -1,5 +1,4 @@
 use Rattle.std.proofs.Common.{refl, not}
-use Rattle.std.specs.HashMap.{spare}
 use Rattle.fol_model.specs.declared.places.SectionPos.{SectionPos}
 use Rattle.fol_region_tables.specs.Book.{Book, owner_of}
 use Rattle.fol_model.specs.Geometry.{is_among}
@@ -24,9 +23,9 @@ invariant_of-self c =
     let live = rw (← c.self.view_is) at c.requires.region in
     let dead = rw (← c.self.view_is) at c.requires.dead in
     let living = rw (← c.self.view_is) at c.requires.living in
-    let m : Book = record { owned = c.take_all_out.new.owners.entries; free = spare c.take_all_out.new.owners; slots = c.self.inside.slots; rows = c.self.inside.rows; ahead = c.self.inside.ahead; behind = c.self.inside.behind; next = c.self.inside.next } in
+    let m : Book = record { owned = c.take_all_out.new.self.pages; free = c.take_all_out.new.self.free; slots = c.self.inside.slots; rows = c.self.inside.rows; ahead = c.self.inside.ahead; behind = c.self.inside.behind; next = c.self.inside.next } in
     let rows = rw c.find-slot.ensures at c.put.ensures in
-    kept_book _ m _ c.args.id c.self.invariant live c.args.living.now c.args.dead.now c.requires.some dead living c.take_all_out.ensures.entry refl refl refl refl refl
+    kept_book _ m _ c.args.id c.self.invariant live c.args.living.now c.args.dead.now c.requires.some dead living c.take_all_out.ensures.owner refl refl refl refl refl
     (λ s. refl) refl rows refl refl refl c.take_all_out.ensures.room
 
 pub returns : goal.returns
@@ -35,8 +34,8 @@ returns c =
     let live = rw (← c.self.view_is) at c.requires.region in
     let dead = rw (← c.self.view_is) at c.requires.dead in
     let living = rw (← c.self.view_is) at c.requires.living in
-    let m : Book = record { owned = c.take_all_out.new.owners.entries; free = spare c.take_all_out.new.owners; slots = c.self.inside.slots; rows = c.self.inside.rows; ahead = c.self.inside.ahead; behind = c.self.inside.behind; next = c.self.inside.next } in
+    let m : Book = record { owned = c.take_all_out.new.self.pages; free = c.take_all_out.new.self.free; slots = c.self.inside.slots; rows = c.self.inside.rows; ahead = c.self.inside.ahead; behind = c.self.inside.behind; next = c.self.inside.next } in
     let rows = rw c.find-slot.ensures at c.put.ensures in
     rw (← c.self.view_is)
-    (kept_is _ m _ c.args.id c.self.invariant live c.args.living.now c.args.dead.now c.requires.some dead living c.take_all_out.ensures.entry refl refl refl refl refl
+    (kept_is _ m _ c.args.id c.self.invariant live c.args.living.now c.args.dead.now c.requires.some dead living c.take_all_out.ensures.owner refl refl refl refl refl
     (λ s. refl) refl rows refl refl refl c.take_all_out.ensures.room)

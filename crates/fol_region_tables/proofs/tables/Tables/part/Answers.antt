@@ -1,6 +1,5 @@
 use Rattle.std.proofs.Common.{◌∙◌, ap, arith, false, not}
 use Rattle.std.specs.Prelude.{nat_eq}
-use Rattle.std.specs.HashMap.{spare}
 use Rattle.fol_lists.specs.Numbered.{list_at, total, with_list}
 use Rattle.fol_region_tables.specs.Links.{without_id}
 use Rattle.fol_region_tables.specs.Slots.{slot_of}
@@ -13,14 +12,14 @@ use Rattle.fol_region_tables.proofs.tables.Tables.part.Goals as goal
 
 pub remove-requires-2 : goal.remove-requires-2
 remove-requires-2 c =
-    let b : Book = record { owned = c.self.inside.owners.entries; free = spare c.self.inside.owners; slots = c.self.inside.slots; rows = c.self.inside.rows; ahead = c.self.inside.ahead; behind = c.self.inside.behind; next = c.self.inside.next } in
+    let b : Book = record { owned = c.self.inside.owners.pages; free = c.self.inside.owners.free; slots = c.self.inside.slots; rows = c.self.inside.rows; ahead = c.self.inside.ahead; behind = c.self.inside.behind; next = c.self.inside.next } in
     let l = live_slot b c.args.other (rw (← c.self.view_is) at c.requires.other) in
     omega (arith, l, c.find-to.ensures, c.self.invariant.behind_numbers)
 
 pub invariant_of-self : goal.invariant_of-self
 unfolding ahead_of behind_of
 invariant_of-self c =
-    let b : Book = record { owned = c.self.inside.owners.entries; free = spare c.self.inside.owners; slots = c.self.inside.slots; rows = c.self.inside.rows; ahead = c.self.inside.ahead; behind = c.self.inside.behind; next = c.self.inside.next } in
+    let b : Book = record { owned = c.self.inside.owners.pages; free = c.self.inside.owners.free; slots = c.self.inside.slots; rows = c.self.inside.rows; ahead = c.self.inside.ahead; behind = c.self.inside.behind; next = c.self.inside.next } in
     let lu = rw (← c.self.view_is) at c.requires.region in
     let lt = rw (← c.self.view_is) at c.requires.other in
     let ea = c.remove.ensures ∙ ap (λ k. with_list b.ahead k (without_id c.args.other (list_at b.ahead k))) c.find-slot.ensures in
@@ -32,7 +31,7 @@ invariant_of-self c =
 pub returns-clause-pair : goal.returns-clause-pair
 unfolding ahead_of behind_of
 returns-clause-pair c =
-    let b : Book = record { owned = c.self.inside.owners.entries; free = spare c.self.inside.owners; slots = c.self.inside.slots; rows = c.self.inside.rows; ahead = c.self.inside.ahead; behind = c.self.inside.behind; next = c.self.inside.next } in
+    let b : Book = record { owned = c.self.inside.owners.pages; free = c.self.inside.owners.free; slots = c.self.inside.slots; rows = c.self.inside.rows; ahead = c.self.inside.ahead; behind = c.self.inside.behind; next = c.self.inside.next } in
     let lu = rw (← c.self.view_is) at c.requires.region in
     let lt = rw (← c.self.view_is) at c.requires.other in
     let ea = c.remove.ensures ∙ ap (λ k. with_list b.ahead k (without_id c.args.other (list_at b.ahead k))) c.find-slot.ensures in
@@ -44,7 +43,7 @@ returns-clause-pair c =
 pub returns-clause-ahead : goal.returns-clause-ahead
 unfolding ahead_of waits_of
 returns-clause-ahead c =
-    let b : Book = record { owned = c.self.inside.owners.entries; free = spare c.self.inside.owners; slots = c.self.inside.slots; rows = c.self.inside.rows; ahead = c.self.inside.ahead; behind = c.self.inside.behind; next = c.self.inside.next } in
+    let b : Book = record { owned = c.self.inside.owners.pages; free = c.self.inside.owners.free; slots = c.self.inside.slots; rows = c.self.inside.rows; ahead = c.self.inside.ahead; behind = c.self.inside.behind; next = c.self.inside.next } in
     let lu = live_slot b c.args.id (rw (← c.self.view_is) at c.requires.region) in
     let ea = c.remove.ensures ∙ ap (λ k. with_list b.ahead k (without_id c.args.other (list_at b.ahead k))) c.find-slot.ensures in
     let few = total_with b.ahead (slot_of b.slots c.args.id) (without_id c.args.other (ahead_of b c.args.id)) (omega (arith, lu, c.self.invariant.ahead_numbers)) in
@@ -54,7 +53,7 @@ returns-clause-ahead c =
 pub returns-clause-behind : goal.returns-clause-behind
 unfolding behind_of
 returns-clause-behind c =
-    let b : Book = record { owned = c.self.inside.owners.entries; free = spare c.self.inside.owners; slots = c.self.inside.slots; rows = c.self.inside.rows; ahead = c.self.inside.ahead; behind = c.self.inside.behind; next = c.self.inside.next } in
+    let b : Book = record { owned = c.self.inside.owners.pages; free = c.self.inside.owners.free; slots = c.self.inside.slots; rows = c.self.inside.rows; ahead = c.self.inside.ahead; behind = c.self.inside.behind; next = c.self.inside.next } in
     let lt = live_slot b c.args.other (rw (← c.self.view_is) at c.requires.other) in
     let eb = c.remove-2.ensures ∙ ap (λ k. with_list b.behind k (without_id c.args.id (list_at b.behind k))) c.find-to.ensures in
     let few = total_with b.behind (slot_of b.slots c.args.other) (without_id c.args.id (behind_of b c.args.other)) (omega (arith, lt, c.self.invariant.behind_numbers)) in
@@ -63,6 +62,6 @@ returns-clause-behind c =
 
 pub remove-requires : goal.remove-requires
 remove-requires c =
-    let b : Book = record { owned = c.self.inside.owners.entries; free = spare c.self.inside.owners; slots = c.self.inside.slots; rows = c.self.inside.rows; ahead = c.self.inside.ahead; behind = c.self.inside.behind; next = c.self.inside.next } in
+    let b : Book = record { owned = c.self.inside.owners.pages; free = c.self.inside.owners.free; slots = c.self.inside.slots; rows = c.self.inside.rows; ahead = c.self.inside.ahead; behind = c.self.inside.behind; next = c.self.inside.next } in
     let l = live_slot b c.args.id (rw (← c.self.view_is) at c.requires.region) in
     omega (arith, l, c.find-slot.ensures, c.self.invariant.ahead_numbers)

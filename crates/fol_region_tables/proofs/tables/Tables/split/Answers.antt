@@ -1,9 +1,9 @@
 use Rattle.std.proofs.Common.{refl, arith}
-use Rattle.std.specs.HashMap.{spare}
 use Rattle.fol_region_tables.specs.Book.{Book, IsBook, owner_of}
 use Rattle.fol_region_tables.proofs.PartingSteps.{but_from, next_unused}
 use Rattle.fol_region_tables.proofs.PartedBooks.{slot_listed, gone_book, gone_dead, gone_pairs, gone_states}
 use Rattle.fol_region_tables.proofs.SplitSteps.{splitting_none, splitting_more, still_owned, part_fits, slots_for_part, split_book, split_is}
+use Rattle.fol_region_tables.proofs.NewOwners.{none_new}
 use Rattle.fol_region_tables.proofs.tables.Tables.split.Goals as goal
 
 pub clear-requires : goal.clear-requires
@@ -18,9 +18,9 @@ loop-i-init c =
     let first = rw (← c.self.view_is) at c.requires.first in
     let last = rw (← c.self.view_is) at c.requires.last in
     let parts = rw (← c.self.view_is) at c.requires.parts in
-    let b : Book = record { owned = c.self.inside.owners.entries; free = spare c.self.inside.owners; slots = c.self.inside.slots; rows = c.self.inside.rows; ahead = c.self.inside.ahead; behind = c.self.inside.behind; next = c.self.inside.next } in
-    let n : Book = record { owned = c.self.inside.owners.entries; free = spare c.self.inside.owners; slots = c.self.inside.slots; rows = c.clear.new.self; ahead = c.self.inside.ahead; behind = c.self.inside.behind; next = c.self.inside.next } in
-    let d : Book = record { owned = c.self.inside.owners.entries; free = spare c.self.inside.owners; slots = c.remove.new.self; rows = c.clear.new.self; ahead = c.self.inside.ahead; behind = c.self.inside.behind; next = c.self.inside.next } in
+    let b : Book = record { owned = c.self.inside.owners.pages; free = c.self.inside.owners.free; slots = c.self.inside.slots; rows = c.self.inside.rows; ahead = c.self.inside.ahead; behind = c.self.inside.behind; next = c.self.inside.next } in
+    let n : Book = record { owned = c.self.inside.owners.pages; free = c.self.inside.owners.free; slots = c.self.inside.slots; rows = c.clear.new.self; ahead = c.self.inside.ahead; behind = c.self.inside.behind; next = c.self.inside.next } in
+    let d : Book = record { owned = c.self.inside.owners.pages; free = c.self.inside.owners.free; slots = c.remove.new.self; rows = c.clear.new.self; ahead = c.self.inside.ahead; behind = c.self.inside.behind; next = c.self.inside.next } in
     let rows = rw c.find-slot.ensures at c.clear.ensures in
     let but = but_from b c.args.id (c.self.invariant.given c.args.id live).0 c.self.invariant in
     rw (← c.self.view_is)
@@ -30,15 +30,15 @@ loop-i-init c =
     (gone_states b d c.args.id c.remove.ensures.states)
     (gone_pairs b n d c.args.id but live first last (λ s. refl) refl rows refl refl refl (λ s. refl) c.remove.ensures.slots c.remove.ensures.room refl refl refl refl)
     (gone_dead b n d c.args.id but live first last (λ s. refl) refl rows refl refl refl (λ s. refl) c.remove.ensures.slots c.remove.ensures.room refl refl refl refl)
-    refl (record { free = omega arith; ahead = omega arith; behind = omega arith; ahead_room = refl; behind_room = refl }) refl)
+    refl (record { free = omega arith; ahead = omega arith; behind = omega arith; ahead_room = refl; behind_room = refl }))
 
-pub change_all-requires-clause-owned : goal.change_all-requires-clause-owned
+pub give_all-requires-clause-room : goal.give_all-requires-clause-room
 unfolding owner_of
-change_all-requires-clause-owned c = λ q e.
+give_all-requires-clause-room c = none_new _ _ _ (λ q e.
     let h : IsBook c.args.self.now = rw c.self.view_is at c.self.invariant in
     let in_part = rw c.part-part.ensures at e in
     let own = still_owned c.args.self.now c.args.id h c.requires.region c.args.parts.now c.requires.parts _ c.loop-i.i c.loop-i.invariant (omega arith) q in_part in
-    omega (arith, own, (h.given c.args.id c.requires.region).0)
+    omega (arith, own, (h.given c.args.id c.requires.region).0))
 
 pub insert-slot-requires-clause-none : goal.insert-slot-requires-clause-none
 insert-slot-requires-clause-none c = next_unused _ c.args.id c.loop-i.invariant.but
@@ -58,10 +58,14 @@ pub loop-i-preserved : goal.loop-i-preserved
 unfolding owner_of
 loop-i-preserved c =
     let h : IsBook c.args.self.now = rw c.self.view_is at c.self.invariant in
-    let entry = rw c.part-part.ensures at c.change_all.ensures.entry in
+    let entry = rw c.part-part.ensures at c.give_all.ensures.owner in
     let rows = rw c.part-part.ensures at c.put.ensures in
+    let room = c.give_all.ensures.room 0 (none_new _ _ _ (λ q e.
+    let in_part = rw c.part-part.ensures at e in
+    let own = still_owned c.args.self.now c.args.id h c.requires.region c.args.parts.now c.requires.parts _ c.loop-i.i c.loop-i.invariant (omega arith) q in_part in
+    omega (arith, own, (h.given c.args.id c.requires.region).0))) in
     splitting_more c.args.self.now c.args.id h c.requires.region c.args.parts.now c.requires.parts c.loop-i.i c.insert-slot.result (omega arith) _ _ c.loop-i.invariant
-    entry c.insert-slot.ensures.slots c.insert-slot.ensures.states c.insert-slot.ensures.room c.insert-slot.ensures.within c.insert-slot.ensures.fresh rows refl refl refl c.change_all.ensures.room
+    entry c.insert-slot.ensures.slots c.insert-slot.ensures.states c.insert-slot.ensures.room c.insert-slot.ensures.within c.insert-slot.ensures.fresh rows refl refl refl (omega (arith, room))
 
 pub invariant_of-self : goal.invariant_of-self
 invariant_of-self c =

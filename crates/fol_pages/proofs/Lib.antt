@@ -1,0 +1,5 @@
+pub mod Quotients
+pub mod PagePlaces
+pub mod PageRuns
+pub mod AbsentPages
+pub mod LyingIn

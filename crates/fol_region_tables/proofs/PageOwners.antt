@@ -1,0 +1,187 @@
+-- The regions of sections in pages, and what a page's change changes.
+use Rattle.std.proofs.Common.{◌≡◌, ℕ, zero, suc, ◌<◌, refl, sym, ◌∙◌, ap, arith, Bool, true, false, cond, ◌||◌, inl, inr, List, [], ◌∷◌, length, replicate}
+use Rattle.std.specs.Prelude.{ℤ, nat_eq, Option, Some, None, is_some, slice_index_or}
+use Rattle.std.specs.Cmp.{both_ways}
+use Rattle.std.specs.List.{list_all, list_any}
+use Rattle.std.proofs.lemmas.Bool.{and_parts, cases_Bool, eq-eqb, eqb-true, true≢false}
+use Rattle.fol_model.specs.declared.places.SectionPos.{SectionPos}
+use Rattle.fol_model.specs.Geometry.{is_among, same_section}
+use Rattle.fol_laws.proofs.SamePlaces.{same_section-true, same_section-self}
+use Rattle.fol_pages.specs.Pages.{has_page, is_same, page_at, page_of, place_of}
+use Rattle.fol_pages.proofs.PagePlaces.{at_place, place_tells, same_place, same_self}
+use Rattle.fol_region_tables.specs.Owners.{AllOwned, AreAt, HasOwner, IsAt, owner_in, owner_on}
+use Rattle.fol_region_tables.specs.declared.pages.OwnerPage.{OwnerPage}
+
+-- in one page the place tells the section
+pub same_at : (x z : ℤ) (s q : SectionPos) → IsAt x z s → IsAt x z q → nat_eq (place_of s) (place_of q) ≡ same_section q s
+same_at x z s q a b = both_ways _ _
+    (λ h. let k = place_tells q s (b.0 ∙ sym a.0) (b.1 ∙ sym a.1) (eqb-true (place_of s) (place_of q) h) in ap (same_section q) (sym k) ∙ same_section-self q)
+    (λ h. let k = same_section-true q s h in eq-eqb (place_of s) (place_of q) (ap place_of (sym k)))
+
+pub among_places : (x z : ℤ) (sections : List SectionPos) → AreAt x z sections → (q : SectionPos) → IsAt x z q → list_any (λ s. nat_eq (place_of s) (place_of q)) sections ≡ is_among sections q
+among_places x z [] at q on = refl
+among_places x z (s ∷ sections) at q on = λ i. same_at x z s q (at s (or_first s sections)) on i || among_places x z sections (λ r h. at r (or_rest r s sections h)) q on i
+  where
+    or_first : (s : SectionPos) (sections : List SectionPos) → is_among (s ∷ sections) s ≡ true
+    or_first s sections = let e = same_section-self s in rw e refl
+
+    or_rest : (r s : SectionPos) (sections : List SectionPos) → is_among sections r ≡ true → is_among (s ∷ sections) r ≡ true
+    or_rest r s sections h = elim (cases_Bool (same_section r s)) [ inl e ↦ rw e refl | inr e ↦ rw e h ]
+
+-- a section of another page is none of them
+pub not_among : (x z : ℤ) (sections : List SectionPos) → AreAt x z sections → (q : SectionPos) → is_same x z (page_of q.x) (page_of q.z) ≡ false → is_among sections q ≡ false
+not_among x z sections at q off = elim (cases_Bool (is_among sections q)) [
+  | inr e ↦ e
+  | inl e ↦ let k = at q e in absurd (true≢false (sym (same_self (page_of q.x) (page_of q.z)) ∙ (λ i. is_same (k.0 i) (k.1 i) (page_of q.x) (page_of q.z)) ∙ off))
+]
+
+-- ---- one page changed, or came
+module _ (before after : List ((ℤ × ℤ) × OwnerPage)) (x z : ℤ) (p : OwnerPage)
+    (step : (a b : ℤ) → page_at after a b ≡ cond (is_same x z a b) (Some p) (page_at before a b)) where
+  pub page-written : page_at after x z ≡ Some p
+  page-written = step x z ∙ ap (λ b. cond b (Some p) (page_at before x z)) (same_self x z)
+
+  pub owner-written : (q : SectionPos) → IsAt x z q → owner_in after q ≡ owner_on (Some p) q
+  unfolding owner_in
+  owner-written q on =
+      let e : is_same x z (page_of q.x) (page_of q.z) ≡ true = (λ i. is_same (sym on.0 i) (sym on.1 i) (page_of q.x) (page_of q.z)) ∙ same_self (page_of q.x) (page_of q.z) in
+      ap (λ o. owner_on o q) (step (page_of q.x) (page_of q.z) ∙ ap (λ b. cond b (Some p) (page_at before (page_of q.x) (page_of q.z))) e)
+
+  after_off : (q : SectionPos) → is_same x z (page_of q.x) (page_of q.z) ≡ false → owner_in after q ≡ owner_in before q
+  unfolding owner_in
+  after_off q e = ap (λ o. owner_on o q) (step (page_of q.x) (page_of q.z) ∙ ap (λ b. cond b (Some p) (page_at before (page_of q.x) (page_of q.z))) e)
+
+  before_at : (q : SectionPos) → IsAt x z q → owner_in before q ≡ owner_on (page_at before x z) q
+  unfolding owner_in
+  before_at q on = λ i. owner_on (page_at before (on.0 i) (on.1 i)) q
+
+  -- a region written at the places of some sections of the page
+  pub owners-written : (sections : List SectionPos) (id : ℕ) → AreAt x z sections
+      → ((q : SectionPos) → slice_index_or p.owners (place_of q) 0 ≡ cond (list_any (λ s. nat_eq (place_of s) (place_of q)) sections) id (owner_on (page_at before x z) q))
+      → (q : SectionPos) → owner_in after q ≡ cond (is_among sections q) id (owner_in before q)
+  owners-written sections id at written q = elim (cases_Bool (is_same x z (page_of q.x) (page_of q.z))) [
+    | inl e ↦
+        let k = same_place x z (page_of q.x) (page_of q.z) e in
+        let on : IsAt x z q = (sym k.0, sym k.1) in
+        owner-written q on ∙ written q ∙ (λ i. cond (among_places x z sections at q on i) id (sym (before_at q on) i))
+    | inr e ↦ let none = not_among x z sections at q e in rw none (after_off q e)
+  ]
+
+  has-written : (was is : Bool) (o : Option OwnerPage) → is_some o ≡ was → is_some (cond is (Some p) o) ≡ (is || was)
+  has-written was true o e = refl
+  has-written was false o e = e
+
+  pub pages-more : (a b : ℤ) → has_page after a b ≡ (is_same x z a b || has_page before a b)
+  unfolding has_page
+  pages-more a b = ap is_some (step a b) ∙ has-written (is_some (page_at before a b)) (is_same x z a b) (page_at before a b) refl
+
+  -- and the same ones, where this page was there
+  pub pages-same : has_page before x z ≡ true → (a b : ℤ) → has_page after a b ≡ has_page before a b
+  pages-same h a b = pages-more a b ∙ elim (cases_Bool (is_same x z a b)) [
+    | inr e ↦ rw e refl
+    | inl e ↦
+        let k = same_place x z a b e in
+        let there : has_page before a b ≡ true = (λ i. has_page before (sym k.0 i) (sym k.1 i)) ∙ h in
+        rw (e, there) refl
+  ]
+
+-- ---- which pages have an owner
+module _ (before after : List ((ℤ × ℤ) × OwnerPage)) (x z : ℤ) (sections : List SectionPos) (id : ℕ) (at : AreAt x z sections)
+    (owner : (q : SectionPos) → owner_in after q ≡ cond (is_among sections q) id (owner_in before q)) where
+  -- a page that is not this one keeps its owner
+  other_owned : (a b : ℤ) → is_same x z a b ≡ false → HasOwner before a b → HasOwner after a b
+  other_owned a b e w =
+      let off : is_same x z (page_of (w.0).x) (page_of (w.0).z) ≡ false = (λ i. is_same x z ((w.1).0 i) ((w.1).1 i)) ∙ e in
+      let none = not_among x z sections at w.0 off in
+      (w.0, w.1, omega (arith, owner w.0, ap (λ t. cond t id (owner_in before w.0)) none, w.2))
+
+  pub owned-given : (s : SectionPos) → is_among sections s ≡ true → 0 < id → ((a b : ℤ) → has_page after a b ≡ (is_same x z a b || has_page before a b)) → AllOwned before → AllOwned after
+  owned-given s member some pages owned a b h = elim (cases_Bool (is_same x z a b)) [
+    | inl e ↦
+        let k = same_place x z a b e in
+        let on = at s member in
+        (s, (on.0 ∙ k.0, on.1 ∙ k.1), omega (arith, owner s, ap (λ t. cond t id (owner_in before s)) member, some))
+    | inr e ↦ other_owned a b e (owned a b (sym (pages a b ∙ ap (λ t. t || has_page before a b) e) ∙ h))
+  ]
+
+  pub owned-taken : ((a b : ℤ) → has_page after a b ≡ true → has_page before a b ≡ true) → (has_page after x z ≡ true → HasOwner after x z) → AllOwned before → AllOwned after
+  owned-taken pages own owned a b h = elim (cases_Bool (is_same x z a b)) [
+    | inl e ↦
+        let k = same_place x z a b e in
+        let w = own ((λ i. has_page after (k.0 i) (k.1 i)) ∙ h) in
+        (w.0, ((w.1).0 ∙ k.0, (w.1).1 ∙ k.1), w.2)
+    | inr e ↦ other_owned a b e (owned a b (pages a b h))
+  ]
+
+-- ---- no page, or one in which no section has a region
+-- sections of a page that is not there have no region to be taken
+pub none_taken : (pages : List ((ℤ × ℤ) × OwnerPage)) (x z : ℤ) (sections : List SectionPos) → AreAt x z sections → page_at pages x z ≡ None → (q : SectionPos) → owner_in pages q ≡ cond (is_among sections q) 0 (owner_in pages q)
+unfolding owner_in
+none_taken pages x z sections at none q = elim (cases_Bool (is_among sections q)) [
+  | inl e ↦ let on = at q e in rw e ((λ i. owner_on (page_at pages (on.0 i) (on.1 i)) q) ∙ ap (λ o. owner_on o q) none)
+  | inr e ↦ rw e refl
+]
+
+pub in_blank : (n k : ℕ) → slice_index_or (replicate {A = ℕ} n 0) k 0 ≡ 0
+in_blank zero k = refl
+in_blank (suc n) zero = refl
+in_blank (suc n) (suc k) = in_blank n k
+
+pub nobody_in : (ids : List ℕ) → list_all (λ id. nat_eq id 0) ids ≡ true → (k : ℕ) → slice_index_or ids k 0 ≡ 0
+nobody_in [] h k = refl
+nobody_in (id ∷ ids) h zero = eqb-true id 0 (and_parts (nat_eq id 0) (list_all (λ id. nat_eq id 0) ids) h).0
+nobody_in (id ∷ ids) h (suc k) = nobody_in ids (and_parts (nat_eq id 0) (list_all (λ id. nat_eq id 0) ids) h).1 k
+
+some_in : (ids : List ℕ) → list_all (λ id. nat_eq id 0) ids ≡ false → (k : ℕ) × (k < length ids) × (0 < slice_index_or ids k 0)
+some_in [] h = absurd (true≢false h)
+some_in (zero ∷ ids) h = let r = some_in ids h in (suc r.0, omega (arith, r.1), r.2)
+some_in (suc id ∷ ids) h = (0, omega arith, omega arith)
+
+pub owned-busy : (pages : List ((ℤ × ℤ) × OwnerPage)) (x z : ℤ) (p : OwnerPage) → page_at pages x z ≡ Some p → length p.owners ≡ 64 → list_all (λ id. nat_eq id 0) p.owners ≡ false → HasOwner pages x z
+unfolding owner_in
+owned-busy pages x z p is n busy =
+    let k = some_in p.owners busy in
+    let w = at_place x z k.0 (omega (arith, k.1, n)) in
+    let found : page_at pages (page_of (w.0).x) (page_of (w.0).z) ≡ Some p = (λ i. page_at pages (w.1 i) (w.2 i)) ∙ is in
+    (w.0, (w.1, w.2), omega (arith, ap (λ o. owner_on o w.0) found, ap (λ m. slice_index_or p.owners m 0) w.3, k.2))
+
+-- ---- a page that left, in which no section had a region
+module _ (before after : List ((ℤ × ℤ) × OwnerPage)) (x z : ℤ) (step : (a b : ℤ) → page_at after a b ≡ cond (is_same x z a b) None (page_at before a b)) where
+  pub owners-left : ((q : SectionPos) → IsAt x z q → owner_in before q ≡ 0) → (q : SectionPos) → owner_in after q ≡ owner_in before q
+  unfolding owner_in
+  owners-left nobody q = elim (cases_Bool (is_same x z (page_of q.x) (page_of q.z))) [
+    | inl e ↦
+        let k = same_place x z (page_of q.x) (page_of q.z) e in
+        ap (λ o. owner_on o q) (step (page_of q.x) (page_of q.z) ∙ ap (λ b. cond b None (page_at before (page_of q.x) (page_of q.z))) e) ∙ sym (nobody q (sym k.0, sym k.1))
+    | inr e ↦ ap (λ o. owner_on o q) (step (page_of q.x) (page_of q.z) ∙ ap (λ b. cond b None (page_at before (page_of q.x) (page_of q.z))) e)
+  ]
+
+  pub pages-less : (a b : ℤ) → has_page after a b ≡ true → has_page before a b ≡ true
+  unfolding has_page
+  pages-less a b h = less (is_same x z a b) (page_at before a b) (sym (ap is_some (step a b)) ∙ h)
+    where
+      less : (e : Bool) (o : Option OwnerPage) → is_some (cond e None o) ≡ true → is_some o ≡ true
+      less true o h = absurd (true≢false (sym h))
+      less false o h = h
+
+  pub page-gone : has_page after x z ≡ false
+  unfolding has_page
+  page-gone = ap is_some (step x z) ∙ ap (λ b. is_some (cond b None (page_at before x z))) (same_self x z)
+
+-- ---- no pages, and the same ones
+pub nobody_owns : (pages : List ((ℤ × ℤ) × OwnerPage)) → pages ≡ [] → (s : SectionPos) → owner_in pages s ≡ 0
+unfolding owner_in page_at
+nobody_owns pages e s = ap (λ ps. owner_in ps s) e
+
+pub none_owned : (pages : List ((ℤ × ℤ) × OwnerPage)) → pages ≡ [] → AllOwned pages
+unfolding has_page page_at
+none_owned pages e x z h = absurd (true≢false (sym h ∙ ap (λ ps. has_page ps x z) e))
+
+module _ (before after : List ((ℤ × ℤ) × OwnerPage)) (same : (a b : ℤ) → page_at after a b ≡ page_at before a b) where
+  pub same_owners : (q : SectionPos) → owner_in after q ≡ owner_in before q
+  unfolding owner_in
+  same_owners q = ap (λ o. owner_on o q) (same (page_of q.x) (page_of q.z))
+
+  pub same_owned : AllOwned before → AllOwned after
+  unfolding has_page
+  same_owned owned x z h = let w = owned x z (sym (ap is_some (same x z)) ∙ h) in (w.0, w.1, omega (arith, same_owners w.0, w.2))

@@ -1,0 +1,55 @@
+use Rattle.std.proofs.Common.{sym, ◌∙◌, ap, cond}
+use Rattle.std.specs.Prelude.{nat_eq, is_some}
+use Rattle.std.specs.List.{list_any}
+use Rattle.std.specs.Option.{option_copied_mut}
+use Rattle.std.proofs.lemmas.Bool.{true≢false}
+use Rattle.fol_pages.specs.Pages.{has_page, is_same, page_at, place_of}
+use Rattle.fol_region_tables.specs.Owners.{owner_on}
+use Rattle.fol_region_tables.proofs.PageOwners.{nobody_in, none_taken, owned-busy, owner-written, owners-written, page-written, pages-same}
+use Rattle.fol_region_tables.proofs.pages.clear_stretch.Goals as goal
+
+pub returns-in-Some-clause-owner : goal.returns-in-Some-clause-owner
+unfolding page_at is_same
+returns-in-Some-clause-owner c =
+    let was = ap option_copied_mut (sym c.in-Some.is) ∙ c.get_mut.ensures.value in
+    let w = c.get_mut.follows.holds c.write_on.new.page in
+    let updates = w.3 (ap is_some (sym was)) in
+    owners-written c.args.pages.now.entries _ c.args.key.0 c.args.key.1 c.write_on.new.page (λ a b. updates.0 (a, b)) c.args.sections.now 0 c.requires
+    (λ q. c.write_on.ensures (place_of q) ∙ ap (λ o. cond (list_any (λ s. nat_eq (place_of s) (place_of q)) c.args.sections.now) 0 (owner_on o q)) was)
+
+pub returns-in-Some-clause-pages : goal.returns-in-Some-clause-pages
+unfolding page_at is_same has_page
+returns-in-Some-clause-pages c =
+    let was = ap option_copied_mut (sym c.in-Some.is) ∙ c.get_mut.ensures.value in
+    let w = c.get_mut.follows.holds c.write_on.new.page in
+    let updates = w.3 (ap is_some (sym was)) in
+    pages-same c.args.pages.now.entries _ c.args.key.0 c.args.key.1 c.write_on.new.page (λ a b. updates.0 (a, b)) (ap is_some (sym was))
+
+pub returns-in-Some-clause-empty : goal.returns-in-Some-clause-empty
+unfolding page_at is_same
+returns-in-Some-clause-empty c = λ h q on.
+    let was = ap option_copied_mut (sym c.in-Some.is) ∙ c.get_mut.ensures.value in
+    let w = c.get_mut.follows.holds c.write_on.new.page in
+    let updates = w.3 (ap is_some (sym was)) in
+    owner-written c.args.pages.now.entries _ c.args.key.0 c.args.key.1 c.write_on.new.page (λ a b. updates.0 (a, b)) q on ∙ nobody_in c.write_on.new.page.owners (sym c.is_empty.ensures.value ∙ h) (place_of q)
+
+pub returns-in-Some-clause-busy : goal.returns-in-Some-clause-busy
+unfolding page_at is_same
+returns-in-Some-clause-busy c = λ h there.
+    let was = ap option_copied_mut (sym c.in-Some.is) ∙ c.get_mut.ensures.value in
+    let w = c.get_mut.follows.holds c.write_on.new.page in
+    let updates = w.3 (ap is_some (sym was)) in
+    owned-busy _ c.args.key.0 c.args.key.1 c.write_on.new.page (page-written c.args.pages.now.entries _ c.args.key.0 c.args.key.1 c.write_on.new.page (λ a b. updates.0 (a, b))) c.is_empty.ensures.whole (sym c.is_empty.ensures.value ∙ h)
+
+pub returns-in-None-clause-owner : goal.returns-in-None-clause-owner
+unfolding page_at
+returns-in-None-clause-owner c =
+    let none = ap option_copied_mut (sym c.in-None.is) ∙ c.get_mut.ensures.value in
+    rw c.get_mut.follows.holds-at-none (none_taken c.args.pages.now.entries c.args.key.0 c.args.key.1 c.args.sections.now c.requires (sym none))
+
+pub returns-in-None-clause-busy : goal.returns-in-None-clause-busy
+unfolding page_at has_page
+returns-in-None-clause-busy c = λ h there.
+    let none = ap option_copied_mut (sym c.in-None.is) ∙ c.get_mut.ensures.value in
+    let same = rw c.get_mut.follows.holds-at-none at there in
+    absurd (true≢false (sym same ∙ ap is_some (sym none)))
