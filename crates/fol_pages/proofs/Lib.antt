@@ -3,3 +3,4 @@ pub mod PagePlaces
 pub mod PageRuns
 pub mod AbsentPages
 pub mod LyingIn
+pub mod NinePages

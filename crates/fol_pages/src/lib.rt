@@ -7,5 +7,5 @@
 mod places;
 mod runs;
 
-pub use places::{page_of, place_of};
+pub use places::{NEAR_PAGES, page_of, place_of};
 pub use runs::{run_len, stretch_len};

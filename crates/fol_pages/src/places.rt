@@ -5,6 +5,9 @@ ghost use Rattle.fol_pages.specs.Pages.{page_of as page, place_of as place};
 
 use fol_model::SectionPos;
 
+/// In how many pages the sections at most 8 away from one lie, at most.
+pub const NEAR_PAGES: usize = 9;
+
 /// The column and the row of a section's page.
 pub fn page_of(s: SectionPos) -> (i32, i32)
     ensures { result ≡ (page s.x, page s.z) }

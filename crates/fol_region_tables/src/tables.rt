@@ -1,6 +1,7 @@
 //! The tables of the regions, and their steps.
 
-ghost use Rattle.std.specs.Prelude.{◌≡◌, ◌≢◌, ℕ, ◌+◌, ◌<◌, ◌≤◌, ◌^◌, true, false, IsTrue, [], length, filter, nat_eq, nat_lt, IfOk, OnOk};
+ghost use Rattle.std.specs.Prelude.{◌≡◌, ◌≢◌, ℕ, ◌+◌, ◌<◌, ◌≤◌, ◌^◌, true, false, IsTrue, [], length, filter, nat_abs, nat_eq, nat_lt, pos, ◌+ℤ◌, slice_index_or, IfOk, OnOk};
+ghost use Rattle.std.specs.Int.{int_rem_euclid};
 ghost use Rattle.fol_lists.specs.Numbered.{total};
 ghost use Rattle.fol_model.specs.declared.places.SectionPos.{SectionPos};
 ghost use Rattle.fol_model.specs.declared.regions.State.TheVariants.{Ready};
@@ -102,6 +103,16 @@ impl Tables {
         ensures { result ≡ owner_of self.now s }
     {
         self.owners.owner(s)
+    }
+
+    /// The regions of so many sections side by side in one page, from one on; fewer where the others have none.
+    pub fn run(&self, s: SectionPos, len: u32) -> &[u64]
+        requires { nat_abs (int_rem_euclid s.x (pos 8)) + len ≤ 8 }
+        ensures owners { (i : ℕ) → i < len → slice_index_or result.now i 0
+            ≡ owner_of self.now (record { x = s.x +ℤ pos i; z = s.z }) }
+        ensures few { length result.now ≤ len }
+    {
+        self.owners.run(s, len)
     }
 
     /// The state of a region; Dead where it has no slot.

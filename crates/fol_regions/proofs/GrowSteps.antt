@@ -141,7 +141,7 @@ module _ (b : Book) (is : IsBook b) (ids : List ℕ) (live : (r : ℕ) → is_id
         ap (λ (f : ℕ → Bool). f r) (v.live ∙ g.live) ∙ ap (λ x. not x && is_live b r) (ticks r h) ∙ lives r h,
       );
       next = v.next ∙ g.next ∙ sym (ap (λ x. cond {A = ℕ} x (b.next + 1) b.next) (ne_eqb t b.next (λ e. absurd (omega (arith, e, live_next b is t lt)))));
-      free = omega (arith, v.free, g.rooms.free);
+      free = λ n lie. omega (arith, v.free n lie, g.rooms.free);
       ahead = omega (arith, ap total ahead, g.rooms.ahead);
       behind = omega (arith, ap total behind, g.rooms.behind);
       ahead_room = ap (λ w. w.room) ahead ∙ g.rooms.ahead_room;

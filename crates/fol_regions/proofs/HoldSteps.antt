@@ -196,12 +196,6 @@ module _ (s : sections.Table) (b : Book) (presence : IsPresence s b) (c : ChunkP
     unfolding missing_count
     filled_length xs e = ap length e ∙ length-filter (is_missing s c) all_sections ∙ wanted_same
 
-    pub wanted_few : wanted (grid_of s b) c ≤ 289
-    unfolding wanted grid_of
-    wanted_few =
-        let r = near_rows (section_of s.grid c) s.grid.create (λ q. not (nat_lt 0 (owner_of b q))) (λ q h. around_in_limits s.grid c q ok limits (leb-true _ _ h)) in
-        omega (arith, r.1, count_by-le-length (λ q. not (nat_lt 0 (owner_of b q))) (square (section_of s.grid c) s.grid.create), length-square (section_of s.grid c) s.grid.create ok.create_high)
-
     none_wanted : nat_eq (wanted (grid_of s b) c) 0 ≡ true → (q : SectionPos) → is_wanted (grid_of s b) c q ≡ false
     unfolding wanted
     none_wanted z q = elim (cases_Bool (is_wanted (grid_of s b) c q)) [

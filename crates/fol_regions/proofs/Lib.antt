@@ -6,6 +6,7 @@ pub mod SettleSteps
 pub mod ChangeLists
 pub mod JoinAll
 pub mod NearRegions
+pub mod NearRuns
 pub mod ReleaseFacts
 pub mod AddSteps
 pub mod GrowSteps

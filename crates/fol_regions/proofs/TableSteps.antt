@@ -63,7 +63,7 @@ module _ (grid : Grid) (s : sections.Table) (b : Book) (h : IsBook b) (same : s.
     rules = let e = new_state in rw e (empty_keeps grid);
     presence = λ q. let o = owner q in ap (λ f. f q) none.presence ∙ rw o refl;
     spare = omega arith;
-    room = record { sections = omega arith; ahead = omega (arith, h.ahead_fits); behind = omega (arith, h.behind_fits) };
+    room = record { pages = omega arith; ahead = omega (arith, h.ahead_fits); behind = omega (arith, h.behind_fits) };
     near = n;
     made = m;
   }
@@ -114,7 +114,7 @@ module _ (grid : Grid) (s : sections.Table) (b : Book) (events near made : ℕ) 
     unfolding grid_of
     alike_bounds most = bounds_same (grid_of s b) (grid_of e d) most same.grid alike.owner same.holds
 
-    pub alike_kept : events ≤ more → more ≤ e.spare → HasRoomFor d (289 * more) (625 * more) → IsKept grid e d more near made
+    pub alike_kept : events ≤ more → more ≤ e.spare → HasRoomFor d (9 * more) (625 * more) → IsKept grid e d more near made
     alike_kept l m r = record {
       same = k.same ∙ sym same.grid;
       numbers = let g = same.grid in rw g k.numbers;
@@ -143,7 +143,7 @@ module _ (grid : Grid) (s : sections.Table) (b : Book) (events near made : ℕ) 
       rules = let g = begun_is in rw g (begin_keeps (grid_of s b) id k.rules at_id);
       presence = λ q. k.presence q ∙ ap (λ f. nat_lt 0 (f q)) (sym sets.owner);
       spare = k.spare;
-      room = record { sections = omega (arith, k.room.sections, sets.rooms.free); ahead = omega (arith, k.room.ahead, sets.rooms.ahead, sets.rooms.ahead_room); behind = omega (arith, k.room.behind, sets.rooms.behind, sets.rooms.behind_room) };
+      room = record { pages = omega (arith, k.room.pages, sets.rooms.free); ahead = omega (arith, k.room.ahead, sets.rooms.ahead, sets.rooms.ahead_room); behind = omega (arith, k.room.behind, sets.rooms.behind, sets.rooms.behind_room) };
       near = k.near;
       made = k.made;
     }
@@ -170,7 +170,7 @@ module _ (grid : Grid) (s : sections.Table) (b : Book) (events near made : ℕ) 
       rules = let g = state in rw g (release_keeps (grid_of s b) id k.rules ok ticks);
       presence = presence;
       spare = omega (arith, k.spare, spare);
-      room = record { sections = omega (arith, k.room.sections, rooms.free); ahead = omega (arith, k.room.ahead, rooms.ahead, rooms.ahead_room); behind = omega (arith, k.room.behind, rooms.behind, rooms.behind_room) };
+      room = record { pages = omega (arith, k.room.pages, rooms.free); ahead = omega (arith, k.room.ahead, rooms.ahead, rooms.ahead_room); behind = omega (arith, k.room.behind, rooms.behind, rooms.behind_room) };
       near = k.near;
       made = k.made;
     }
@@ -202,5 +202,5 @@ pub alike_same : (b : Book) → IsAlike b b
 alike_same b = record { owner = refl; state = refl; waits = refl; live = refl; next = refl }
 
 -- the room for as many events as before
-pub room_kept : (b d : Book) (sections pairs : ℕ) → HasRoomFor b sections pairs → b.free ≤ d.free → (total d.ahead ≡ total b.ahead) × (b.ahead.room ≤ d.ahead.room) → (total d.behind ≡ total b.behind) × (b.behind.room ≤ d.behind.room) → HasRoomFor d sections pairs
-room_kept b d n m h f a e = record { sections = omega (arith, h.sections, f); ahead = omega (arith, h.ahead, a.0, a.1); behind = omega (arith, h.behind, e.0, e.1) }
+pub room_kept : (b d : Book) (pages pairs : ℕ) → HasRoomFor b pages pairs → b.free ≤ d.free → (total d.ahead ≡ total b.ahead) × (b.ahead.room ≤ d.ahead.room) → (total d.behind ≡ total b.behind) × (b.behind.room ≤ d.behind.room) → HasRoomFor d pages pairs
+room_kept b d n m h f a e = record { pages = omega (arith, h.pages, f); ahead = omega (arith, h.ahead, a.0, a.1); behind = omega (arith, h.behind, e.0, e.1) }

@@ -8,6 +8,7 @@ use Rattle.fol_model.specs.declared.grids.Grid.{Grid}
 use Rattle.fol_model.specs.declared.regions.State.TheVariants.{Dead}
 use Rattle.fol_model.specs.GridState.{GridState, is_ticking}
 use Rattle.fol_model.specs.Add.{target}
+use Rattle.fol_pages.specs.Pages.{LieIn}
 use Rattle.fol_region_tables.specs.Book.{Book, KeepsRoom, owner_of, state_of, waits_of, is_live, rows_of}
 use Rattle.fol_regions.specs.Changes.{Changes, drawn_in, into}
 use Rattle.fol_model.specs.Geometry.{is_among}
@@ -76,7 +77,7 @@ pub record Grows (old new : Book) (ids : List ℕ) (sections : List SectionPos) 
   pub live : is_live new t ≡ true
   pub others : (r : ℕ) → is_ticking (state_of old r) ≡ true → (r ≢ t) × (is_live new r ≡ true)
   pub next : new.next ≡ (if nat_eq t old.next then old.next + 1 else old.next)
-  pub free : old.free ≤ new.free + length sections
+  pub free : (n : ℕ) → LieIn (is_among sections) n → old.free ≤ new.free + n
   pub ahead : total new.ahead ≤ total old.ahead
   pub behind : total new.behind ≤ total old.behind
   pub ahead_room : new.ahead.room ≡ old.ahead.room

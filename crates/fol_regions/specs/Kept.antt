@@ -14,6 +14,6 @@ pub record IsKept (grid : Grid) (kept : sections.Table) (b : Book) (events in_ne
   pub rules : Rules (grid_of kept b)
   pub presence : IsPresence kept b
   pub spare : events ≤ kept.spare
-  pub room : HasRoomFor b (289 * events) (625 * events)
+  pub room : HasRoomFor b (9 * events) (625 * events)
   pub near : 625 ≤ in_near
   pub made : 625 ≤ in_made

@@ -14,6 +14,7 @@ ghost use Rattle.fol_model.specs.Geometry.{is_chunk, is_among};
 ghost use Rattle.fol_model.specs.GridNumbers.{IsGrid};
 ghost use Rattle.fol_model.specs.Rules.{Rules};
 ghost use Rattle.fol_model.specs.Universe.{all_sections, count_sections, numbers_below};
+ghost use Rattle.fol_pages.specs.Pages.{LieIn};
 ghost use Rattle.fol_regions.specs.Added.{IsChoice, Gathers, Grows, Waits, bare, calm_size, extended_change, gathered, is_calm, is_drawn, is_id};
 ghost use Rattle.fol_regions.specs.Answers.{add_answer};
 ghost use Rattle.fol_regions.specs.Changes.{add_change, into, nothing};
@@ -134,7 +135,7 @@ fn grow(tables: &mut Tables, near: &[u64], change: &mut Change, sections: &[Sect
     requires row { sections.now ≡ filter (is_among sections.now) all_sections }
     requires few { count_sections (λ s. nat_lt 0 (owner_of tables.old s)) + length sections.now
         ≤ MOST_SECTIONS }
-    requires room { length sections.now ≤ tables.old.free }
+    requires room { LieIn (is_among sections.now) tables.old.free }
     requires few_ids { tables.old.next < 2 ^ 63 }
     requires none { change.old ≡ nothing }
     ensures grows { Grows tables.old tables.new near.now sections.now result }
@@ -200,7 +201,7 @@ pub fn extend(
     requires few { count_sections (λ s. nat_lt 0 (owner_of tables.old s)) + length wanted.now
         ≤ MOST_SECTIONS }
     requires few_ids { tables.old.next < 2 ^ 63 }
-    requires free { length wanted.now ≤ tables.old.free }
+    requires free { 9 ≤ tables.old.free }
     requires ahead { total tables.old.ahead + 625 ≤ tables.old.ahead.room }
     requires behind { total tables.old.behind + 625 ≤ tables.old.behind.room }
     requires rooms { (625 ≤ vec_capacity near.old) × (625 ≤ vec_capacity made.old) }
@@ -210,7 +211,7 @@ pub fn extend(
     ensures waits { waits_of tables.new ≡ (extended (bare grid.now tables.old) c).waits }
     ensures next { tables.new.next ≡ (extended (bare grid.now tables.old) c).next }
     ensures change { change.new ≡ extended_change (bare grid.now tables.old) c }
-    ensures free { tables.old.free ≤ tables.new.free + length wanted.now }
+    ensures free { tables.old.free ≤ tables.new.free + 9 }
     ensures ahead { (total tables.new.ahead ≤ total tables.old.ahead + 625)
         × (tables.new.ahead.room ≡ tables.old.ahead.room) }
     ensures behind { (total tables.new.behind ≤ total tables.old.behind + 625)
@@ -251,7 +252,7 @@ pub fn hold(
     requires few { (grid_of sections.old tables.old).holds c < 2 ^ 62 }
     requires few_ids { (grid_of sections.old tables.old).next < 2 ^ 62 }
     requires spare { 1 ≤ sections.old.spare }
-    requires room { HasRoomFor tables.old 289 625 }
+    requires room { HasRoomFor tables.old 9 625 }
     requires rooms { (625 ≤ vec_capacity near.old) × (625 ≤ vec_capacity made.old) }
     ensures state { grid_of sections.new tables.new ≡ add (grid_of sections.old tables.old) c }
     ensures answer { result ≡ add_answer (grid_of sections.old tables.old) c }
@@ -259,7 +260,7 @@ pub fn hold(
     ensures presence { IsPresence sections.new tables.new }
     ensures spare { sections.old.spare ≤ sections.new.spare + 1 }
     ensures grid { sections.new.grid ≡ sections.old.grid }
-    ensures free { tables.old.free ≤ tables.new.free + 289 }
+    ensures free { tables.old.free ≤ tables.new.free + 9 }
     ensures ahead { (total tables.new.ahead ≤ total tables.old.ahead + 625)
         × (tables.new.ahead.room ≡ tables.old.ahead.room) }
     ensures behind { (total tables.new.behind ≤ total tables.old.behind + 625)

@@ -1,13 +1,16 @@
 //! The regions near a section.
 
-ghost use Rattle.std.specs.Prelude.{◌≡◌, ◌+◌, ◌<◌, ◌≤◌, ◌++◌, length, List, filter, nat_abs};
+ghost use Rattle.std.specs.Prelude.{◌≡◌, ◌+◌, ◌<◌, ◌≤◌, ◌++◌, length, List, filter, nat_abs, pos};
+ghost use Rattle.std.specs.Int.{int_rem_euclid};
 ghost use Rattle.std.specs.Vec.{vec_capacity};
 ghost use Rattle.fol_model.specs.declared.places.SectionPos.{SectionPos};
 ghost use Rattle.fol_model.specs.Universe.{numbers_below};
 ghost use Rattle.fol_region_tables.specs.Book.{owner_of};
+ghost use Rattle.fol_sections.specs.Rows.{row_of as run_of, section_at};
 ghost use Rattle.fol_regions.specs.Near.{row_of, regions_of, is_close, noted};
 
 use fol_model::{SectionPos, beside, corner};
+use fol_pages::run_len;
 use fol_region_tables::{Tables, add_id};
 use std::mem;
 
@@ -56,9 +59,35 @@ fn find_row(
     ensures few { length near.new.items ≤ length near.old.items + n }
     ensures rooms { (625 ≤ vec_capacity near.new) × (625 ≤ vec_capacity made.new) }
 {
+    let mut i = 0;
+    while i < n {
+        let s = beside(first, i, row);
+        let len = run_len(s.x, n - i);
+        find_run(tables, near, made, s, len);
+        i += len;
+    }
+}
+
+/// Adds the regions of so many sections side by side in one page, from one on. Neighbours mostly have the same one.
+fn find_run(tables: &Tables, near: &mut Vec<u64>, made: &mut Vec<u64>, s: SectionPos, len: u32)
+    requires run { nat_abs (int_rem_euclid s.x (pos 8)) + len ≤ 8 }
+    requires few { length near.old.items + len ≤ 625 }
+    requires rooms { (625 ≤ vec_capacity near.old) × (625 ≤ vec_capacity made.old) }
+    ensures near { (before : List SectionPos)
+        → near.old.items ≡ regions_of (owner_of tables.now) tables.now.next before
+        → near.new.items ≡ regions_of (owner_of tables.now) tables.now.next
+        (before ++ run_of section_at s.x s.z len) }
+    ensures few { length near.new.items ≤ length near.old.items + len }
+    ensures rooms { (625 ≤ vec_capacity near.new) × (625 ≤ vec_capacity made.new) }
+{
     tables.keeps_lists();
-    for i in 0..n {
-        note(near, made, tables.owner(beside(first, i, row)));
+    let ids = tables.run(s, len);
+    let mut last = 0;
+    for id in ids {
+        if *id != last {
+            note(near, made, *id);
+            last = *id;
+        }
     }
 }
 

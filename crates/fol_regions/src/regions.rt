@@ -22,6 +22,7 @@ use crate::dying::note_dying;
 use crate::release::Releaser;
 use crate::{AddAnswer, Begun, Change};
 use fol_model::{ChunkPos, Grid, SectionPos, State};
+use fol_pages::NEAR_PAGES;
 use fol_region_tables::Tables;
 use fol_sections::{Removed, Sections};
 use std::alloc::{AllocError, Global};
@@ -140,8 +141,7 @@ impl Regions {
     {
         self.sections.reserve(n)?;
         let events = n as usize;
-        self.tables
-            .reserve(289 * events, MOST_NEAR * events, MOST_MADE * events)?;
+        self.tables.reserve(NEAR_PAGES * events, MOST_NEAR * events, MOST_MADE * events)?;
         self.spare = n;
         Ok(())
     }

@@ -1,4 +1,4 @@
-use Rattle.std.proofs.Common.{◌+◌, sym, ◌∙◌, ap, subst}
+use Rattle.std.proofs.Common.{◌+◌, sym, ◌∙◌, ap, arith, subst}
 use Rattle.std.specs.Prelude.{filter}
 use Rattle.std.specs.Ordering.{nat_cmp}
 use Rattle.std.proofs.lemmas.List.Kept.{IsStrictlySortedBy-filter}
@@ -8,6 +8,7 @@ use Rattle.fol_laws.proofs.NumberOrder.{numbers_sorted}
 use Rattle.fol_regions.specs.Added.{Waits}
 use Rattle.fol_region_tables.specs.Book.{owner_of}
 use Rattle.fol_regions.specs.Near.{is_close}
+use Rattle.fol_pages.proofs.LyingIn.{lie_in-more}
 use Rattle.fol_regions.proofs.AddedGrid as added
 use Rattle.fol_region_tables.proofs.Chosen.{filter_like}
 use Rattle.fol_regions.proofs.add.extend.Goals as goal
@@ -71,3 +72,13 @@ pub returns-clause-change : goal.returns-clause-change
 returns-clause-change c =
     let listed = c.deref.ensures.value ∙ c.find_near.ensures.near ∙ (λ i. filter (is_close (owner_of c.args.tables.now) (c.section_of.ensures i) (c.reach.ensures i)) (numbers_below c.args.tables.now.next)) in
     c.grow-target.ensures.change ∙ added.change_is c.args.grid.now c.args.tables.now c.keeps_lists.ensures c.requires.rules c.requires.numbers c.args.c c.requires.in_range c.deref.result.now listed c.args.wanted.now c.requires.wanted c.grow-target.new.tables c.grow-target.result c.grow-target.ensures.grows
+
+pub grow-target-requires-clause-room : goal.grow-target-requires-clause-room
+grow-target-requires-clause-room c =
+    lie_in-more (is_among c.args.wanted.now) 9 c.args.tables.now.free c.requires.free
+    (added.wanted_nine c.args.grid.now c.args.tables.now c.keeps_lists.ensures c.requires.rules c.requires.numbers c.args.c c.requires.in_range c.args.wanted.now c.requires.wanted)
+
+pub returns-clause-free : goal.returns-clause-free
+returns-clause-free c =
+    let nine = added.wanted_nine c.args.grid.now c.args.tables.now c.keeps_lists.ensures c.requires.rules c.requires.numbers c.args.c c.requires.in_range c.args.wanted.now c.requires.wanted in
+    omega (arith, c.grow-target.ensures.grows.free 9 nine, c.pair_near.ensures.free, c.settle.ensures.rooms.free)

@@ -49,14 +49,6 @@ extend-requires-clause-few c =
     let l = steps.not_full c.args.sections.now c.args.tables.now c.requires.presence c.args.c says.0 in
     omega (arith, len, l)
 
-pub extend-requires-clause-free : goal.extend-requires-clause-free
-extend-requires-clause-free c =
-    let says = steps.filled_says c.args.sections.now c.args.tables.now c.requires.presence c.args.c (sym c.add.ensures.answer ∙ c.in-Filled.is) in
-    let adds = c.add.ensures.room (steps.full_same c.args.sections.now c.args.tables.now c.requires.presence c.args.c ∙ says.0) in
-    let e = c.filled.ensures ∙ adds.filled in
-    let len = steps.filled_length c.args.sections.now c.args.tables.now c.requires.presence c.args.c c.requires.numbers c.requires.in_range c.requires.rules c.filled.result.now e in
-    omega (arith, len, steps.wanted_few c.args.sections.now c.args.tables.now c.requires.presence c.args.c c.requires.numbers c.requires.in_range c.requires.rules, c.requires.room.sections)
-
 pub returns-in-Full-clause-state : goal.returns-in-Full-clause-state
 returns-in-Full-clause-state c =
     let says = steps.full_says c.args.sections.now c.args.tables.now c.requires.presence c.args.c c.in-Full.present c.in-Full.wanted (sym c.add.ensures.answer ∙ c.in-Full.is) in
@@ -133,11 +125,3 @@ returns-in-Filled-clause-presence c =
     let adds = c.add.ensures.room (steps.full_same c.args.sections.now c.args.tables.now c.requires.presence c.args.c ∙ says.0) in
     let owner = c.extend.ensures.owner ∙ ap (λ (g : Grid). (extended (bare g c.args.tables.now) c.args.c).owner) c.requires.same in
     steps.filled_presence c.args.sections.now c.args.tables.now c.requires.presence c.args.c c.requires.numbers c.requires.in_range c.requires.rules c.add.new.self c.extend.new.tables adds owner
-
-pub returns-in-Filled-clause-free : goal.returns-in-Filled-clause-free
-returns-in-Filled-clause-free c =
-    let says = steps.filled_says c.args.sections.now c.args.tables.now c.requires.presence c.args.c (sym c.add.ensures.answer ∙ c.in-Filled.is) in
-    let adds = c.add.ensures.room (steps.full_same c.args.sections.now c.args.tables.now c.requires.presence c.args.c ∙ says.0) in
-    let e = c.filled.ensures ∙ adds.filled in
-    let len = steps.filled_length c.args.sections.now c.args.tables.now c.requires.presence c.args.c c.requires.numbers c.requires.in_range c.requires.rules c.filled.result.now e in
-    omega (arith, len, steps.wanted_few c.args.sections.now c.args.tables.now c.requires.presence c.args.c c.requires.numbers c.requires.in_range c.requires.rules, c.extend.ensures.free)

@@ -1,4 +1,4 @@
-use Rattle.std.proofs.Common.{◌≡◌, ◌+◌, ◌≤◌, ◌++◌, length, List}
+use Rattle.std.proofs.Common.{◌≡◌, ◌+◌, ◌-◌, ◌≤◌, ◌++◌, length, List}
 use Rattle.std.specs.Vec.{vec_capacity}
 use Rattle.fol_model.specs.declared.places.SectionPos.{SectionPos}
 use Rattle.fol_region_tables.specs.Book.{owner_of}
@@ -10,4 +10,8 @@ invariant-loop-i l = record {
   near : (before : List SectionPos) → l.initial.near.items ≡ regions_of (owner_of l.tables) l.tables.next before → l.near.items ≡ regions_of (owner_of l.tables) l.tables.next (before ++ row_of l.first l.row l.i);
   few : length l.near.items ≤ length l.initial.near.items + l.i;
   rooms : (625 ≤ vec_capacity l.near) × (625 ≤ vec_capacity l.made);
+  bound : l.i ≤ l.n;
 }
+
+abbrev pub decreases-loop-i : goal.decreases-loop-i
+decreases-loop-i l = l.n - l.i

@@ -26,7 +26,7 @@ pub hold-answer-requires-clause-room : goal.hold-answer-requires-clause-room
 hold-answer-requires-clause-room c =
     let n = rw (← c.self.view_is) at c.requires.spare in
     let r = c.self.invariant.0.room in
-    record { sections = omega (arith, n, r.sections); ahead = omega (arith, n, r.ahead); behind = omega (arith, n, r.behind) }
+    record { pages = omega (arith, n, r.pages); ahead = omega (arith, n, r.ahead); behind = omega (arith, n, r.behind) }
 
 pub invariant_of-self : goal.invariant_of-self
 invariant_of-self c =
@@ -40,7 +40,7 @@ invariant_of-self c =
       presence = c.hold-answer.ensures.presence;
       spare = omega (arith, n, kept.spare, c.hold-answer.ensures.spare);
       room = record {
-        sections = omega (arith, n, r.sections, c.hold-answer.ensures.free);
+        pages = omega (arith, n, r.pages, c.hold-answer.ensures.free);
         ahead = omega (arith, n, r.ahead, c.hold-answer.ensures.ahead.0, c.hold-answer.ensures.ahead.1);
         behind = omega (arith, n, r.behind, c.hold-answer.ensures.behind.0, c.hold-answer.ensures.behind.1);
       };

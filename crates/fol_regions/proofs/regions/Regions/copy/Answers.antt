@@ -9,7 +9,7 @@ use Rattle.fol_regions.proofs.regions.Regions.copy.Goals as goal
 pub invariant_of-result : goal.invariant_of-result
 invariant_of-result c =
     let dying : 289 ≤ vec_capacity c.in_ok-with_capacity-3.field-0 = omega (arith, c.in_ok-with_capacity-3.ensures.exact) in
-    let room = steps.room_kept c.self.inside.tables c.in_ok-copy-2.field-0 (289 * c.self.inside.spare) (625 * c.self.inside.spare) c.self.invariant.0.room c.in_ok-copy-2.ensures.free
+    let room = steps.room_kept c.self.inside.tables c.in_ok-copy-2.field-0 (9 * c.self.inside.spare) (625 * c.self.inside.spare) c.self.invariant.0.room c.in_ok-copy-2.ensures.free
     (c.in_ok-copy-2.ensures.ahead.0, omega (arith, c.in_ok-copy-2.ensures.ahead.1)) (c.in_ok-copy-2.ensures.behind.0, omega (arith, c.in_ok-copy-2.ensures.behind.1)) in
     let kept = steps.kept_near c.self.inside.grid c.in_ok-copy.field-0 c.in_ok-copy-2.field-0 c.self.inside.spare _ _ _ _
     (steps.alike_kept c.self.inside.grid c.self.inside.sections c.self.inside.tables c.self.inside.spare _ _ c.self.invariant.0 c.in_ok-copy.field-0 c.in_ok-copy-2.field-0 c.self.inside.spare c.in_ok-copy.ensures.same c.in_ok-copy-2.ensures.same (omega arith)
