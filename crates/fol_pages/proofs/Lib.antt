@@ -4,3 +4,4 @@ pub mod PageRuns
 pub mod AbsentPages
 pub mod LyingIn
 pub mod NinePages
+pub mod PageChanges

@@ -1,6 +1,6 @@
 -- The regions of sections in pages, and what a page's change changes.
-use Rattle.std.proofs.Common.{◌≡◌, ℕ, zero, suc, ◌<◌, refl, sym, ◌∙◌, ap, arith, Bool, true, false, cond, ◌||◌, inl, inr, List, [], ◌∷◌, length, replicate}
-use Rattle.std.specs.Prelude.{ℤ, nat_eq, Option, Some, None, is_some, slice_index_or}
+use Rattle.std.proofs.Common.{◌≡◌, ℕ, zero, suc, ◌<◌, refl, sym, ◌∙◌, ap, arith, true, false, cond, ◌||◌, inl, inr, List, [], ◌∷◌, length, replicate}
+use Rattle.std.specs.Prelude.{ℤ, nat_eq, Some, None, is_some, slice_index_or}
 use Rattle.std.specs.Cmp.{both_ways}
 use Rattle.std.specs.List.{list_all, list_any}
 use Rattle.std.proofs.lemmas.Bool.{and_parts, cases_Bool, eq-eqb, eqb-true, true≢false}
@@ -38,9 +38,6 @@ not_among x z sections at q off = elim (cases_Bool (is_among sections q)) [
 -- ---- one page changed, or came
 module _ (before after : List ((ℤ × ℤ) × OwnerPage)) (x z : ℤ) (p : OwnerPage)
     (step : (a b : ℤ) → page_at after a b ≡ cond (is_same x z a b) (Some p) (page_at before a b)) where
-  pub page-written : page_at after x z ≡ Some p
-  page-written = step x z ∙ ap (λ b. cond b (Some p) (page_at before x z)) (same_self x z)
-
   pub owner-written : (q : SectionPos) → IsAt x z q → owner_in after q ≡ owner_on (Some p) q
   unfolding owner_in
   owner-written q on =
@@ -65,24 +62,6 @@ module _ (before after : List ((ℤ × ℤ) × OwnerPage)) (x z : ℤ) (p : Owne
         let on : IsAt x z q = (sym k.0, sym k.1) in
         owner-written q on ∙ written q ∙ (λ i. cond (among_places x z sections at q on i) id (sym (before_at q on) i))
     | inr e ↦ let none = not_among x z sections at q e in rw none (after_off q e)
-  ]
-
-  has-written : (was is : Bool) (o : Option OwnerPage) → is_some o ≡ was → is_some (cond is (Some p) o) ≡ (is || was)
-  has-written was true o e = refl
-  has-written was false o e = e
-
-  pub pages-more : (a b : ℤ) → has_page after a b ≡ (is_same x z a b || has_page before a b)
-  unfolding has_page
-  pages-more a b = ap is_some (step a b) ∙ has-written (is_some (page_at before a b)) (is_same x z a b) (page_at before a b) refl
-
-  -- and the same ones, where this page was there
-  pub pages-same : has_page before x z ≡ true → (a b : ℤ) → has_page after a b ≡ has_page before a b
-  pages-same h a b = pages-more a b ∙ elim (cases_Bool (is_same x z a b)) [
-    | inr e ↦ rw e refl
-    | inl e ↦
-        let k = same_place x z a b e in
-        let there : has_page before a b ≡ true = (λ i. has_page before (sym k.0 i) (sym k.1 i)) ∙ h in
-        rw (e, there) refl
   ]
 
 -- ---- which pages have an owner
@@ -155,18 +134,6 @@ module _ (before after : List ((ℤ × ℤ) × OwnerPage)) (x z : ℤ) (step : (
         ap (λ o. owner_on o q) (step (page_of q.x) (page_of q.z) ∙ ap (λ b. cond b None (page_at before (page_of q.x) (page_of q.z))) e) ∙ sym (nobody q (sym k.0, sym k.1))
     | inr e ↦ ap (λ o. owner_on o q) (step (page_of q.x) (page_of q.z) ∙ ap (λ b. cond b None (page_at before (page_of q.x) (page_of q.z))) e)
   ]
-
-  pub pages-less : (a b : ℤ) → has_page after a b ≡ true → has_page before a b ≡ true
-  unfolding has_page
-  pages-less a b h = less (is_same x z a b) (page_at before a b) (sym (ap is_some (step a b)) ∙ h)
-    where
-      less : (e : Bool) (o : Option OwnerPage) → is_some (cond e None o) ≡ true → is_some o ≡ true
-      less true o h = absurd (true≢false (sym h))
-      less false o h = h
-
-  pub page-gone : has_page after x z ≡ false
-  unfolding has_page
-  page-gone = ap is_some (step x z) ∙ ap (λ b. is_some (cond b None (page_at before x z))) (same_self x z)
 
 -- ---- no pages, and the same ones
 pub nobody_owns : (pages : List ((ℤ × ℤ) × OwnerPage)) → pages ≡ [] → (s : SectionPos) → owner_in pages s ≡ 0

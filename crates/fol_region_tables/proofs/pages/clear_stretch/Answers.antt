@@ -5,7 +5,8 @@ use Rattle.std.specs.Option.{option_copied_mut}
 use Rattle.std.proofs.lemmas.Bool.{true≢false}
 use Rattle.fol_pages.specs.Pages.{has_page, is_same, page_at, place_of}
 use Rattle.fol_region_tables.specs.Owners.{owner_on}
-use Rattle.fol_region_tables.proofs.PageOwners.{nobody_in, none_taken, owned-busy, owner-written, owners-written, page-written, pages-same}
+use Rattle.fol_pages.proofs.PageChanges.{page-written, pages-same}
+use Rattle.fol_region_tables.proofs.PageOwners.{nobody_in, none_taken, owned-busy, owner-written, owners-written}
 use Rattle.fol_region_tables.proofs.pages.clear_stretch.Goals as goal
 
 pub returns-in-Some-clause-owner : goal.returns-in-Some-clause-owner

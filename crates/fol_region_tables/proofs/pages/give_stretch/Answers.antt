@@ -7,7 +7,8 @@ use Rattle.fol_model.specs.declared.places.SectionPos.{SectionPos}
 use Rattle.fol_pages.specs.Pages.{has_page, is_same, page_at, place_of}
 use Rattle.fol_region_tables.specs.Owners.{owner_on}
 use Rattle.fol_region_tables.proofs.Among.{among_at}
-use Rattle.fol_region_tables.proofs.PageOwners.{owned-given, owners-written, pages-more}
+use Rattle.fol_pages.proofs.PageChanges.{pages-more}
+use Rattle.fol_region_tables.proofs.PageOwners.{owned-given, owners-written}
 use Rattle.fol_region_tables.proofs.Results.{ok_value}
 use Rattle.fol_region_tables.proofs.pages.give_stretch.Goals as goal
 

@@ -1,7 +1,8 @@
 use Rattle.std.proofs.Common.{sym, ◌∙◌}
 use Rattle.std.proofs.lemmas.Bool.{true≢false}
 use Rattle.fol_pages.specs.Pages.{is_same, page_at}
-use Rattle.fol_region_tables.proofs.PageOwners.{owned-taken, owners-left, page-gone, pages-less}
+use Rattle.fol_pages.proofs.PageChanges.{page-gone, pages-less}
+use Rattle.fol_region_tables.proofs.PageOwners.{owned-taken, owners-left}
 use Rattle.fol_region_tables.proofs.pages.take_stretch.Goals as goal
 
 pub returns-then-clear_stretch-clause-owner : goal.returns-then-clear_stretch-clause-owner
