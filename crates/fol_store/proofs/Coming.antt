@@ -144,6 +144,8 @@ module _ (s : Stock) (bags : List Slot) (places : PlaceRows) (spare slots id : �
           before = λ o. no (sym off ∙ o);
           order = λ o. no (sym off ∙ o);
           chunks = λ o. no (sym off ∙ o);
+          noted = λ o. no (sym off ∙ o);
+          here = λ o. refl;
           out = λ o. no (sym not_taken ∙ o);
         })
 
@@ -175,7 +177,9 @@ module _ (s : Stock) (bags : List Slot) (places : PlaceRows) (spare slots id : �
           same = refl;
           before = λ o. was;
           order = λ o. order;
-          chunks = λ o. has;
+          chunks = λ o q n. has q;
+          noted = λ o q n. n;
+          here = λ o. refl;
           out = λ o. no (sym not_taken ∙ o);
         })
       where

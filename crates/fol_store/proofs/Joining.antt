@@ -40,6 +40,8 @@ not_relisted p a b d stays e free =
       before = λ o. no (sym off ∙ o);
       order = λ o. no (sym off ∙ o);
       chunks = λ o. no (sym off ∙ o);
+      noted = λ o. no (sym off ∙ o);
+      here = λ o. rw (e, stays) refl;
       out = λ o. no (sym free ∙ o);
     }
 
@@ -208,7 +210,9 @@ module _ (s : Stock) (bags : List Slot) (places : PlaceRows) (spare slots u id :
           same = rw (d.both.id_here, d.pours.gains.tick, d.pours.gains.owed) refl;
           before = λ o. d.both.id_listed;
           order = λ o. d.both.union.order;
-          chunks = λ o. d.both.union.has;
+          chunks = λ o q n. d.both.union.has q;
+          noted = λ o q n. n;
+          here = λ o. refl;
           out = λ o. no (sym not_taken ∙ o);
         });
         both = λ o. d.both.listed;

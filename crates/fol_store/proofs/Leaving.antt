@@ -170,7 +170,9 @@ module _ (s : Stock) (spots : List RegionData) (bags : List Slot) (places : Plac
         same = rw (f.here, f.loses.tick, f.loses.owed) refl;
         before = λ o. o;
         order = λ o. f.order;
-        chunks = λ o. f.has;
+        chunks = λ o q n. f.has q;
+        noted = λ o q n. n;
+        here = λ o. refl;
         out = λ o. no (sym not_taken ∙ o);
       });
       others = λ u n. ap shown (other u (λ q. n (sym q)));

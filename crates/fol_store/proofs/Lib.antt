@@ -30,3 +30,4 @@ pub mod Coming
 pub mod Outward
 pub mod Leaving
 pub mod Joining
+pub mod Relisting

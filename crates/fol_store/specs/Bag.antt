@@ -17,6 +17,8 @@ pub record Bag : Type 0 where
   pub calm : Bool
   -- the chunks for which it was gathered
   pub chunks : List ChunkPos
+  -- chunks that may have come or left since then, while the bag was taken out
+  pub since : List ChunkPos
 
 -- nothing outside the bag lies on its chunks, and nothing in it lies elsewhere
 abbrev pub is_whole : Bag → Bool
@@ -24,11 +26,11 @@ is_whole b = b.listed && b.calm
 
 -- of a region that has none
 abbrev pub no_bag : Bag
-no_bag = record { here = false; taken = false; tick = 0; owed = 0; listed = false; calm = false; chunks = [] }
+no_bag = record { here = false; taken = false; tick = 0; owed = 0; listed = false; calm = false; chunks = []; since = [] }
 
 -- of a region that has just begun
 abbrev pub new_bag : ℕ → ℕ → Bag
-new_bag tick owed = record { here = true; taken = false; tick = tick; owed = owed; listed = true; calm = true; chunks = [] }
+new_bag tick owed = record { here = true; taken = false; tick = tick; owed = owed; listed = true; calm = true; chunks = []; since = [] }
 
 -- after a task came on the chunk: a listed bag that has the chunk is calm no more
 abbrev pub disturbed : ChunkPos → Bag → Bag

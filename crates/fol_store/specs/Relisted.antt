@@ -1,5 +1,5 @@
 -- What becomes of the bag of a region that has a chunk more or a chunk less, or that another region joins.
-use Rattle.std.specs.Prelude.{ℕ, ◌≡◌, ◌≢◌, Bool, true, not, ◌&&◌, ◌||◌, max, List}
+use Rattle.std.specs.Prelude.{ℕ, ◌≡◌, ◌≢◌, Bool, true, false, not, ◌&&◌, ◌||◌, max, List}
 use Rattle.std.specs.List.Sorted.{IsStrictlySortedBy}
 use Rattle.fol_model.specs.declared.places.ChunkPos.{ChunkPos}
 use Rattle.fol_model.specs.Geometry.{same_chunk}
@@ -7,12 +7,15 @@ use Rattle.fol_chunks.specs.Contents.{is_recorded}
 use Rattle.fol_chunks.specs.Order.{chunk_cmp}
 use Rattle.fol_store.specs.Bag.{Bag, no_bag}
 
--- the bag is listed for the chunks that pass, in their order, or has to be gathered anew
+-- the bag is listed for the chunks that pass, in their order, or has to be gathered anew; one that was taken out keeps its chunks, and
+-- notes those of which that may not hold
 pub record Relisted (p : ChunkPos → Bool) (old new : Bag) : Type 0 where
-  pub same : new ≡ record old { listed = new.listed; calm = new.calm; chunks = new.chunks }
+  pub same : new ≡ record old { listed = new.listed; calm = new.calm; chunks = new.chunks; since = new.since }
   pub before : new.listed ≡ true → old.listed ≡ true
   pub order : new.listed ≡ true → IsStrictlySortedBy chunk_cmp new.chunks
-  pub chunks : new.listed ≡ true → (q : ChunkPos) → is_recorded new.chunks q ≡ p q
+  pub chunks : new.listed ≡ true → (q : ChunkPos) → is_recorded new.since q ≡ false → is_recorded new.chunks q ≡ p q
+  pub noted : new.listed ≡ true → (q : ChunkPos) → is_recorded new.since q ≡ false → is_recorded old.since q ≡ false
+  pub here : old.taken ≡ false → new.since ≡ old.since
   pub out : old.taken ≡ true → new.chunks ≡ old.chunks
 
 -- of a region that has the chunk c more

@@ -29,7 +29,7 @@ pub record Stock : Type 0 where
 
 -- of an id that no region had so far
 abbrev pub no_slot : Slot
-no_slot = record { body = no_data; here = false; taken = false; listed = false; calm = false; chunks = []; handed = []; touched = [] }
+no_slot = record { body = no_data; here = false; taken = false; listed = false; calm = false; chunks = []; handed = []; touched = []; since = [] }
 
 abbrev pub slot : Stock → ℕ → Slot
 slot s id = slice_index_or s.bags id no_slot
@@ -66,7 +66,7 @@ jobs_of s n = found s (of_task n)
 
 -- what contracts see of a bag
 abbrev pub shown : Slot → Bag
-shown b = record { here = b.here; taken = b.taken; tick = if b.here then b.body.tick else 0; owed = if b.here then b.body.owed else 0; listed = b.listed; calm = b.calm; chunks = b.chunks }
+shown b = record { here = b.here; taken = b.taken; tick = if b.here then b.body.tick else 0; owed = if b.here then b.body.owed else 0; listed = b.listed; calm = b.calm; chunks = b.chunks; since = b.since }
 
 -- the bag of a region by its id
 unfoldable pub bag_of : Stock → ℕ → Bag

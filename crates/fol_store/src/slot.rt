@@ -1,6 +1,6 @@
 //! The bag of a region, as the store keeps it.
 
-ghost use Rattle.std.specs.Prelude.{◌≡◌, ◌≤◌, true, not, ◌||◌, ◌&&◌, [], ◌∷◌, ◌++◌, ◌⊎◌, length, OnOk, OnErr};
+ghost use Rattle.std.specs.Prelude.{◌≡◌, ◌≤◌, true, not, ◌||◌, ◌&&◌, [], ◌∷◌, ◌++◌, ◌⊎◌, length, OnOk};
 ghost use Rattle.std.specs.List.{insert};
 ghost use Rattle.std.specs.List.Sorted.{IsStrictlySortedBy};
 ghost use Rattle.fol_model.specs.declared.places.ChunkPos.{ChunkPos};
@@ -32,6 +32,8 @@ pub struct Slot {
     pub handed: Sequence<ChunkPos>,
     /// Chunks in whose spots something may lie; of a listed bag, all such ones.
     pub touched: Sequence<ChunkPos>,
+    /// Chunks that may have come or left while a worker had the bag.
+    pub since: Sequence<ChunkPos>,
 }
 
 impl Slot {
@@ -52,10 +54,8 @@ impl Slot {
           touched = self.new.touched;
         } }
     {
-        match self.widen(alloc, c) {
-            Ok(()) => note(&mut self.touched, c),
-            Err(_) => Err(AllocError),
-        }
+        self.widen(alloc, c)?;
+        self.touched.push(c)
     }
 
     /// A chunk comes into both lists. If memory runs out, the first may have it.
@@ -92,10 +92,8 @@ impl Slot {
           handed = self.new.handed;
         } }
     {
-        match members::insert(alloc, &mut self.chunks, i, c) {
-            Ok(()) => members::insert(alloc, &mut self.handed, i, c),
-            Err(_) => Err(AllocError),
-        }
+        members::insert(alloc, &mut self.chunks, i, c)?;
+        members::insert(alloc, &mut self.handed, i, c)
     }
 
     /// A chunk leaves.
@@ -118,16 +116,5 @@ impl Slot {
             }
             Err(_) => {}
         }
-    }
-}
-
-/// Adds a chunk to a list. If memory runs out, the list stays.
-fn note(touched: &mut Sequence<ChunkPos>, c: ChunkPos) -> Result<(), AllocError>
-    ensures ok { OnOk result (touched.new ≡ touched.old ++ c ∷ []) }
-    ensures err { OnErr result (touched.new ≡ touched.old) }
-{
-    match touched.push(c) {
-        Ok(()) => Ok(()),
-        Err(_) => Err(AllocError),
     }
 }

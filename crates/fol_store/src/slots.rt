@@ -1,6 +1,7 @@
 //! The bags by region.
 
-ghost use Rattle.std.specs.Prelude.{◌≡◌, ◌≢◌, IfOk, OnOk, OnErr, ◌+◌, ◌<◌, ◌&&◌, ◌||◌, not, ℕ, nat_eq, if◌then◌else◌, true, false, [], ◌∷◌, ◌++◌, length, vec_len};
+ghost use Rattle.std.specs.Prelude.{◌≡◌, ◌≢◌, IsTrue, IfOk, OnOk, OnErr, ◌+◌, ◌<◌, ◌&&◌, ◌||◌, not, ℕ, nat_eq, if◌then◌else◌, true, false, [], ◌∷◌, ◌++◌, length, vec_len};
+ghost use Rattle.std.specs.Option.{is_none, ForSome};
 ghost use Rattle.std.specs.Vec.{vec_capacity};
 ghost use Rattle.fol_store.specs.Stock.{no_slot};
 ghost use Rattle.fol_store.specs.Slots.{slot_in, stays_calm};
@@ -72,6 +73,7 @@ pub fn close(alloc: Global, bags: &mut Vec<Slot>, id: usize)
           chunks = [];
           handed = [];
           touched = [];
+          since = [];
         }
         else slot_in bags.old.items u) }
     ensures len { vec_len bags.new ≡ vec_len bags.old }
@@ -85,6 +87,7 @@ pub fn close(alloc: Global, bags: &mut Vec<Slot>, id: usize)
     slot.chunks = Sequence::new(alloc);
     slot.handed = Sequence::new(alloc);
     slot.touched = Sequence::new(alloc);
+    slot.since = Sequence::new(alloc);
 }
 
 /// Gives a bag other chunks.
@@ -195,10 +198,8 @@ fn add(chunks: &mut Vec<ChunkPos>, c: ChunkPos) -> Result<(), AllocError>
     ensures ok { OnOk result (chunks.new.items ≡ chunks.old.items ++ c ∷ []) }
     ensures err { OnErr result (chunks.new.items ≡ chunks.old.items) }
 {
-    match chunks.push(c) {
-        Ok(()) => Ok(()),
-        Err(_) => Err(AllocError),
-    }
+    chunks.push(c)?;
+    Ok(())
 }
 
 /// Takes the noted chunks of a bag, and its chunks as they are to be handed out. The bag has to be gathered anew, or finished.
@@ -223,6 +224,49 @@ pub fn reopen(alloc: Global, bags: &mut Vec<Slot>, id: usize) -> Reopened
         chunks: handed.into_vec(),
         touched: touched.into_vec(),
     }
+}
+
+/// Notes that a chunk of a listed bag may have come or left. If memory runs out, the bag has to be gathered anew.
+pub fn note_change(bags: &mut Vec<Slot>, id: usize, c: ChunkPos)
+    requires { id < vec_len bags.old }
+    ensures noted { (slot_in bags.new.items id).listed ≡ true
+        → ((slot_in bags.old.items id).listed ≡ true) × ((slot_in bags.new.items id).since
+        ≡ (slot_in bags.old.items id).since ++ c ∷ []) }
+    ensures unlisted { (slot_in bags.old.items id).listed ≡ false
+        → (slot_in bags.new.items id).since ≡ (slot_in bags.old.items id).since }
+    ensures slots { (u : ℕ) → slot_in bags.new.items u
+        ≡ (if nat_eq id u then record (slot_in bags.old.items id) {
+          listed = (slot_in bags.new.items id).listed;
+          since = (slot_in bags.new.items id).since;
+        } else slot_in bags.old.items u) }
+    ensures len { vec_len bags.new ≡ vec_len bags.old }
+    ensures capacity { vec_capacity bags.new ≡ vec_capacity bags.old }
+{
+    let slot = &mut bags[id];
+    if slot.listed {
+        slot.listed = slot.since.push(c).is_ok();
+    }
+}
+
+/// Takes the last of the chunks of a bag that may have come or left.
+pub fn next_change(alloc: Global, bags: &mut Vec<Slot>, id: usize) -> Option<ChunkPos>
+    requires { id < vec_len bags.old }
+    ensures some { ForSome result (λ last. (slot_in bags.old.items id).since
+        ≡ (slot_in bags.new.items id).since ++ last ∷ []) }
+    ensures none { IsTrue (is_none result) → (slot_in bags.old.items id).since ≡ [] }
+    ensures left { IsTrue (is_none result) → (slot_in bags.new.items id).since ≡ [] }
+    ensures slots { (u : ℕ) → slot_in bags.new.items u
+        ≡ (if nat_eq id u
+        then record (slot_in bags.old.items id) { since = (slot_in bags.new.items id).since }
+        else slot_in bags.old.items u) }
+    ensures len { vec_len bags.new ≡ vec_len bags.old }
+    ensures capacity { vec_capacity bags.new ≡ vec_capacity bags.old }
+{
+    let slot = &mut bags[id];
+    let mut since = mem::replace(&mut slot.since, Sequence::new(alloc)).into_vec();
+    let last = since.pop();
+    slot.since = Sequence::of(since);
+    last
 }
 
 /// Whether the store has a bag, and its chunks are the right ones still.
@@ -310,6 +354,7 @@ pub fn open(alloc: Global, bags: &mut Vec<Slot>, tick: u64, owed: u32)
           chunks = [];
           handed = [];
           touched = [];
+          since = [];
         }
         else slot_in bags.old.items u) }
     ensures len { vec_len bags.new ≡ vec_len bags.old + 1 }
@@ -325,6 +370,7 @@ pub fn open(alloc: Global, bags: &mut Vec<Slot>, tick: u64, owed: u32)
         chunks: Sequence::new(alloc),
         handed: Sequence::new(alloc),
         touched: Sequence::new(alloc),
+        since: Sequence::new(alloc),
     });
 }
 
@@ -488,10 +534,7 @@ pub fn merge(
 {
     let moved = dissolve(alloc, bags, from);
     relist(bags, into, chunks);
-    match shift_bags(alloc, bags, from, &moved, into) {
-        Ok(()) => {}
-        Err(_) => return Err(AllocError),
-    }
+    shift_bags(alloc, bags, from, &moved, into)?;
     finish(alloc, bags, into, handed);
     Ok(moved)
 }
@@ -622,11 +665,9 @@ pub fn closed(alloc: Global) -> Result<Vec<Slot>, AllocError>
         chunks: Sequence::new(alloc),
         handed: Sequence::new(alloc),
         touched: Sequence::new(alloc),
+        since: Sequence::new(alloc),
     };
     let mut bags = Vec::new(alloc);
-    match bags.push(slot) {
-        Ok(()) => {}
-        Err(_) => return Err(AllocError),
-    }
+    bags.push(slot)?;
     Ok(bags)
 }

@@ -2,6 +2,7 @@
 
 ghost use Rattle.std.specs.Prelude.{◌≡◌, true};
 ghost use Rattle.fol_store.specs.Bag.{is_whole};
+ghost use Rattle.fol_store.specs.Relisted.{IsInOrder};
 ghost use Rattle.fol_store.specs.Stock.{bag_of};
 
 use crate::{Rows, Store};
@@ -126,18 +127,55 @@ fn keeps_rests_through_a_bag(rt: HostRuntime) -> Result<(), Fail> {
     Ok(())
 }
 
-/// What comes to a listed bag with a chunk, and goes with it, is all there.
+/// Takes a bag out and puts it back; meanwhile a chunk comes to its region, and another leaves.
+fn turn_while(store: &mut Store, id: u64, more: ChunkPos, less: ChunkPos)
+    requires here { (bag_of store.old id).here ≡ true }
+    requires whole { is_whole (bag_of store.old id) ≡ true }
+    requires order { IsInOrder (bag_of store.old id) }
+    ensures here { (bag_of store.new id).here ≡ true }
+    ensures order { IsInOrder (bag_of store.new id) }
+{
+    let taken = store.take(id);
+    store.gain(id, more);
+    store.lose(id, less);
+    store.put(id, taken.chunks, taken.body);
+}
+
+/// Has a bag whose region has that chunk alone follow one of the chunks that came or left; gives this one.
+fn follow(store: &mut Store, id: u64, only: ChunkPos) -> Option<ChunkPos>
+    requires here { (bag_of store.old id).here ≡ true }
+    requires order { IsInOrder (bag_of store.old id) }
+    ensures here { (bag_of store.new id).here ≡ true }
+    ensures order { IsInOrder (bag_of store.new id) }
+{
+    let c = store.next_change(id)?;
+    if c == only {
+        store.gain(id, c);
+    } else {
+        store.lose(id, c);
+    }
+    Some(c)
+}
+
+/// What lies on a chunk that comes while the bag is out goes into it, and what lies on one that leaves goes out of it.
 #[test]
 fn follows_the_chunks_of_a_region(rt: HostRuntime) -> Result<(), Fail> {
     let mut store = Store::new(rt.alloc(), &opening(rt.alloc())?)?;
     store.reserve(1, 1)?;
     store.open(1, 40, 2);
     store.accept(task(2, CHUNKS[0]), 5);
-    store.gather(1, &CHUNKS)?;
-    store.lose(1, CHUNKS[0]);
+    store.gather(1, &CHUNKS[..1])?;
+    turn_while(&mut store, 1, CHUNKS[1], CHUNKS[0]);
+    assert_eq!(rt; follow(&mut store, 1, CHUNKS[1]), Some(CHUNKS[0]));
+    assert_eq!(rt; follow(&mut store, 1, CHUNKS[1]), Some(CHUNKS[1]));
+    assert_eq!(rt; follow(&mut store, 1, CHUNKS[1]), None);
+    assert!(rt; store.is_listed(1));
+    store.settle(1)?;
+    let taken = store.take(1);
+    assert_eq!(rt; taken.chunks.as_slice(), &CHUNKS[1..]);
     let rows = store.into_rows(rt.alloc())?;
-    assert_eq!(rt; rows.blocks.as_slice(), BLOCKS.as_slice());
-    assert_eq!(rt; rows.entities.as_slice(), ENTITIES.as_slice());
+    assert_eq!(rt; rows.blocks.as_slice(), &BLOCKS[..1]);
+    assert_eq!(rt; rows.entities.as_slice(), &ENTITIES[1..]);
     assert_eq!(rt; rests(rt.alloc(), &rows)?.as_slice(), [(2, 5)].as_slice());
     Ok(())
 }

@@ -1,6 +1,7 @@
 //! The region of a listed bag has a chunk more or a chunk less.
 
-ghost use Rattle.std.specs.Prelude.{◌≡◌, ◌≢◌, ◌≤◌, ◌||◌, true, ℕ, None, Some, OnOk, OnErr};
+ghost use Rattle.std.specs.Prelude.{◌≡◌, ◌≢◌, ◌≤◌, ◌&&◌, ◌||◌, true, false, ℕ, [], ◌∷◌, ◌++◌, None, Some, IsTrue, OnOk, OnErr};
+ghost use Rattle.std.specs.Option.{is_none, ForSome};
 ghost use Rattle.std.specs.List.Sorted.{IsStrictlySortedBy};
 ghost use Rattle.fol_model.specs.ActionStep.{at_id};
 ghost use Rattle.fol_chunks.specs.Order.{chunk_cmp};
@@ -17,9 +18,9 @@ impl Store {
     ghost use Rattle.fol_store.specs.Stock.{Stock, flat_of, jobs_of, bag_of, next_of, place};
     ghost use Rattle.fol_store.specs.Steps.{SameMeaning};
 
-    /// The region of a bag has a chunk more. A listed bag that is here gets the chunk and is calm no more, so that what lies in the
-    /// chunk's spot goes into it when it is settled. Where another bag has the chunk, or memory runs out, it has to be gathered anew,
-    /// as has a bag that is not listed or with a worker.
+    /// The region of a bag has a chunk more. A listed bag that is here gets the chunk, if it has it not, and is calm no more, so that
+    /// what lies in the chunk's spot goes into it when it is settled; one that a worker has notes the chunk. Where another bag has
+    /// the chunk, or memory runs out, the bag has to be gathered anew.
     pub fn gain(&mut self, id: u64, c: ChunkPos)
         requires known { ((bag_of self.old id).here || (bag_of self.old id).taken) ≡ true }
         requires order { IsInOrder (bag_of self.old id) }
@@ -32,9 +33,11 @@ impl Store {
         ensures slots { self.new.slots ≡ self.old.slots }
     {
         let place = self.places.at(c);
-        if place.bag.is_none() && slots::is_ready(self.bags.as_slice(), id as usize) {
+        if !slots::is_ready(self.bags.as_slice(), id as usize) {
+            self.note_change(id, c);
+        } else if place.bag.is_none() {
             self.admit(id as usize, c, place);
-        } else {
+        } else if !has_bag(place, id as usize) {
             self.unsettle(id);
         }
     }
@@ -65,8 +68,8 @@ impl Store {
         }
     }
 
-    /// The region of a bag has a chunk less. A listed bag that is here loses the chunk, and what lies on it goes into the chunk's
-    /// spot. Where memory runs out, it has to be gathered anew, as has a bag that is not listed or with a worker.
+    /// The region of a bag has a chunk less. A listed bag that is here loses the chunk, if it has it, and what lies on it goes into the
+    /// chunk's spot; one that a worker has notes the chunk. Where memory runs out, the bag has to be gathered anew.
     pub fn lose(&mut self, id: u64, c: ChunkPos)
         requires known { ((bag_of self.old id).here || (bag_of self.old id).taken) ≡ true }
         requires order { IsInOrder (bag_of self.old id) }
@@ -78,13 +81,55 @@ impl Store {
         ensures spare { self.old.spare ≤ self.new.spare }
         ensures slots { self.old.slots ≤ self.new.slots }
     {
-        if slots::is_ready(self.bags.as_slice(), id as usize)
-            && has_bag(self.places.at(c), id as usize)
-        {
+        if !slots::is_ready(self.bags.as_slice(), id as usize) {
+            self.note_change(id, c);
+        } else if has_bag(self.places.at(c), id as usize) {
             self.expel(id as usize, c);
-        } else {
-            self.unsettle(id);
         }
+    }
+
+    /// Notes that a chunk may have come or left, for a listed bag that a worker has; any other has to be gathered anew, as has this one
+    /// where memory runs out.
+    fn note_change(&mut self, id: u64, c: ChunkPos)
+        requires known { ((bag_of self.old id).here || (bag_of self.old id).taken) ≡ true }
+        requires away { ((bag_of self.old id).here && (bag_of self.old id).listed) ≡ false }
+        ensures noted { (bag_of self.new id).listed ≡ true
+            → ((bag_of self.old id).listed ≡ true) × ((bag_of self.new id).since
+            ≡ (bag_of self.old id).since ++ c ∷ []) }
+        ensures here { (bag_of self.old id).taken ≡ false
+            → (bag_of self.new id).since ≡ (bag_of self.old id).since }
+        ensures bags { bag_of self.new
+            ≡ at_id (bag_of self.old) id (record (bag_of self.old id) {
+              listed = (bag_of self.new id).listed;
+              since = (bag_of self.new id).since;
+            }) }
+        ensures next { next_of self.new ≡ next_of self.old }
+        ensures contents { flat_of self.new ≡ flat_of self.old }
+        ensures tasks { jobs_of self.new ≡ jobs_of self.old }
+        ensures spare { self.new.spare ≡ self.old.spare }
+        ensures slots { self.new.slots ≡ self.old.slots }
+    {
+        slots::note_change(&mut self.bags, id as usize, c);
+    }
+
+    /// Takes one of the chunks that may have come or left while a worker had the bag, which is here again; `None` where no more is
+    /// noted.
+    pub fn next_change(&mut self, id: u64) -> Option<ChunkPos>
+        requires here { (bag_of self.old id).here ≡ true }
+        ensures some { ForSome result (λ c. (bag_of self.old id).since
+            ≡ (bag_of self.new id).since ++ c ∷ []) }
+        ensures none { IsTrue (is_none result) → (bag_of self.old id).since ≡ [] }
+        ensures left { IsTrue (is_none result) → (bag_of self.new id).since ≡ [] }
+        ensures bags { bag_of self.new
+            ≡ at_id (bag_of self.old) id
+            (record (bag_of self.old id) { since = (bag_of self.new id).since }) }
+        ensures next { next_of self.new ≡ next_of self.old }
+        ensures contents { flat_of self.new ≡ flat_of self.old }
+        ensures tasks { jobs_of self.new ≡ jobs_of self.old }
+        ensures spare { self.new.spare ≡ self.old.spare }
+        ensures slots { self.new.slots ≡ self.old.slots }
+    {
+        slots::next_change(self.alloc, &mut self.bags, id as usize)
     }
 
     /// A listed bag that has the chunk loses it. If memory runs out, it has to be gathered anew.
@@ -118,10 +163,8 @@ impl Store {
         ensures err { OnErr result (bag_of self.new ≡ bag_of self.old) }
         ensures same { SameMeaning self.old self.new }
     {
-        match self.spot_of(c) {
-            Ok(i) => self.expel_to(i, id, c),
-            Err(_) => Err(AllocError),
-        }
+        let i = self.spot_of(c)?;
+        self.expel_to(i, id, c)
     }
 
     /// A listed bag that has the chunk loses it, and what lies on it goes into the chunk's spot, unless memory runs out.
@@ -136,13 +179,9 @@ impl Store {
         ensures err { OnErr result (bag_of self.new ≡ bag_of self.old) }
         ensures same { SameMeaning self.old self.new }
     {
-        match spots::shift_from_bag(&mut self.bags, id, &[c], &mut self.spots, i) {
-            Ok(()) => {
-                self.places.unname(c);
-                slots::dismiss(self.alloc, &mut self.bags, id, c);
-                Ok(())
-            }
-            Err(_) => Err(AllocError),
-        }
+        spots::shift_from_bag(&mut self.bags, id, &[c], &mut self.spots, i)?;
+        self.places.unname(c);
+        slots::dismiss(self.alloc, &mut self.bags, id, c);
+        Ok(())
     }
 }

@@ -1,4 +1,4 @@
-use Rattle.std.proofs.Common.{◌≡◌, ◌-◌, ◌&&◌, not, true, false, List, [], refl, sym, ◌∙◌, ap, subst, arith, vec_len}
+use Rattle.std.proofs.Common.{rules, ◌≡◌, ◌-◌, ◌&&◌, not, true, false, List, [], refl, sym, ◌∙◌, ap, subst, arith, vec_len}
 use Rattle.std.specs.Vec.{vec_capacity}
 use Rattle.std.specs.List.Sorted.{IsStrictlySortedBy}
 use Rattle.fol_model.specs.declared.places.ChunkPos.{ChunkPos}
@@ -64,15 +64,15 @@ moved c =
       homes = c.unname.ensures;
       here = rw (← c.self.view_is) at c.requires.here;
       listed = rw (← c.self.view_is) at c.requires.listed;
-      loses = c.in-Ok.ensures.loses;
-      gains = c.in-Ok.ensures.gains;
+      loses = c.in_ok-shift_from_bag.ensures.loses;
+      gains = c.in_ok-shift_from_bag.ensures.gains;
       order = c.dismiss.ensures.order;
       has = λ q. c.dismiss.ensures.has q ∙ ap (λ (z : Slot). is_recorded z.chunks q && not (same_chunk c.args.c q)) mine;
       twice = c.dismiss.ensures.handed;
     })
     c.self.invariant
 
-stayed : (c : goal.In-Err) → Spotted (the_view c.self.inside) (with_parts (the_view c.self.inside) c.shift_from_bag.new.spots.items c.shift_from_bag.new.bags.items c.self.inside.places (vec_capacity c.self.inside.arrivals - vec_len c.self.inside.arrivals) (vec_capacity c.shift_from_bag.new.bags - vec_len c.shift_from_bag.new.bags))
+stayed : (c : goal.After-from_residual) → Spotted (the_view c.self.inside) (with_parts (the_view c.self.inside) c.shift_from_bag.new.spots.items c.shift_from_bag.new.bags.items c.self.inside.places (vec_capacity c.self.inside.arrivals - vec_len c.self.inside.arrivals) (vec_capacity c.shift_from_bag.new.bags - vec_len c.shift_from_bag.new.bags))
 unfolding bag_of
 stayed c =
     let here : (slot (the_view c.self.inside) c.args.id).here ≡ true = rw (← c.self.view_is) at c.requires.here in
@@ -84,33 +84,33 @@ stayed c =
       bags_long = omega arith;
       timely = c.shift_from_bag.ensures.timely;
       spot_timely = c.shift_from_bag.ensures.to_timely;
-      tick = c.in-Err.ensures.err.tick;
-      owed = c.in-Err.ensures.err.owed;
+      tick = c.in_err-shift_from_bag.ensures.err.tick;
+      owed = c.in_err-shift_from_bag.ensures.err.owed;
       more_spare = omega arith;
       more_slots = omega (arith, c.shift_from_bag.ensures.len, c.shift_from_bag.ensures.capacity);
       at_spot = rw (← c.self.view_is) at c.requires.spot;
       at_bag = rw (← c.self.view_is) at c.requires.home;
       not_taken = here_not_taken c.args.id (the_view c.self.inside) c.self.invariant here;
     })
-    c.self.invariant [] (λ q z. (let f : false ≡ true = z in cc)) (λ q. refl) (loses_none _ _ c.in-Err.ensures.to_err) (gains_none _ _ _ c.in-Err.ensures.err)
+    c.self.invariant [] (λ q z. (let f : false ≡ true = z in cc)) (λ q. refl) (loses_none _ _ c.in_err-shift_from_bag.ensures.to_err) (gains_none _ _ _ c.in_err-shift_from_bag.ensures.err)
 
 pub invariant_of-self : goal.invariant_of-self
-invariant_of-self c = (moved c).sound
+invariant_of-self c = (stayed c).sound
 
-pub invariant_of-self-in-Err : goal.invariant_of-self-in-Err
-invariant_of-self-in-Err c = (stayed c).sound
+pub returns-in_err-shift_from_bag-clause-err : goal.returns-in_err-shift_from_bag-clause-err
+returns-in_err-shift_from_bag-clause-err c = let same = (stayed c).bags in rw (← c.self.view_is) (search (rules, same))
 
-pub returns-in-Ok-clause-own : goal.returns-in-Ok-clause-own
-returns-in-Ok-clause-own c = rw (← c.self.view_is) (moved c).own
+pub returns-in_err-shift_from_bag-clause-same : goal.returns-in_err-shift_from_bag-clause-same
+returns-in_err-shift_from_bag-clause-same c = rw (← c.self.view_is) (stayed c).same
 
-pub returns-in-Ok-clause-others : goal.returns-in-Ok-clause-others
-returns-in-Ok-clause-others c = rw (← c.self.view_is) (moved c).others
+pub invariant_of-self-2 : goal.invariant_of-self-2
+invariant_of-self-2 c = (moved c).sound
 
-pub returns-in-Ok-clause-same : goal.returns-in-Ok-clause-same
-returns-in-Ok-clause-same c = rw (← c.self.view_is) (moved c).same
+pub returns-clause-own : goal.returns-clause-own
+returns-clause-own c = rw (← c.self.view_is) (moved c).own
 
-pub returns-in-Err-clause-err : goal.returns-in-Err-clause-err
-returns-in-Err-clause-err c = rw (← c.self.view_is) (stayed c).bags
+pub returns-clause-others : goal.returns-clause-others
+returns-clause-others c = rw (← c.self.view_is) (moved c).others
 
-pub returns-in-Err-clause-same : goal.returns-in-Err-clause-same
-returns-in-Err-clause-same c = rw (← c.self.view_is) (stayed c).same
+pub returns-clause-same : goal.returns-clause-same
+returns-clause-same c = rw (← c.self.view_is) (moved c).same

@@ -1,4 +1,4 @@
-use Rattle.std.proofs.Common.{ℕ, sym, ◌∙◌, ap, subst}
+use Rattle.std.proofs.Common.{◌≡◌, rules, ℕ, sym, ◌∙◌, ap, subst}
 use Rattle.std.specs.List.Sorted.{IsStrictlySortedBy}
 use Rattle.fol_chunks.specs.Order.{chunk_cmp}
 use Rattle.fol_store.specs.Bag.{Bag}
@@ -19,15 +19,15 @@ expel_to-requires-clause-order c =
     let P : (ℕ → Bag) → Type 0 = λ f. IsStrictlySortedBy chunk_cmp (f c.args.id).chunks in
     subst P (sym (bags_same _ _ c.spot_of.ensures.bags)) c.requires.order
 
-pub returns-in-Ok-clause-own : goal.returns-in-Ok-clause-own
-returns-in-Ok-clause-own c =
+pub returns-clause-own : goal.returns-clause-own
+returns-clause-own c =
     on_ok c.expel_to.result _ _ c.expel_to.ensures.own (λ e. let P : (ℕ → Bag) → Type 0 = λ f. Narrowed c.args.c (f c.args.id) (bag_of c.expel_to.new.self c.args.id) in subst P (bags_same _ _ c.spot_of.ensures.bags) e)
 
-pub returns-in-Ok-clause-others : goal.returns-in-Ok-clause-others
-returns-in-Ok-clause-others c = on_ok c.expel_to.result _ _ c.expel_to.ensures.others (λ e u n. e u n ∙ ap (λ (f : ℕ → Bag). f u) (bags_same _ _ c.spot_of.ensures.bags))
+pub returns-clause-others : goal.returns-clause-others
+returns-clause-others c = on_ok c.expel_to.result _ _ c.expel_to.ensures.others (λ e u n. e u n ∙ ap (λ (f : ℕ → Bag). f u) (bags_same _ _ c.spot_of.ensures.bags))
 
-pub returns-in-Ok-clause-err : goal.returns-in-Ok-clause-err
-returns-in-Ok-clause-err c = on_err c.expel_to.result _ _ c.expel_to.ensures.err (λ e. e ∙ bags_same _ _ c.spot_of.ensures.bags)
+pub returns-clause-err : goal.returns-clause-err
+returns-clause-err c = on_err c.expel_to.result _ _ c.expel_to.ensures.err (λ e. e ∙ bags_same _ _ c.spot_of.ensures.bags)
 
-pub returns-in-Err-clause-err : goal.returns-in-Err-clause-err
-returns-in-Err-clause-err c = bags_same _ _ c.spot_of.ensures.bags
+pub returns-in_err-i-clause-err : goal.returns-in_err-i-clause-err
+returns-in_err-i-clause-err c = let same : bag_of c.spot_of.new.self ≡ bag_of c.args.self.now = bags_same _ _ c.spot_of.ensures.bags in search (rules, same)
