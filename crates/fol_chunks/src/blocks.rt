@@ -1,6 +1,6 @@
 //! The blocks of a region: a long list in order of place, and a short one of those that came last.
 
-ghost use Rattle.std.specs.Prelude.{◌≡◌, ◌+◌, ◌≤◌, ◌<◌, ◌||◌, ◌++◌, not, length, [], count_by, vec_len, slice_index_or, nat_eq, if◌then◌else◌, IsTrue, OnOk};
+ghost use Rattle.std.specs.Prelude.{◌≡◌, ◌+◌, ◌≤◌, ◌<◌, ◌||◌, ◌++◌, not, ◌↔◌, length, [], count_by, vec_len, slice_index_or, nat_eq, if◌then◌else◌, IsTrue, OnOk};
 ghost use Rattle.std.specs.Vec.{vec_capacity};
 ghost use Rattle.std.specs.List.Sorted.{IsPermutation, IsPartitionPoint};
 ghost use Rattle.std.specs.declared.cmp.Ordering.TheVariants.{Less, Greater};
@@ -47,6 +47,14 @@ impl Blocks {
             fresh: Vec::new(alloc),
             empty: 0,
         }
+    }
+
+    /// Whether no block has a number.
+    pub fn is_empty(&self) -> bool
+        requires { IsKept self.now }
+        ensures { IsTrue result ↔ (length (blocks_of self.now) ≡ 0) }
+    {
+        self.empty == self.settled.len() + self.fresh.len()
     }
 
     /// Makes `spare` at least `n`, and sees that new blocks of a large region may stand apart. The blocks stay either way.

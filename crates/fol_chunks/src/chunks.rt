@@ -1,6 +1,6 @@
 //! The blocks and entities of a region.
 
-ghost use Rattle.std.specs.Prelude.{◌≡◌, ◌+◌, ◌≤◌, ◌<◌, ℕ, ◌++◌, IsTrue, IsNone, OnOk, All};
+ghost use Rattle.std.specs.Prelude.{◌≡◌, ◌+◌, ◌≤◌, ◌<◌, ℕ, ◌++◌, ◌↔◌, IsTrue, IsNone, OnOk, All};
 ghost use Rattle.std.specs.Option.{option_map, option_len};
 ghost use Rattle.std.specs.List.{IsDistinct};
 ghost use Rattle.std.specs.List.Sorted.{IsStrictlySortedBy};
@@ -51,6 +51,14 @@ impl Chunks {
             blocks: Blocks::new(alloc),
             entities: Vec::new(alloc),
         }
+    }
+
+    /// Whether no block has a number and no entity stands.
+    pub fn is_empty(&self) -> bool
+        ensures size { IsTrue result ↔ (size_of self.now ≡ 0) }
+        ensures nothing { IsTrue result → flat_of self.now ≡ nothing }
+    {
+        self.blocks.is_empty() && self.entities.is_empty()
     }
 
     /// Makes `spare` at least `n`. The contents stay either way.

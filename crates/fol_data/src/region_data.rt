@@ -1,6 +1,6 @@
 //! The data of a region.
 
-ghost use Rattle.std.specs.Prelude.{◌≡◌, ◌+◌, ◌≤◌, ◌^◌, ◌||◌, not, ℕ, [], IsTrue, OnOk};
+ghost use Rattle.std.specs.Prelude.{◌≡◌, ◌+◌, ◌≤◌, ◌^◌, ◌||◌, not, ℕ, [], IsTrue, ◌↔◌, OnOk};
 ghost use Rattle.std.specs.Option.{option_or, option_map, is_none, ForSome};
 ghost use Rattle.std.specs.List.Sorted.{IsStrictlySortedBy};
 ghost use Rattle.fol_keyed.specs.Order.{chunk_cmp};
@@ -44,6 +44,15 @@ impl RegionData {
             queues: Queues::new(alloc),
             chunks: Chunks::new(alloc),
         }
+    }
+
+    /// Whether there is no task, no block and no entity.
+    pub fn is_empty(&self) -> bool
+        ensures empty { IsTrue result
+            ↔ ((self.now.queues.tasks ≡ []) × (size_of_contents self.now.chunks ≡ 0)) }
+        ensures nothing { IsTrue result → flat_of self.now.chunks ≡ nothing }
+    {
+        self.queues.is_empty() && self.chunks.is_empty()
     }
 
     /// How many tasks are on the chunks, which stand by z, and then by x, and how many blocks and entities lie in them.

@@ -47,6 +47,13 @@ impl Queues {
         }
     }
 
+    /// Whether no task waits.
+    pub fn is_empty(&self) -> bool
+        ensures { IsTrue result ↔ (self.now.tasks ≡ []) }
+    {
+        self.tasks.is_empty()
+    }
+
     /// Makes `spare` at least `n`. The tasks stay either way.
     pub fn reserve(&mut self, n: u64) -> Result<(), AllocError>
         ensures tasks { self.new.tasks ≡ self.old.tasks }

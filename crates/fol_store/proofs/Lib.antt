@@ -31,3 +31,4 @@ pub mod Outward
 pub mod Leaving
 pub mod Joining
 pub mod Relisting
+pub mod Compacting

@@ -385,6 +385,18 @@ pub fn new_data(alloc: Global, tick: u64, owed: u32) -> RegionData
     data
 }
 
+/// The same data. Where nothing lies in it, the room for what lay there goes back.
+fn compact(alloc: Global, body: RegionData) -> RegionData
+    ensures same { SameThings body result }
+    ensures timely { IsTimely body → IsTimely result }
+{
+    if body.is_empty() {
+        new_data(alloc, body.tick, body.owed)
+    } else {
+        body
+    }
+}
+
 /// Takes out what lies in a bag, and the chunks to be handed out with it.
 pub fn take_out(alloc: Global, bags: &mut Vec<Slot>, id: usize) -> Taken
     requires { id < vec_len bags.old }
@@ -473,7 +485,7 @@ pub fn shift_bags(
 {
     let mut body = take_body(alloc, bags, from);
     let result = shift_into(bags, to, chunks, &mut body);
-    put_body(bags, from, body);
+    put_body(bags, from, compact(alloc, body));
     result
 }
 
