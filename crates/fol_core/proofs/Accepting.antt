@@ -36,7 +36,7 @@ use Rattle.fol_core.proofs.Added.{AddedBags, added_bags, gained_bags, off_owed}
 use Rattle.fol_core.proofs.GridRuns.{grid_after}
 use Rattle.fol_core.proofs.HandSteps.{hands_same, rest_same}
 use Rattle.fol_core.proofs.Held.{count_most}
-use Rattle.fol_core.proofs.AddBags.{calm_here}
+use Rattle.fol_core.proofs.AddBags.{calm_here, calm_home, calm_none}
 use Rattle.fol_core.proofs.GainedBags.{can_settle}
 use Rattle.fol_core.proofs.SettledBags.{settled_bags}
 use Rattle.fol_core.proofs.UnitedBags.{are_in_order}
@@ -50,6 +50,7 @@ disturbed_bag g tick owed recorded r c b is = record {
   counter = is.counter;
   owes = is.owes;
   listed = λ d w. is.listed d w;
+  since = is.since;
   out = is.out;
 }
 
@@ -89,6 +90,8 @@ module _ (t : Tables) (v : Contents) (w : World) (since : ℕ → ℕ) (r n : �
   settles : (h : ℕ → Bag) → ChangesTo (add_change g c) (bag_of t.store) h → CanSettle (is_loaded g c) (add_answer g c) (add g c) c home (changed_bags (add_change g c) (bag_of t.store)) h
   settles = can_settle g c u.ends.ending.sound.rules u.ends.ending.sound.grid limits (bag_of t.store) (λ q w d. (u.midway.stored.bags q).listed d w)
       (calm_here g c u.ends.ending.sound.rules u.ends.ending.sound.grid limits w.owed w.tick w.recorded (bag_of t.store) u.midway.stored.bags)
+      (calm_home g c u.ends.ending.sound.rules u.ends.ending.sound.grid limits w.owed w.tick w.recorded (bag_of t.store) u.midway.stored.bags)
+      (calm_none g c u.ends.ending.sound.rules u.ends.ending.sound.grid limits w.owed w.tick w.recorded (bag_of t.store) u.midway.stored.bags)
       (are_in_order g w.tick w.owed w.recorded (bag_of t.store) u.midway.stored.bags) known
 
   can_cover : CanCover t.agenda.items (add g c) (add_change g c) (followed (gaining g.grid g c) (add_change g c) (bag_of t.store))

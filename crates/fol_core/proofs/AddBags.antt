@@ -1,5 +1,5 @@
 -- The bags after an added hold.
-use Rattle.std.proofs.Common.{◌≡◌, ◌≢◌, ℕ, ◌+◌, ◌≤◌, ◌<◌, le_antisymm, refl, sym, ◌∙◌, ap, arith, Bool, true, false, inl, inr, List, [], ◌∷◌, ◌&&◌, not, filter}
+use Rattle.std.proofs.Common.{◌≡◌, ◌≢◌, ℕ, ◌+◌, ◌≤◌, ◌<◌, le_antisymm, refl, sym, ◌∙◌, ap, subst, arith, Bool, true, false, inl, inr, List, [], ◌∷◌, ◌&&◌, not, filter}
 use Rattle.std.specs.Prelude.{nat_eq, nat_lt}
 use Rattle.std.proofs.Math.Path.{fun_ext}
 use Rattle.std.proofs.lemmas.Bool.{cases_Bool, cases_eq, eqb-true, eqb-false, eq-eqb, ne_eqb, ltb-true, lt-ltb, and_parts, and_from, not-true, true≢false, false_from_ne_true}
@@ -29,9 +29,10 @@ use Rattle.fol_laws.proofs.Tests.{same_answer}
 use Rattle.fol_regions.specs.Changes.{drawn_in, into}
 use Rattle.fol_store.specs.Bag.{Bag, new_bag, no_bag}
 use Rattle.fol_core.specs.Hands.{rests}
-use Rattle.fol_core.specs.Bags.{CanJoin, IsBagOf, joined_bags}
+use Rattle.fol_core.specs.Bags.{AreBut, CanJoin, IsBagOf, joined_bags}
 use Rattle.fol_core.proofs.JoinedBags.{Apart, among, can_join, in_filter, joined_into, sorted_apart}
-use Rattle.fol_core.proofs.UnsettledBags.{IsBagBut, not_dead}
+use Rattle.fol_core.proofs.KeptUp.{exact, keeps_exact}
+use Rattle.fol_core.proofs.UnsettledBags.{IsBagBut, not_dead, rests_home}
 
 pub filter_none : {X : Type 0} (p : X → Bool) (xs : List X) → ((x : X) → p x ≡ false) → filter p xs ≡ []
 filter_none p [] h = refl
@@ -143,6 +144,7 @@ module _ (g : GridState) (c : ChunkPos) (rules : Rules g) (ok : IsGrid g.grid) (
     pub counter : (h t).tick ≡ tick t
     pub owes : (h t).owed ≡ greatest_below (is_near_calm g c) owed g.next
     pub listed : ext.owner home ≢ t → (h t).listed ≡ true → (h t).chunks ≡ filter (is_chunk_of ext t) all_chunks
+    pub since : (h t).since ≡ []
 
   target_rests : (target_state g c ≢ Ticking) × (target_state g c ≢ Dead)
   target_rests = elim (cases_Bool (some_below (target_waits g c) g.next)) [ inl w ↦ rw w ((λ e. absurd (cc)), (λ e. absurd (cc))) | inr w ↦ rw w ((λ e. absurd (cc)), (λ e. absurd (cc))) ]
@@ -164,6 +166,7 @@ module _ (g : GridState) (c : ChunkPos) (rules : Rules g) (ok : IsGrid g.grid) (
         let same = present_stays (section_of g.grid q) here (none (g.owner (section_of g.grid q))) in
         let below : g.owner (section_of g.grid q) < g.next = rules.below_next (g.owner (section_of g.grid q)) (rules.owner_lives (section_of g.grid q) here) in
         omega arith)));
+    since = ap (λ (b : Bag). b.since) at;
   }
 
   module _ (owed tick : ℕ → ℕ) (recorded : ℕ → Recorded) (f : ℕ → Bag) (bags : (r : ℕ) → IsBagOf g tick owed recorded r (f r)) where
@@ -172,6 +175,12 @@ module _ (g : GridState) (c : ChunkPos) (rules : Rules g) (ok : IsGrid g.grid) (
 
     pub calm_here : (r : ℕ) → is_near_calm g c r ≡ true → (f r).here ≡ true
     calm_here r k = (bags r).here ∙ calm_rests r k
+
+    pub calm_home : (r : ℕ) → is_near_calm g c r ≡ true → (f r).taken ≡ false
+    calm_home r k = (bags r).taken ∙ rests_home (g.state r) (calm_rests r k)
+
+    pub calm_none : (r : ℕ) → is_near_calm g c r ≡ true → (f r).since ≡ []
+    calm_none r k = (bags r).since (calm_rests r k)
 
     -- the target is near and calm: others join it
     pub changed_old : is_near_calm g c t ≡ true → ChangedTo owed tick f (joined_bags (into t drawn) f)
@@ -202,10 +211,11 @@ module _ (g : GridState) (c : ChunkPos) (rules : Rules g) (ok : IsGrid g.grid) (
                 | inl e ↦ e
                 | inr d ↦ absurd (true≢false (sym (among_drawn r d m) ∙ ap (among r) z.0))
               ] in
-              j.chunks ∙ (bags t).listed (near_lives g c rules ok limits t (and_parts (is_near g c t) (not (is_ticking (g.state t))) k).0) z.1 ∙ sym (same_filter (is_chunk_of ext t) (is_chunk_of g t) all_chunks (chunks_stay t
+              j.chunks ∙ exact (f t).since (f t).chunks (is_chunk_of g t) ((bags t).listed (near_lives g c rules ok limits t (and_parts (is_near g c t) (not (is_ticking (g.state t))) k).0) z.1) ((bags t).since here) ∙ sym (same_filter (is_chunk_of ext t) (is_chunk_of g t) all_chunks (chunks_stay t
               (λ s p e. elim (cases_Bool (is_near_calm g c (g.owner s))) [ inl m ↦ only (g.owner s) m | inr m ↦ sym (present_stays s p m) ∙ e ])
               (λ s p e. present_joins s (ap (is_near_calm g c) e ∙ k))
               away));
+          since = j.since ∙ (bags t).since here;
         }
 
     -- each region has its bag after them
@@ -221,7 +231,8 @@ module _ (g : GridState) (c : ChunkPos) (rules : Rules g) (ok : IsGrid g.grid) (
             taken = ch.taken ∙ sym still;
             counter = λ x. ch.counter;
             owes = λ x. ch.owes ∙ sym most;
-            listed = λ d away w. ch.listed away w;
+            listed = λ d away w. keeps_exact (h t).since (h t).chunks (is_chunk_of ext t) (ch.listed away w);
+            since = λ x. ch.since;
             out = λ x. absurd (quiet.0 (sym target ∙ x));
           })
       | inr d ↦ elim (cases_Bool (is_near_calm g c r)) [
@@ -234,6 +245,7 @@ module _ (g : GridState) (c : ChunkPos) (rules : Rules g) (ok : IsGrid g.grid) (
               counter = λ x. absurd (true≢false (sym x ∙ rw dead refl));
               owes = λ x. absurd (true≢false (sym x ∙ rw dead refl));
               listed = λ x. absurd (x dead);
+              since = λ x. ap (λ (b : Bag). b.since) none;
               out = λ x. absurd (dead_ticks (sym dead ∙ x));
             }
         | inr k ↦ let stays : Stays g c rules ok limits r = record { apart = d; calm = k } in
@@ -245,7 +257,8 @@ module _ (g : GridState) (c : ChunkPos) (rules : Rules g) (ok : IsGrid g.grid) (
               taken = b.taken ∙ rw state refl;
               counter = λ x. b.counter (rw state at x);
               owes = λ x. b.owes (rw state at x) ∙ sym (same r d);
-              listed = λ l away w. let l' : g.state r ≢ Dead = λ x. l (state ∙ x) in b.listed l' w ∙ sym (same_filter (is_chunk_of ext r) (is_chunk_of g r) all_chunks (other_chunks r l' stays away));
+              listed = λ l away w. let l' : g.state r ≢ Dead = λ x. l (state ∙ x) in subst (AreBut (f r).since (f r).chunks) (sym (same_filter (is_chunk_of ext r) (is_chunk_of g r) all_chunks (other_chunks r l' stays away))) (b.listed l' w);
+              since = λ x. b.since (rw state at x);
               out = λ x. b.out (sym state ∙ x);
             })
       ]

@@ -1,5 +1,5 @@
 -- An added hold: bags, counters and stack after it.
-use Rattle.std.proofs.Common.{◌≡◌, ◌≢◌, ℕ, ◌+◌, ◌≤◌, ◌<◌, refl, sym, ◌∙◌, ap, arith, true, false, inl, inr, ◌⊎◌, List, [], ◌∷◌, ◌++◌, length, ◌&&◌, not}
+use Rattle.std.proofs.Common.{◌≡◌, ◌≢◌, ℕ, ◌+◌, ◌≤◌, ◌<◌, refl, sym, ◌∙◌, ap, subst, arith, true, false, inl, inr, ◌⊎◌, List, [], ◌∷◌, ◌++◌, length, ◌&&◌, not}
 use Rattle.std.specs.Prelude.{nat_eq, nat_lt}
 use Rattle.std.proofs.lemmas.Bool.{cases_Bool, cases_eq, eqb-true, eq-eqb, ne_eqb, leb-true, lt-ltb, ltb-true, and_parts, and_from, and_right, or_right, true≢false}
 use Rattle.fol_model.specs.declared.places.ChunkPos.{ChunkPos}
@@ -23,7 +23,7 @@ use Rattle.fol_laws.proofs.NumbersBelow.{some_below-is, some_below-gives}
 use Rattle.fol_laws.proofs.SamePlaces.{same_chunk-true}
 use Rattle.fol_regions.specs.Changes.{Changes, add_change, drawn_in, into, nothing}
 use Rattle.fol_store.specs.Bag.{Bag, new_bag}
-use Rattle.fol_core.specs.Bags.{CanJoin, IsBagOf, Follow, joined_bags, opened_bags, unsettled_at}
+use Rattle.fol_core.specs.Bags.{AreBut, CanJoin, IsBagOf, Follow, joined_bags, opened_bags, unsettled_at}
 use Rattle.fol_core.specs.Agenda.{Covers, owes}
 use Rattle.fol_core.specs.Follows.{changed_bags, followed, gaining, target_in}
 use Rattle.fol_core.proofs.JoinedBags.{among, behind, in_front, joined_into}
@@ -130,7 +130,7 @@ module _ (g : GridState) (c : ChunkPos) (rules : Rules g) (ok : IsGrid g.grid) (
   module _ (owed tick : ℕ → ℕ) (recorded : ℕ → Recorded) (f : ℕ → Bag) (bags : (r : ℕ) → IsBagOf g tick owed recorded r (f r)) (zero : (r : ℕ) → g.next ≤ r → tick r ≡ 0) where
     -- a region that owes what it owed
     owes_same : (owed' : ℕ → ℕ) → ((r : ℕ) → owed' r ≡ owed r) → (r : ℕ) → IsBagOf g tick owed' recorded r (f r)
-    owes_same owed' same r = let b = bags r in record { here = b.here; taken = b.taken; counter = b.counter; owes = λ x. b.owes x ∙ sym (same r); listed = b.listed; out = b.out }
+    owes_same owed' same r = let b = bags r in record { here = b.here; taken = b.taken; counter = b.counter; owes = λ x. b.owes x ∙ sym (same r); listed = b.listed; since = b.since; out = b.out }
 
     full_bags : (owed' : ℕ → ℕ) → ((r : ℕ) → owed' r ≡ owed r) → AddedBags g g c nothing owed owed' tick recorded f
     full_bags owed' same = record {
@@ -173,7 +173,8 @@ module _ (g : GridState) (c : ChunkPos) (rules : Rules g) (ok : IsGrid g.grid) (
         taken = b.taken;
         counter = b.counter;
         owes = b.owes;
-        listed = λ d away w. b.listed d w ∙ sym (same_filter (is_chunk_of (counted g c) r) (is_chunk_of g r) all_chunks (counted_chunks r away));
+        listed = λ d away w. subst (AreBut (f r).since (f r).chunks) (sym (same_filter (is_chunk_of (counted g c) r) (is_chunk_of g r) all_chunks (counted_chunks r away))) (b.listed d w);
+        since = b.since;
         out = b.out;
       };
       held = λ l r. let b = owes_same owed' same r in record {
@@ -181,7 +182,8 @@ module _ (g : GridState) (c : ChunkPos) (rules : Rules g) (ok : IsGrid g.grid) (
         taken = b.taken;
         counter = b.counter;
         owes = b.owes;
-        listed = λ d w. b.listed d w ∙ sym (same_filter (is_chunk_of (counted g c) r) (is_chunk_of g r) all_chunks (same_chunks l r));
+        listed = λ d w. subst (AreBut (f r).since (f r).chunks) (sym (same_filter (is_chunk_of (counted g c) r) (is_chunk_of g r) all_chunks (same_chunks l r))) (b.listed d w);
+        since = b.since;
         out = b.out;
       };
       follow = tt;

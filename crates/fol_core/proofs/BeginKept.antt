@@ -32,7 +32,7 @@ use Rattle.fol_store.specs.Stock.{bag_of, flat_of, jobs_of, next_of}
 use Rattle.fol_core.specs.declared.tables.Course.{Course}
 use Rattle.fol_core.specs.declared.tables.Tables.{Tables}
 use Rattle.fol_core.specs.Agenda.{Covers, HaveBags, IsAgenda, owes}
-use Rattle.fol_core.specs.Bags.{IsBagOf}
+use Rattle.fol_core.specs.Bags.{AreBut, IsBagOf}
 use Rattle.fol_core.specs.Begun.{due_task, left_job}
 use Rattle.fol_core.specs.Hands.{at_rest, in_hands, since}
 use Rattle.fol_core.specs.declared.machine.Room.{Room}
@@ -46,9 +46,10 @@ use Rattle.fol_core.proofs.BegunHands.{due_is, hands_after, left_is, not_in_hand
 use Rattle.fol_core.proofs.ChunkLists.{kept_listed, loaded_within, owned}
 use Rattle.fol_core.proofs.DueLists.{due_is_list, due_number}
 use Rattle.fol_core.proofs.GatheredBags.{ready_now}
+use Rattle.fol_core.proofs.KeptUp.{keeps_exact}
 use Rattle.fol_core.proofs.LoadKept.{SameMarks}
 use Rattle.fol_core.proofs.Longer.{good_of}
-use Rattle.fol_core.proofs.UnsettledBags.{have_bags}
+use Rattle.fol_core.proofs.UnsettledBags.{exact_bag, have_bags}
 
 state_else : (g : GridState) (id r : ℕ) → r ≢ id → (begin g id).state r ≡ g.state r
 unfolding begin
@@ -70,14 +71,15 @@ begun_bag : (g : GridState) (id : ℕ) (tick owed : ℕ → ℕ) (recorded : ℕ
 begun_bag g id tick owed recorded n f ready listed is r = elim (cases_eq r id) [
   | inl e ↦ let ticks = begin_here g id in
       let here = at_here f id (taken_out (f id)) in
-      let old = (is id).listed (λ d. cc) listed in
+      let old = exact_bag g tick owed recorded id (f id) (is id) (λ d. cc) (rw ready refl) listed in
       let rec = at_here recorded id (λ c. is_loaded g c && nat_eq (g.owner (section_of g.grid c)) id) in
       rw (e, here) (record {
         here = rw ticks refl;
         taken = rw ticks refl;
         counter = λ x. absurd (true≢false (sym x ∙ rw ticks refl));
         owes = λ x. absurd (true≢false (sym x ∙ rw ticks refl));
-        listed = λ d x. old ∙ ap (λ p. filter p all_chunks) (sym (same_chunks g id id));
+        listed = λ d x. keeps_exact (f id).since (f id).chunks (is_chunk_of (begin g id) id) (old ∙ ap (λ p. filter p all_chunks) (sym (same_chunks g id id)));
+        since = λ x. absurd (true≢false (sym x ∙ rw ticks refl));
         out = λ x. old ∙ ap (λ p. filter p all_chunks) (sym rec);
       })
   | inr d ↦ let state = state_else g id r d in
@@ -90,7 +92,8 @@ begun_bag g id tick owed recorded n f ready listed is r = elim (cases_eq r id) [
         taken = b.taken ∙ rw state refl;
         counter = λ x. b.counter (rw state at x);
         owes = λ x. b.owes (rw state at x) ∙ sym o;
-        listed = λ l x. b.listed (λ y. l (state ∙ y)) x ∙ ap (λ p. filter p all_chunks) (sym (same_chunks g id r));
+        listed = λ l x. subst (AreBut (f r).since (f r).chunks) (ap (λ p. filter p all_chunks) (sym (same_chunks g id r))) (b.listed (λ y. l (state ∙ y)) x);
+        since = λ x. b.since (rw state at x);
         out = λ x. b.out (sym state ∙ x) ∙ ap (λ p. filter p all_chunks) (sym rec);
       })
 ]
@@ -124,8 +127,12 @@ module _ (o : Opening) (h : List Entry) (t : Tables) (s : Stands o h t) (id : �
     positive : 0 < id
     positive = good.sound.rules.given id (λ d. let r = ready in cc)
 
+    pub its_chunks : (bag_of t.store id).chunks ≡ filter (is_chunk_of (world o h).grid id) all_chunks
+    its_chunks = let r = ready in
+        exact_bag (world o h).grid (world o h).tick (world o h).owed (world o h).recorded id (bag_of t.store id) (s.fits.stored.bags id) (λ d. cc) (rw r refl) settled
+
     recs : is_recorded (bag_of t.store id).chunks ≡ is_chunk_of (world o h).grid id
-    recs = ap is_recorded ((s.fits.stored.bags id).listed (λ d. let r = ready in cc) settled) ∙ kept_listed (is_chunk_of (world o h).grid id) (loaded_within (world o h).grid id good.sound.rules)
+    recs = ap is_recorded its_chunks ∙ kept_listed (is_chunk_of (world o h).grid id) (loaded_within (world o h).grid id good.sound.rules)
 
     loaded_job : (n : ℕ) (j : Job) → (world o h).jobs n ≡ Some j → is_loaded (world o h).grid j.chunk ≡ true
     loaded_job n j e = lt-ltb 0 ((world o h).grid.holds j.chunk) (chunk_held (world o h) n j good.sound e)

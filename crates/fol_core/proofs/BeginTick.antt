@@ -26,7 +26,7 @@ use Rattle.fol_core.specs.Answers.{is_over, is_owing}
 use Rattle.fol_core.specs.Begun.{due_task, left_job}
 use Rattle.fol_core.specs.Stands.{Stands}
 use Rattle.fol_core.specs.Ticks.{IsTick}
-use Rattle.fol_core.proofs.BeginKept.{begin_contents, begin_due, begin_fits, begin_left, begun_marks}
+use Rattle.fol_core.proofs.BeginKept.{begin_contents, begin_due, begin_fits, begin_left, begun_marks, its_chunks}
 use Rattle.fol_core.proofs.GatheredBags.{ready_here, ready_now}
 use Rattle.fol_core.proofs.LoadKept.{course_more}
 use Rattle.fol_core.proofs.Longer.{stands_more}
@@ -74,7 +74,7 @@ module _ (o : Opening) (h : List Entry) (t : Tables) (s : Stands o h t) (id : �
     region = r;
     begun = b;
     of = record {
-      chunks = rw r (chunks ∙ (s.fits.stored.bags id).listed (λ d. let e = ready_now o h t s id owing in cc) settled);
+      chunks = rw r (chunks ∙ its_chunks o h t s id owing settled);
       due = rw (w, r) (begin_due o h t s id owing settled worker tick.due rises due');
       counter = rw r (counter ∙ counts_now);
       owed = rw r (owed ∙ ap (λ n. n - 1) rests_now);

@@ -7,7 +7,7 @@ use Rattle.std.proofs.Math.Path.{fun_ext}
 use Rattle.std.proofs.lemmas.Bool.{cases_Bool, eqb-true, and_parts, ltb-true}
 use Rattle.std.proofs.lemmas.List.{append-nil}
 use Rattle.fol_model.specs.declared.places.ChunkPos.{ChunkPos}
-use Rattle.fol_model.specs.declared.regions.State.TheVariants.{Ticking}
+use Rattle.fol_model.specs.declared.regions.State.TheVariants.{Dead, Ticking}
 use Rattle.fol_model.specs.declared.openings.Opening.{Opening}
 use Rattle.fol_model.specs.declared.tasks.Wish.{Wish}
 use Rattle.fol_model.specs.declared.events.Accept.{Accept}
@@ -16,6 +16,7 @@ use Rattle.fol_model.specs.declared.events.Event.TheVariants.{End}
 use Rattle.fol_model.specs.Geometry.{chunk_of}
 use Rattle.fol_model.specs.GridState.{GridState, is_ticking}
 use Rattle.fol_model.specs.Universe.{all_chunks}
+use Rattle.fol_model.specs.Outputs.{is_chunk_of}
 use Rattle.fol_model.specs.Counters.{owed_after_release, tick_after_release}
 use Rattle.fol_model.specs.Release.{release}
 use Rattle.fol_model.specs.ActionStep.{Flat, Recorded, Standing}
@@ -43,14 +44,16 @@ use Rattle.fol_data.specs.declared.region_data.RegionData.{RegionData}
 use Rattle.fol_data.specs.Rests.{IsInTime, rests_of}
 use Rattle.fol_regions.specs.Table.{grid_state}
 use Rattle.fol_regions.specs.Changes.{release_change}
+use Rattle.fol_store.specs.Relisted.{IsInOrder}
 use Rattle.fol_store.specs.Stock.{bag_of, flat_of, jobs_of, next_of}
 use Rattle.fol_core.specs.declared.tables.Tables.{Tables}
 use Rattle.fol_core.specs.Answers.{end_event}
 use Rattle.fol_core.specs.AtEnd.{AtEnd}
+use Rattle.fol_core.specs.Bags.{KeepsUp}
 use Rattle.fol_core.specs.Hands.{at_rest, in_hands, since}
 use Rattle.fol_core.specs.Follows.{Settle}
 use Rattle.fol_core.specs.Released.{CanEnd, CanRelease, DropsHolds, EndsRegion, Loosens, heirs, parts_in, released_bags}
-use Rattle.fol_core.proofs.ReturnedBags.{back_order, returned_settle}
+use Rattle.fol_core.proofs.ReturnedBags.{back_joins, back_order, returned_settle}
 use Rattle.fol_core.proofs.SettledBags.{settled_bags}
 use Rattle.fol_core.specs.Stands.{Fits, Stands}
 use Rattle.fol_core.specs.Ticks.{IsOut}
@@ -119,6 +122,10 @@ module _ (t : Tables) (tick : Tick) (o : Opening) (h : List Entry) (m : Option �
 
   pub taken : (bag_of t.store r).taken ≡ true
   taken = (s.fits.stored.bags r).taken ∙ ap is_ticking at.ticks
+
+  -- the bag of its region is in order
+  pub in_order : IsInOrder (bag_of t.store r)
+  in_order w = ((s.fits.stored.bags r).listed (λ d. let x : Ticking ≡ Dead = sym at.ticks ∙ d in absurd (cc)) w).order
 
   -- the event, where these are the answers
   pub end_is : (old new listed : List Accept) → old ≡ [] → new ≡ old ++ answers v tick.log.wishes → listed ≡ new
@@ -304,9 +311,12 @@ module _ (t : Tables) (tick : Tick) (o : Opening) (h : List Entry) (m : Option �
     unfolding dropped
     owed_now = at.owed ∙ sym (all_owe (w.recorded r) v tick.log.wishes r r down_ending down_ending.ticks all_ok)
 
+    back_follows : (bag_of t2.store r).listed ≡ true → KeepsUp (bag_of t2.store r) (filter (is_chunk_of g r) all_chunks)
+    back_follows w = (u.midway.stored.bags r).listed (λ d. let x : Ticking ≡ Dead = sym u.ends.ending.ticks ∙ d in absurd (cc)) w
+
     can_now : CanRelease t2.store t2.agenda.items g r (z.tick r) (z.owed r)
     can_now = record {
-      joins = to.joins;
+      joins = λ b is. back_joins g r u.ends.ending.sound.rules u.ends.ending.sound.grid u.ends.ending.ticks z.tick z.owed z.recorded (bag_of t2.store) u.midway.stored.bags b is (release_change g r).merges to.joins;
       order = back_order g r u.ends.ending.sound.rules u.ends.ending.sound.grid u.ends.ending.ticks z.tick z.owed z.recorded (bag_of t2.store) u.midway.stored.bags;
       settles = returned_settle g r u.ends.ending.sound.rules u.ends.ending.sound.grid u.ends.ending.ticks z.tick z.owed z.recorded (bag_of t2.store) u.midway.stored.bags;
       follow = rw u.midway.stored.next to.follow;
@@ -328,6 +338,9 @@ module _ (t : Tables) (tick : Tick) (o : Opening) (h : List Entry) (m : Option �
       few_ids = few_ids;
       out = still_taken;
       chunks = its_chunks;
+      grid = u.midway.grid ∙ ap (λ (i : GridState). i.grid) (sym u.midway.regions);
+      rules = rw u.midway.regions u.ends.ending.sound.rules;
+      follows = rw u.midway.regions back_follows;
       bound = bound;
       in_time = are_in_time;
       contents_there = contents_there;

@@ -24,7 +24,7 @@ use Rattle.fol_regions.specs.Changes.{Changes, add_change, drawn_in, into, nothi
 use Rattle.fol_chunks.specs.Contents.{is_recorded}
 use Rattle.fol_store.specs.Bag.{Bag, new_bag}
 use Rattle.fol_store.specs.Relisted.{IsInOrder}
-use Rattle.fol_core.specs.Bags.{Alike, AreInOrder, joined_bags, unsettled_at}
+use Rattle.fol_core.specs.Bags.{Alike, AreInOrder, KeepsUp, joined_bags, unsettled_at}
 use Rattle.fol_core.specs.Begun.{Gathered}
 use Rattle.fol_core.specs.Follows.{CanGain, CanSettle, ChangesTo, IsKnown, Settle, Widens, changed_bags}
 use Rattle.fol_core.proofs.AddBags as parts
@@ -32,6 +32,7 @@ use Rattle.fol_core.proofs.AddBags.{filter_none}
 use Rattle.fol_core.proofs.Added.{add_counted, add_ext, add_full, change_counted, change_full, change_new, change_old, none_wanted}
 use Rattle.fol_core.proofs.ChunkLists.{in_all, listed}
 use Rattle.fol_core.proofs.JoinedBags.{JoinedInto, among, joined_into}
+use Rattle.fol_core.proofs.KeptUp.{exact}
 use Rattle.fol_core.proofs.SettledBags.{gathered_self, widens, widens_alone}
 use Rattle.fol_core.proofs.UnitedBags.{IsPart, UnitedInto, alike_self, gathered_alike, gathered_then, joins_order, opened_order, union, union_list, united_into}
 
@@ -49,6 +50,7 @@ settled_on g n f h k others own s r = elim (cases_Bool (nat_lt 0 n)) [
           counter = x.counter ∙ own.counter;
           owes = x.owes ∙ own.owes;
           listed = λ w. elim (x.listed w) [ inl y ↦ absurd (true≢false (sym y.0)) | inr y ↦ inr y ];
+          since = λ t. x.since (own.taken ∙ t) ∙ own.since t;
           out = λ t. x.out (own.taken ∙ t) ∙ own.out t;
         })
   ]
@@ -69,7 +71,8 @@ module _ (g : GridState) (c : ChunkPos) (rules : Rules g) (ok : IsGrid g.grid) (
 
   -- ---- regions come and join: k before the joins, h after them
   module _ (grows : nat_eq (wanted g c) 0 ≡ false) (k h : ℕ → Bag)
-      (is : (r : ℕ) → r ≢ t → (k r).listed ≡ true → g.state r ≢ Dead → (k r).chunks ≡ filter (is_chunk_of g r) all_chunks)
+      (is : (r : ℕ) → r ≢ t → (k r).listed ≡ true → g.state r ≢ Dead → KeepsUp (k r) (filter (is_chunk_of g r) all_chunks))
+      (none_noted : (r : ℕ) → r ≢ t → is_near_calm g c r ≡ true → (k r).since ≡ [])
       (own : (k t).listed ≡ true → (k t).chunks ≡ filter (is_chunk_of g t) all_chunks)
       (u : UnitedInto t drawn k h) (order : IsInOrder (h t)) (answer : AddAnswer) where
     abbrev base : ℕ → Bag
@@ -80,7 +83,9 @@ module _ (g : GridState) (c : ChunkPos) (rules : Rules g) (ok : IsGrid g.grid) (
 
     is_part : (r : ℕ) → IsPart t drawn r → (k r).listed ≡ true → (k r).chunks ≡ filter (is_chunk_of g r) all_chunks
     is_part r (inl e) w = let P : ℕ → Type 0 = λ n. (k n).listed ≡ true → (k n).chunks ≡ filter (is_chunk_of g n) all_chunks in subst P (sym e) own w
-    is_part r (inr m) w = let x = parts.drawn_calm g c rules ok limits r m in is r x.1 w (near_lives g c rules ok limits r (and_parts (is_near g c r) (not (is_ticking (g.state r))) x.0).0)
+    is_part r (inr m) w =
+        let x = parts.drawn_calm g c rules ok limits r m in
+        exact (k r).since (k r).chunks (is_chunk_of g r) (is r x.1 w (near_lives g c rules ok limits r (and_parts (is_near g c r) (not (is_ticking (g.state r))) x.0).0)) (none_noted r x.1 x.0)
 
     joins_t : (s : SectionPos) → 0 < g.owner s → IsPart t drawn (g.owner s) → ext.owner s ≡ t
     joins_t s p (inl e) = elim (target_is g c rules ok limits) [
@@ -145,6 +150,7 @@ module _ (g : GridState) (c : ChunkPos) (rules : Rules g) (ok : IsGrid g.grid) (
       taken = u.taken ∙ sym j.taken;
       counter = u.counter ∙ sym j.counter;
       owes = u.owes;
+      since = λ x. u.since (sym j.taken ∙ x) ∙ sym j.since;
       out = λ x. u.out (sym j.taken ∙ x) ∙ sym j.chunks;
     }
 
@@ -181,7 +187,7 @@ module _ (g : GridState) (c : ChunkPos) (rules : Rules g) (ok : IsGrid g.grid) (
     widens_t : home ≡ t → Widens ext c t (h t)
     widens_t e w = (
       order w,
-      λ q.
+      λ q n.
           ap (λ z. z || same_chunk c q) (union g t drawn k h u is_part w most most_back most_there q ∙ listed most all_chunks q)
           ∙ come q
           ∙ sym (listed (is_chunk_of ext t) all_chunks q),
@@ -233,8 +239,8 @@ module _ (g : GridState) (c : ChunkPos) (rules : Rules g) (ok : IsGrid g.grid) (
     }
 
   -- ---- all of it, where f is before the change
-  module _ (f : ℕ → Bag) (is : (r : ℕ) → (f r).listed ≡ true → g.state r ≢ Dead → (f r).chunks ≡ filter (is_chunk_of g r) all_chunks) (here : (r : ℕ) → is_near_calm g c r ≡ true → (f r).here ≡ true)
-      (order : AreInOrder f) where
+  module _ (f : ℕ → Bag) (is : (r : ℕ) → (f r).listed ≡ true → g.state r ≢ Dead → KeepsUp (f r) (filter (is_chunk_of g r) all_chunks)) (here : (r : ℕ) → is_near_calm g c r ≡ true → (f r).here ≡ true)
+      (home_calm : (r : ℕ) → is_near_calm g c r ≡ true → (f r).taken ≡ false) (none_noted : (r : ℕ) → is_near_calm g c r ≡ true → (f r).since ≡ []) (order : AreInOrder f) where
     abbrev Goal : GridState → Changes → AddAnswer → Type 0
     Goal i ch a = IsKnown (changed_bags ch f) (i.owner (section_of g.grid c)) → (h : ℕ → Bag) → ChangesTo ch f h → CanSettle (is_loaded g c) a i c (i.owner (section_of g.grid c)) (changed_bags ch f) h
 
@@ -257,24 +263,28 @@ module _ (g : GridState) (c : ChunkPos) (rules : Rules g) (ok : IsGrid g.grid) (
 
     grown_old : nat_eq (wanted g c) 0 ≡ false → is_near_calm g c t ≡ true → Goal ext (record { created = []; dead = drawn; merges = into t drawn; parts = [] }) Changed
     grown_old grows m known h j =
-        let u = united_into t drawn f h (parts.t_not_drawn g c rules ok limits) (parts.drawn_apart g c rules ok limits) j in
-        grown_settles grows f h (λ r d. is r) (λ w. is t w (near_lives g c rules ok limits t (and_parts (is_near g c t) (not (is_ticking (g.state t))) m).0))
+        let u = united_into t drawn f h (home_calm t m) (none_noted t m) (parts.t_not_drawn g c rules ok limits) (parts.drawn_apart g c rules ok limits) j in
+        grown_settles grows f h (λ r d. is r) (λ r d. none_noted r)
+        (λ w. exact (f t).since (f t).chunks (is_chunk_of g t) (is t w (near_lives g c rules ok limits t (and_parts (is_near g c t) (not (is_ticking (g.state t))) m).0)) (none_noted t m))
         u (joins_order (into t drawn) f h order j t (u.here ∙ here t m)) Changed known
 
     grown_new : nat_eq (wanted g c) 0 ≡ false → t ≡ g.next → Goal ext (record { created = g.next ∷ []; dead = drawn; merges = into t drawn; parts = [] }) Changed
-    grown_new grows e known h j = grown_settles grows k h old (λ w. own) u (joins_order (into t drawn) k h (opened_order 0 0 (g.next ∷ []) f order) j t (u.here ∙ ap (λ (b : Bag). b.here) at)) Changed known
+    grown_new grows e known h j = grown_settles grows k h old old_none (λ w. own) u (joins_order (into t drawn) k h (opened_order 0 0 (g.next ∷ []) f order) j t (u.here ∙ ap (λ (b : Bag). b.here) at)) Changed known
       where
         k : ℕ → Bag
         k = at_id f g.next (new_bag 0 0)
 
-        u : UnitedInto t drawn k h
-        u = united_into t drawn k h (parts.t_not_drawn g c rules ok limits) (parts.drawn_apart g c rules ok limits) j
-
         at : k t ≡ new_bag 0 0
         at = ap k e ∙ at_here f g.next (new_bag 0 0)
 
-        old : (r : ℕ) → r ≢ t → (k r).listed ≡ true → g.state r ≢ Dead → (k r).chunks ≡ filter (is_chunk_of g r) all_chunks
-        old r d = let P : Bag → Type 0 = λ b. b.listed ≡ true → g.state r ≢ Dead → b.chunks ≡ filter (is_chunk_of g r) all_chunks in
+        u : UnitedInto t drawn k h
+        u = united_into t drawn k h (ap (λ (b : Bag). b.taken) at) (ap (λ (b : Bag). b.since) at) (parts.t_not_drawn g c rules ok limits) (parts.drawn_apart g c rules ok limits) j
+
+        old_none : (r : ℕ) → r ≢ t → is_near_calm g c r ≡ true → (k r).since ≡ []
+        old_none r d m = ap (λ (b : Bag). b.since) (at_other f g.next (new_bag 0 0) r (λ x. d (x ∙ sym e))) ∙ none_noted r m
+
+        old : (r : ℕ) → r ≢ t → (k r).listed ≡ true → g.state r ≢ Dead → KeepsUp (k r) (filter (is_chunk_of g r) all_chunks)
+        old r d = let P : Bag → Type 0 = λ b. b.listed ≡ true → g.state r ≢ Dead → KeepsUp b (filter (is_chunk_of g r) all_chunks) in
             subst P (sym (at_other f g.next (new_bag 0 0) r (λ x. d (x ∙ sym e)))) (is r)
 
         own : (k t).chunks ≡ filter (is_chunk_of g t) all_chunks

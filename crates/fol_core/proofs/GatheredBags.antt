@@ -1,10 +1,11 @@
 -- A gathering leaves what the tables stand for.
-use Rattle.std.proofs.Common.{◌≡◌, ℕ, refl, sym, ◌∙◌, ap, true, false, inl, inr, List, filter}
-use Rattle.std.specs.Prelude.{nat_lt}
-use Rattle.std.proofs.lemmas.Bool.{and_parts, true≢false, false_from_ne_true}
+use Rattle.std.proofs.Common.{◌≡◌, ℕ, refl, sym, ◌∙◌, ap, subst, true, false, inl, inr, List, filter}
+use Rattle.std.specs.Prelude.{nat_lt, Result, Ok, Err, OnOk, OnErr}
+use Rattle.std.proofs.lemmas.Bool.{and_parts, cases_eq, true≢false, false_from_ne_true}
 use Rattle.fol_model.specs.declared.regions.State.{State}
 use Rattle.fol_model.specs.declared.regions.State.TheVariants.{Transient, Ready, Ticking, Dead}
 use Rattle.fol_model.specs.declared.openings.Opening.{Opening}
+use Rattle.fol_model.specs.declared.places.ChunkPos.{ChunkPos}
 use Rattle.fol_model.specs.declared.events.Entry.{Entry}
 use Rattle.fol_model.specs.Geometry.{section_of}
 use Rattle.fol_model.specs.Universe.{all_chunks}
@@ -18,7 +19,7 @@ use Rattle.fol_laws.proofs.UnseenEnds.{recorded_owner}
 use Rattle.fol_chunks.specs.Contents.{is_recorded}
 use Rattle.fol_regions.specs.Table.{grid_state}
 use Rattle.fol_store.specs.Bag.{Bag}
-use Rattle.fol_store.specs.Gathered.{AreFree}
+use Rattle.fol_store.specs.Gathered.{AreFree, OthersSpared, Spared, Touched}
 use Rattle.fol_store.specs.Stock.{Stock, bag_of, next_of}
 use Rattle.fol_core.specs.declared.tables.Tables.{Tables}
 use Rattle.fol_core.specs.Agenda.{IsAgenda, owes}
@@ -27,7 +28,9 @@ use Rattle.fol_core.specs.Begun.{Gathered}
 use Rattle.fol_core.specs.Same.{SameThings}
 use Rattle.fol_core.specs.Stands.{Stands}
 use Rattle.fol_core.proofs.ChunkLists.{kept_passes, owned}
+use Rattle.fol_core.proofs.KeptUp.{keeps_exact, keeps_like}
 use Rattle.fol_core.proofs.Longer.{good_of}
+use Rattle.fol_core.proofs.UnsettledBags.{rests_home}
 
 pub is_ready-true : (s : State) → is_ready s ≡ true → s ≡ Ready
 is_ready-true Ready h = refl
@@ -41,9 +44,53 @@ gathered_bag g tick owed recorded r b c is e = record {
   taken = e.taken ∙ is.taken;
   counter = λ x. e.counter ∙ is.counter x;
   owes = λ x. e.owes ∙ is.owes x;
-  listed = λ d w. elim (e.listed w) [ inl k ↦ k.1 ∙ is.listed d k.0 | inr k ↦ k ];
+  listed = λ d w. elim (e.listed w) [ inl k ↦ keeps_like b.since c.since b.chunks c.chunks (filter (is_chunk_of g r) all_chunks) k.2 k.1 (is.listed d k.0) | inr k ↦ k ];
+  since = λ x. e.since (is.taken ∙ rests_home (g.state r) x) ∙ is.since x;
   out = λ x. e.out (is.taken ∙ rw x refl) ∙ is.out x;
 }
+
+-- ---- the bags after the store gathered that of region r
+touched_bag : (g : GridState) (r : ℕ) (a b : Bag) → a.taken ≡ false → Touched a b → Gathered g r a b
+touched_bag g r a b home t = record {
+  here = ap (λ (x : Bag). x.here) t.same;
+  taken = ap (λ (x : Bag). x.taken) t.same;
+  counter = ap (λ (x : Bag). x.tick) t.same;
+  owes = ap (λ (x : Bag). x.owed) t.same;
+  listed = λ w. let e = t.listed w in inl (ap (λ (x : Bag). x.listed) (sym e) ∙ w, ap (λ (x : Bag). x.chunks) e, ap (λ (x : Bag). x.since) e);
+  since = λ x. ap (λ (x : Bag). x.since) t.same;
+  out = λ x. absurd (true≢false (sym x ∙ home));
+}
+
+own_bag : {T E : Type 0} (o : Result T E) (g : GridState) (r : ℕ) (chunks : List ChunkPos) (a b : Bag) → chunks ≡ filter (is_chunk_of g r) all_chunks → a.taken ≡ false
+    → OnOk o (b ≡ record a { listed = true; calm = true; chunks = chunks }) → OnErr o (Touched a b) → Gathered g r a b
+own_bag (Ok x) g r chunks a b same home e t = record {
+  here = ap (λ (x : Bag). x.here) e;
+  taken = ap (λ (x : Bag). x.taken) e;
+  counter = ap (λ (x : Bag). x.tick) e;
+  owes = ap (λ (x : Bag). x.owed) e;
+  listed = λ w. inr (keeps_exact b.since b.chunks (is_chunk_of g r) (ap (λ (x : Bag). x.chunks) e ∙ same));
+  since = λ x. ap (λ (x : Bag). x.since) e;
+  out = λ x. absurd (true≢false (sym x ∙ home));
+}
+own_bag (Err x) g r chunks a b same home e t = touched_bag g r a b home t
+
+spared_bag : (g : GridState) (r : ℕ) (chunks : List ChunkPos) (a b : Bag) → Spared chunks a b → Gathered g r a b
+spared_bag g r chunks a b s = record {
+  here = ap (λ (x : Bag). x.here) s.same;
+  taken = ap (λ (x : Bag). x.taken) s.same;
+  counter = ap (λ (x : Bag). x.tick) s.same;
+  owes = ap (λ (x : Bag). x.owed) s.same;
+  listed = λ w. inl (s.lost w, ap (λ (x : Bag). x.chunks) s.same, ap (λ (x : Bag). x.since) s.same);
+  since = λ x. ap (λ (x : Bag). x.since) s.same;
+  out = λ x. ap (λ (x : Bag). x.chunks) s.same;
+}
+
+pub gathered_all : {T E : Type 0} (o : Result T E) (g : GridState) (id : ℕ) (chunks : List ChunkPos) (f k : ℕ → Bag) → chunks ≡ filter (is_chunk_of g id) all_chunks → (f id).taken ≡ false
+    → OnOk o (k id ≡ record (f id) { listed = true; calm = true; chunks = chunks }) → OnErr o (Touched (f id) (k id)) → OthersSpared id chunks f k → (r : ℕ) → Gathered g r (f r) (k r)
+gathered_all o g id chunks f k same home whole err others r = elim (cases_eq r id) [
+  | inl e ↦ let P : ℕ → Type 0 = λ n. Gathered g n (f n) (k n) in subst P (sym e) (own_bag o g id chunks (f id) (k id) same home whole err)
+  | inr d ↦ spared_bag g r chunks (f r) (k r) (others r d)
+]
 
 pub gathered_agenda : (xs : List ℕ) (g : GridState) (f h : ℕ → Bag) → ((r : ℕ) → (h r).owed ≡ (f r).owed) → IsAgenda xs g f → IsAgenda xs g h
 gathered_agenda xs g f h e a = record {

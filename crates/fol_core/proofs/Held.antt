@@ -45,7 +45,7 @@ use Rattle.fol_core.proofs.Longer.{good_of}
 use Rattle.fol_core.proofs.GainedBags.{can_settle}
 use Rattle.fol_core.proofs.SettledBags.{settled_bags}
 use Rattle.fol_core.proofs.UnitedBags.{are_in_order}
-use Rattle.fol_core.proofs.AddBags.{calm_here}
+use Rattle.fol_core.proofs.AddBags.{calm_here, calm_home, calm_none}
 use Rattle.fol_core.proofs.TicketRuns.{tickets_most}
 use Rattle.fol_core.proofs.UnsettledBags.{have_bags, known_bag}
 
@@ -142,6 +142,8 @@ module _ (o : Opening) (h : List Entry) (t : Tables) (s : Stands o h t) where
         → CanSettle (is_loaded g c) (add_answer g c) (add g c) c ((add g c).owner (section_of g.grid c)) (changed_bags (add_change g c) (bag_of t.store)) h
     settles = can_settle g c good.sound.rules good.sound.grid limits (bag_of t.store) (λ r w d. (s.fits.stored.bags r).listed d w)
         (calm_here g c good.sound.rules good.sound.grid limits w.owed w.tick w.recorded (bag_of t.store) s.fits.stored.bags)
+        (calm_home g c good.sound.rules good.sound.grid limits w.owed w.tick w.recorded (bag_of t.store) s.fits.stored.bags)
+        (calm_none g c good.sound.rules good.sound.grid limits w.owed w.tick w.recorded (bag_of t.store) s.fits.stored.bags)
         (are_in_order g w.tick w.owed w.recorded (bag_of t.store) s.fits.stored.bags) known
 
     can_cover : CanCover t.agenda.items (add g c) (add_change g c) (followed (gaining g.grid g c) (add_change g c) (bag_of t.store))

@@ -44,6 +44,7 @@ pub record JoinedInto (t : ℕ) (us : List ℕ) (f h : ℕ → Bag) : Type 0 whe
   pub taken : (h t).taken ≡ (f t).taken
   pub counter : (h t).tick ≡ (f t).tick
   pub chunks : (h t).chunks ≡ (f t).chunks
+  pub since : (h t).since ≡ (f t).since
   pub own : (f t).owed ≤ (h t).owed
   pub theirs : (r : ℕ) → among r us ≡ true → (f r).owed ≤ (h t).owed
   pub some : ((h t).owed ≡ (f t).owed) ⊎ ((r : ℕ) × (among r us ≡ true) × ((h t).owed ≡ (f r).owed))
@@ -79,6 +80,7 @@ module _ (t : ℕ) where
     taken = refl;
     counter = refl;
     chunks = refl;
+    since = refl;
     own = omega arith;
     theirs = λ r m. absurd (true≢false (sym m));
     some = inl refl;
@@ -102,6 +104,7 @@ module _ (t : ℕ) where
         taken = k.taken ∙ ap (λ (b : Bag). b.taken) at;
         counter = k.counter ∙ ap (λ (b : Bag). b.tick) at;
         chunks = k.chunks ∙ ap (λ (b : Bag). b.chunks) at;
+        since = k.since ∙ ap (λ (b : Bag). b.since) at;
         own = omega (arith, k.own, owed);
         theirs = λ r m. elim (or_cases (nat_eq r u) (among r us) m) [
           | inl e ↦ let same : r ≡ u = eqb-true r u e in rw same (omega (arith, k.own, owed))

@@ -33,11 +33,14 @@ pub mod FinishedRun
 pub mod OutAtBegin
 pub mod BackTasks
 pub mod EndFacts
+pub mod EndedRegion
 pub mod EndSteps
 pub mod UnloadKept
 pub mod PostKept
 pub mod TakenJobs
 pub mod ChunkLists
+pub mod KeptUp
+pub mod CatchingUp
 pub mod GatheredBags
 pub mod SettledBags
 pub mod UnitedBags

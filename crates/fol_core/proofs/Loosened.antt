@@ -1,5 +1,5 @@
 -- The bag of a region whose chunks lose holds.
-use Rattle.std.proofs.Common.{◌≡◌, ◌≢◌, ℕ, ◌-◌, refl, sym, ◌∙◌, ap, arith, true, false, inl, inr}
+use Rattle.std.proofs.Common.{◌≡◌, ◌≢◌, ℕ, ◌-◌, refl, sym, ◌∙◌, ap, arith, true, false, inl, inr, List}
 use Rattle.std.specs.Prelude.{nat_eq, nat_lt}
 use Rattle.std.proofs.Math.Path.{fun_ext}
 use Rattle.std.proofs.lemmas.Bool.{cases_Bool, eqb-true, eqb-false, lt-ltb, true≢false}
@@ -8,38 +8,28 @@ use Rattle.fol_model.specs.Geometry.{same_chunk}
 use Rattle.fol_model.specs.ActionStep.{at_id}
 use Rattle.fol_model.specs.GridState.{GridState, is_loaded}
 use Rattle.fol_model.specs.Drop.{drop_hold}
-use Rattle.fol_laws.proofs.FunctionsChanged.{at_here}
 use Rattle.fol_laws.proofs.SamePlaces.{same_chunk-true}
 use Rattle.fol_regions.specs.Answers.{remove_answer}
 use Rattle.fol_sections.specs.declared.answers.Removed.TheVariants.{Gone, Lowered, NotLoaded}
+use Rattle.fol_chunks.specs.Contents.{is_recorded}
 use Rattle.fol_store.specs.Bag.{Bag}
+use Rattle.fol_store.specs.Relisted.{Narrowed}
 use Rattle.fol_core.specs.Released.{Loosens}
-
--- a bag put in its own place
-own_place : (f : ℕ → Bag) (r : ℕ) (b : Bag) → b ≡ f r → f ≡ at_id f r b
-own_place f r b e = fun_ext (λ q. elim (cases_Bool (nat_eq r q)) [
-  | inl k ↦ let s : r ≡ q = eqb-true r q k in rw k (ap f (sym s) ∙ sym e)
-  | inr k ↦ rw k refl
-])
 
 pub twice : (f : ℕ → Bag) (r : ℕ) (a b : Bag) → at_id (at_id f r a) r b ≡ at_id f r b
 twice f r a b = fun_ext (λ q. elim (cases_Bool (nat_eq r q)) [ inl k ↦ rw k refl | inr k ↦ rw k refl ])
 
 pub loosens_self : (g : GridState) (r : ℕ) (f : ℕ → Bag) → Loosens g g r f f
-loosens_self g r f = record { listed = (f r).listed; bags = own_place f r (f r) refl; kept = λ h. h; loaded = λ h c. refl }
+loosens_self g r f = record { others = λ u d. refl; own = refl; kept = λ w. w; noted = λ w c n. n; loaded = λ w c n. refl }
 
 pub loosens_then : (g h i : GridState) (r : ℕ) (f k m : ℕ → Bag) → Loosens g h r f k → Loosens h i r k m → Loosens g i r f m
-loosens_then g h i r f k m a b =
-    let here : k r ≡ record (f r) { listed = a.listed } = ap (λ (x : ℕ → Bag). x r) a.bags ∙ at_here f r (record (f r) { listed = a.listed }) in
-    let wholly : b.listed ≡ true → a.listed ≡ true = λ w. sym (ap (λ (x : Bag). x.listed) here) ∙ b.kept w in
-    record {
-      listed = b.listed;
-      bags = b.bags ∙ ap (λ (x : ℕ → Bag). at_id x r (record (x r) { listed = b.listed })) a.bags
-          ∙ twice f r (record (f r) { listed = a.listed }) (record (at_id f r (record (f r) { listed = a.listed }) r) { listed = b.listed })
-          ∙ ap (λ (x : Bag). at_id f r (record x { listed = b.listed })) (at_here f r (record (f r) { listed = a.listed }));
-      kept = λ w. a.kept (wholly w);
-      loaded = λ w c. b.loaded w c ∙ a.loaded (wholly w) c;
-    }
+loosens_then g h i r f k m a b = record {
+  others = λ u d. b.others u d ∙ a.others u d;
+  own = b.own ∙ ap (λ (x : Bag). record x { listed = (m r).listed; calm = (m r).calm; since = (m r).since }) a.own;
+  kept = λ w. a.kept (b.kept w);
+  noted = λ w c n. a.noted (b.kept w) c (b.noted w c n);
+  loaded = λ w c n. b.loaded w c n ∙ a.loaded (b.kept w) c (b.noted w c n);
+}
 
 -- ---- one hold less
 module _ (g : GridState) (c : ChunkPos) where
@@ -85,11 +75,26 @@ module _ (g : GridState) (c : ChunkPos) where
   not_gone h = stays_loaded 1 (not_gone_one h) refl
 
   pub loosens_still : (r : ℕ) (f : ℕ → Bag) → remove_answer g c ≢ Gone → Loosens g (drop_hold g c) r f f
-  loosens_still r f h = record { listed = (f r).listed; bags = own_place f r (f r) refl; kept = λ w. w; loaded = λ w q. not_gone h q }
+  loosens_still r f h = record { others = λ u d. refl; own = refl; kept = λ w. w; noted = λ w q n. n; loaded = λ w q n. not_gone h q }
 
-  pub loosens_gone : (r : ℕ) (f k : ℕ → Bag) → k ≡ at_id f r (record (f r) { listed = false }) → Loosens g (drop_hold g c) r f k
-  loosens_gone r f k e = record { listed = false; bags = e; kept = λ w. absurd (true≢false (sym w)); loaded = λ w q. absurd (true≢false (sym w)) }
+  -- the other chunks are loaded where they were
+  other_loaded : (q : ChunkPos) → same_chunk c q ≡ false → is_loaded (drop_hold g c) q ≡ is_loaded g q
+  unfolding drop_hold
+  other_loaded q s = rw s refl
+
+  -- the last hold fell, and the bag, which a worker has, may note it
+  pub loosens_gone : (r : ℕ) (f k : ℕ → Bag) → (f r).taken ≡ true → Narrowed c (f r) (k r) → ((k r).listed ≡ true → is_recorded (k r).since c ≡ true) → ((u : ℕ) → u ≢ r → k u ≡ f u) → Loosens g (drop_hold g c) r f k
+  loosens_gone r f k taken own marked others = record {
+    others = others;
+    own = own.same ∙ ap (λ (xs : List ChunkPos). record (f r) { listed = (k r).listed; calm = (k r).calm; chunks = xs; since = (k r).since }) (own.out taken);
+    kept = own.before;
+    noted = own.noted;
+    loaded = λ w q n. elim (cases_Bool (same_chunk c q)) [
+      | inr s ↦ other_loaded q s
+      | inl s ↦ absurd (true≢false (sym (marked w) ∙ ap (λ (d : ChunkPos). is_recorded (k r).since d) (same_chunk-true c q s) ∙ n))
+    ];
+  }
 
 -- whether the bag was taken stays
 pub loosens_taken : (g h : GridState) (r : ℕ) (f k : ℕ → Bag) → Loosens g h r f k → (f r).taken ≡ true → (k r).taken ≡ true
-loosens_taken g h r f k l t = ap (λ (x : ℕ → Bag). (x r).taken) l.bags ∙ ap (λ (b : Bag). b.taken) (at_here f r (record (f r) { listed = l.listed })) ∙ t
+loosens_taken g h r f k l t = ap (λ (b : Bag). b.taken) l.own ∙ t

@@ -54,10 +54,10 @@ module _ (g : GridState) (tick owed : ℕ → ℕ) (recorded : ℕ → Recorded)
   owing_bag : (r : ℕ) (xs : List ℕ) → (rests g r ≡ true → list_any (nat_eq r) xs ≡ true) → IsBagOf g tick (λ r. n) recorded r (owing_bags n xs f r)
   owing_bag r xs there = let b = is r in elim (cases_Bool (list_any (nat_eq r) xs)) [
     | inl e ↦ let s : owing_bags n xs f r ≡ record (f r) { owed = n } = owing_there n xs f r ∙ (rw e refl) in
-        let P : Bag → Type 0 = λ x. IsBagOf g tick (λ r. n) recorded r x in subst P (sym s) (record { here = b.here; taken = b.taken; counter = b.counter; owes = λ h. refl; listed = b.listed; out = b.out })
+        let P : Bag → Type 0 = λ x. IsBagOf g tick (λ r. n) recorded r x in subst P (sym s) (record { here = b.here; taken = b.taken; counter = b.counter; owes = λ h. refl; listed = b.listed; since = b.since; out = b.out })
     | inr e ↦ let s : owing_bags n xs f r ≡ f r = owing_there n xs f r ∙ (rw e refl) in
         let P : Bag → Type 0 = λ x. IsBagOf g tick (λ r. n) recorded r x in
-        subst P (sym s) (record { here = b.here; taken = b.taken; counter = b.counter; owes = λ h. absurd (true≢false (sym (there h) ∙ e)); listed = b.listed; out = b.out })
+        subst P (sym s) (record { here = b.here; taken = b.taken; counter = b.counter; owes = λ h. absurd (true≢false (sym (there h) ∙ e)); listed = b.listed; since = b.since; out = b.out })
   ]
 
 -- ---- a world in which no region ticks

@@ -1,5 +1,5 @@
 -- The bags after a release.
-use Rattle.std.proofs.Common.{◌≡◌, ◌≢◌, ℕ, ◌+◌, ◌≤◌, ◌<◌, le_antisymm, refl, sym, ◌∙◌, ap, arith, true, false, inl, inr, List, [], ◌&&◌, not, filter}
+use Rattle.std.proofs.Common.{◌≡◌, ◌≢◌, ℕ, ◌+◌, ◌≤◌, ◌<◌, le_antisymm, refl, sym, ◌∙◌, ap, subst, arith, true, false, inl, inr, List, [], ◌&&◌, not, filter}
 use Rattle.std.specs.Prelude.{nat_eq, nat_lt, nat_le, if◌then◌else◌, ◌↔◌}
 use Rattle.std.proofs.lemmas.Bool.{cases_Bool, cases_eq, eqb-true, eq-eqb, ne_eqb, leb-true, ltb-true, and_parts, and_from, and_right, or_cases, or_left, or_right, true≢false, false_from_ne_true}
 use Rattle.std.proofs.lemmas.List.Kept.{IsStrictlySortedBy-filter}
@@ -14,24 +14,22 @@ use Rattle.fol_model.specs.Universe.{all_chunks, numbers_below}
 use Rattle.fol_model.specs.Counting.{greatest_below, some_below}
 use Rattle.fol_model.specs.Counters.{joins, owed_after_release, tick_after_release}
 use Rattle.fol_model.specs.GridState.{GridState, in_margin, is_dead, is_ticking}
-use Rattle.fol_model.specs.Release.{release, must_wait, cleans, is_new_part, is_part_id, joined_owner, part_id, part_of, parts, passes_on}
+use Rattle.fol_model.specs.Release.{release, must_wait, cleans, is_new_part, is_part_id, joined_owner, part_id, part_of, parts}
 use Rattle.fol_model.specs.ActionStep.{Recorded, at_id}
 use Rattle.fol_model.specs.Outputs.{is_chunk_of}
 use Rattle.fol_model.specs.Rules.{Rules}
 use Rattle.fol_laws.proofs.AddTarget.{is_ticking-true}
 use Rattle.fol_laws.proofs.FunctionsChanged.{at_here, at_other}
 use Rattle.fol_laws.proofs.GreatestBelow.{greatest-at_least, greatest-at_most}
-use Rattle.fol_laws.proofs.CleanedGrid.{margin_from}
-use Rattle.fol_laws.proofs.Distances.{self_distance}
-use Rattle.fol_laws.proofs.NumbersBelow.{some_below-gives, some_below-is}
+use Rattle.fol_laws.proofs.NumbersBelow.{some_below-is}
 use Rattle.fol_laws.proofs.NumberOrder.{in_numbers, numbers_sorted}
 use Rattle.fol_laws.proofs.ReleaseKeeps.{grid_release, holds_release}
 use Rattle.fol_laws.proofs.Tests.{same_answer}
 use Rattle.fol_regions.specs.Changes.{into, waiting_for, part_ids}
-use Rattle.fol_store.specs.Bag.{Bag, no_bag, put_back}
+use Rattle.fol_store.specs.Bag.{Bag, no_bag}
 use Rattle.fol_core.specs.Hands.{rests}
-use Rattle.fol_core.specs.Bags.{CanJoin, IsBagOf, joined_bags}
-use Rattle.fol_core.specs.Released.{part_bag, parted}
+use Rattle.fol_core.specs.Bags.{AreBut, CanJoin, IsBagOf, joined_bags}
+use Rattle.fol_core.specs.Released.{part_bag, parted, returned_bag}
 use Rattle.fol_core.proofs.AddBags.{filter_none, same_filter}
 use Rattle.fol_core.proofs.JoinedBags.{Apart, JoinedInto, among, can_join, in_filter, joined_into, sorted_apart}
 use Rattle.fol_core.proofs.OpenedBags.{opened_off, opened_new}
@@ -52,7 +50,8 @@ module _ (g h : GridState) (tick owed later left : ℕ → ℕ) (recorded : ℕ 
     taken = is.taken ∙ rw s refl;
     counter = λ k. let k : rests g q ≡ true = rw (sym s) k in is.counter k ∙ sym t;
     owes = λ k. let k : rests g q ≡ true = rw (sym s) k in is.owes k ∙ sym o;
-    listed = λ d w. let d : g.state q ≢ Dead = λ e. d (s ∙ e) in is.listed d w ∙ sym (chunks d);
+    listed = λ d w. let d : g.state q ≢ Dead = λ e. d (s ∙ e) in subst (AreBut b.since b.chunks) (sym (chunks d)) (is.listed d w);
+    since = λ k. let k : rests g q ≡ true = rw (sym s) k in is.since k;
     out = λ k. is.out (sym s ∙ k);
   }
 
@@ -63,18 +62,20 @@ module _ (g h : GridState) (tick owed later left : ℕ → ℕ) (recorded : ℕ 
     counter = λ k. let x : false ≡ true = rw s at k in absurd (true≢false (sym x));
     owes = λ k. let x : false ≡ true = rw s at k in absurd (true≢false (sym x));
     listed = λ d. absurd (d s);
+    since = λ k. ap (λ (x : Bag). x.since) e;
     out = λ k. let x : Dead ≡ Ticking = sym s ∙ k in absurd (cc);
   }
 
-  -- of a region that is at rest, with numbers that are known
+  -- of a region that is at rest, with numbers that are known, that has to be gathered anew
   pub bag_rests : (b : Bag) → rests h q ≡ true → h.state q ≢ Ticking → b.here ≡ true → b.taken ≡ false → b.tick ≡ later q → b.owed ≡ left q
-      → (b.listed ≡ true → b.chunks ≡ filter (is_chunk_of h q) all_chunks) → IsBagOf h later left recorded q b
-  bag_rests b r n here taken t o listed = record {
+      → (b.listed ≡ false) → b.since ≡ [] → IsBagOf h later left recorded q b
+  bag_rests b r n here taken t o listed since = record {
     here = here ∙ sym r;
     taken = taken ∙ sym (false_from_ne_true (is_ticking (h.state q)) (λ e. n (is_ticking-true (h.state q) e)));
     counter = λ k. t;
     owes = λ k. o;
-    listed = λ d w. listed w;
+    listed = λ d w. absurd (true≢false (sym w ∙ listed));
+    since = λ k. since;
     out = λ k. absurd (n k);
   }
 
@@ -106,14 +107,6 @@ module _ (g : GridState) (r : ℕ) (rules : Rules g) (ok : IsGrid g.grid) (ticks
   pub waits_other : (q : ℕ) → g.waits q r ≡ true → q ≢ r
   waits_other q w e = let x : g.waits r r ≡ true = rw e at w in true≢false (sym x ∙ not_self)
 
-  -- who passes a pair on waits for r
-  passes_gives : (v : ℕ) → passes_on g r v ≡ true → (u : ℕ) × (g.waits u r ≡ true)
-  unfolding passes_on
-  passes_gives v h =
-      let a = and_parts (not (nat_eq v r)) (some_below (λ u. g.waits u r && g.waits u v) g.next) h in
-      let x = some_below-gives (λ u. g.waits u r && g.waits u v) g.next a.1 in
-      (x.0, (and_parts (g.waits x.0 r) (g.waits x.0 v) x.2).0)
-
   pub r_below : r < g.next
   r_below = rules.below_next r (λ d. absurd (cc))
 
@@ -132,7 +125,7 @@ module _ (g : GridState) (r : ℕ) (rules : Rules g) (ok : IsGrid g.grid) (ticks
   -- ---- the bags as they are joined
   module _ (tick owed : ℕ → ℕ) (recorded : ℕ → Recorded) (f : ℕ → Bag) (bags : (q : ℕ) → IsBagOf g tick owed recorded q (f q)) where
     abbrev back : ℕ → Bag
-    back = at_id f r (put_back (tick r) (owed r) (f r))
+    back = at_id f r (returned_bag (tick r) (owed r) (f r))
 
     abbrev later : ℕ → ℕ
     later = tick_after_release g r tick
@@ -143,11 +136,11 @@ module _ (g : GridState) (r : ℕ) (rules : Rules g) (ok : IsGrid g.grid) (ticks
     abbrev all : ℕ → Bag
     all = joined_bags (into r us) back
 
-    back_here : back r ≡ put_back (tick r) (owed r) (f r)
-    back_here = at_here f r (put_back (tick r) (owed r) (f r))
+    back_here : back r ≡ returned_bag (tick r) (owed r) (f r)
+    back_here = at_here f r (returned_bag (tick r) (owed r) (f r))
 
     back_other : (q : ℕ) → q ≢ r → back q ≡ f q
-    back_other q d = at_other f r (put_back (tick r) (owed r) (f r)) q d
+    back_other q d = at_other f r (returned_bag (tick r) (owed r) (f r)) q d
 
     joined : JoinedInto r us back all
     joined = joined_into r us back r_not_among us_apart
@@ -208,10 +201,11 @@ module _ (g : GridState) (r : ℕ) (rules : Rules g) (ok : IsGrid g.grid) (ticks
     all_taken : (all r).taken ≡ false
     all_taken = joined.taken ∙ ap (λ (b : Bag). b.taken) back_here
 
-    all_whole : (all r).listed ≡ true → (us ≡ []) × ((all r).chunks ≡ filter (is_chunk_of g r) all_chunks)
-    all_whole h = let w = joined.listed h in
-        let listed : (f r).listed ≡ true = sym (ap (λ (b : Bag). b.listed) back_here) ∙ w.1 in
-        (w.0, joined.chunks ∙ ap (λ (b : Bag). b.chunks) back_here ∙ (bags r).listed (λ d. absurd (cc)) listed)
+    all_unlisted : (all r).listed ≡ false
+    all_unlisted = false_from_ne_true (all r).listed (λ h. true≢false (sym (joined.listed h).1 ∙ ap (λ (b : Bag). b.listed) back_here))
+
+    all_since : (all r).since ≡ []
+    all_since = joined.since ∙ ap (λ (b : Bag). b.since) back_here
 
     all_gone : (q : ℕ) → g.waits q r ≡ true → all q ≡ no_bag
     all_gone q w = joined.gone q (waits_other q w) (among_us q ∙ w)
@@ -244,13 +238,6 @@ module _ (g : GridState) (r : ℕ) (rules : Rules g) (ok : IsGrid g.grid) (ticks
       held_no_part : (q : ℕ) → is_new_part g r q ≡ false
       held_no_part q = rw waits refl
 
-      some_waits : us ≢ []
-      some_waits e =
-          let x = some_below-gives (passes_on g r) g.next waits in
-          let y = passes_gives x.0 x.2 in
-          let z : among y.0 us ≡ false = rw e refl in
-          true≢false (sym y.1 ∙ sym (among_us y.0) ∙ z)
-
       held_owned : (q : ℕ) → q ≢ r → g.waits q r ≡ false → (s : SectionPos) → (after.owner s ≡ q) ↔ (g.owner s ≡ q)
       held_owned q d w s = (
         (λ e. elim (cases_Bool (g.waits (g.owner s) r)) [
@@ -267,7 +254,7 @@ module _ (g : GridState) (r : ℕ) (rules : Rules g) (ok : IsGrid g.grid) (ticks
             let t : after.state r ≡ Transient = held_state r ∙ rw z refl in
             let ready : rests after r ≡ true = rw t refl in
             rw e (bag_rests g after tick owed later left recorded r (all r) ready (λ k. let x : Transient ≡ Ticking = sym t ∙ k in absurd (cc)) all_here all_taken
-            (all_tick ∙ sym (later_other r (held_no_part r))) (all_owes ∙ sym left_r) (λ h. absurd (some_waits (all_whole h).0)))
+            (all_tick ∙ sym (later_other r (held_no_part r))) (all_owes ∙ sym left_r) all_unlisted all_since)
         | inr d ↦
             let n : nat_eq q r ≡ false = ne_eqb q r d in
             elim (cases_Bool (g.waits q r)) [
@@ -307,8 +294,7 @@ module _ (g : GridState) (r : ℕ) (rules : Rules g) (ok : IsGrid g.grid) (ticks
             let t : after.state r ≡ Ready = rested_state r ∙ rw z refl in
             let ready : rests after r ≡ true = rw t refl in
             rw e (bag_rests g after tick owed later left recorded r (all r) ready (λ k. let x : Ready ≡ Ticking = sym t ∙ k in absurd (cc)) all_here all_taken
-            (all_tick ∙ sym (later_other r (rested_no_part r))) (all_owes ∙ sym left_r)
-            (λ h. (all_whole h).1 ∙ sym (same_chunks r (λ s. ((λ e. sym (rested_owner s) ∙ e), (λ e. rested_owner s ∙ e))))))
+            (all_tick ∙ sym (later_other r (rested_no_part r))) (all_owes ∙ sym left_r) all_unlisted all_since)
         | inr d ↦
             let n : nat_eq q r ≡ false = ne_eqb q r d in
             rw (all_off q d (none_waits q)) (bag_stays g after tick owed later left recorded q (f q) (rested_state q ∙ rw n refl)
@@ -355,22 +341,6 @@ module _ (g : GridState) (r : ℕ) (rules : Rules g) (ok : IsGrid g.grid) (ticks
         pub no_part_id : (q : ℕ) → is_part_id g r q ≡ false
         no_part_id q = let e : parts g r ≡ 1 = eqb-true _ _ one in rw e refl
 
-        cleaned_chunk : us ≡ [] → (c : ChunkPos) → is_chunk_of after r c ≡ is_chunk_of g r c
-        cleaned_chunk none c =
-            let s = section_of g.grid c in
-            let w : (q : ℕ) → g.waits q r ≡ false = λ q. sym (among_us q) ∙ rw none refl in
-            let o : joined_owner g r s ≡ g.owner s = let x = w (g.owner s) in rw x refl in
-            elim (cases_Bool (nat_lt 0 (g.holds c))) [
-              | inl h ↦
-                  let m : in_margin g s ≡ true = margin_from g r rules ok ticks free c s (ltb-true _ _ h) (omega (arith, self_distance s)) in
-                  let same : nat_eq (after.owner s) r ≡ nat_eq (g.owner s) r = elim (cases_Bool (nat_eq (g.owner s) r)) [
-                    | inl k ↦ let x : after.owner s ≡ r = cleaned_owner s ∙ rw (o, k, m, one) refl in rw (x, k) (eq-eqb r r refl)
-                    | inr k ↦ let x : after.owner s ≡ g.owner s = cleaned_owner s ∙ rw (o, k) refl in rw x refl
-                  ] in
-                  rw (grid_release g r, holds_release g r, same) refl
-              | inr h ↦ rw (grid_release g r, holds_release g r, h) refl
-            ]
-
         pub bags_one : (q : ℕ) → IsBagOf after later left recorded q (all q)
         bags_one q = elim (cases_eq q r) [
           | inl e ↦
@@ -378,8 +348,7 @@ module _ (g : GridState) (r : ℕ) (rules : Rules g) (ok : IsGrid g.grid) (ticks
               let t : after.state r ≡ Ready = cleaned_state r ∙ rw (no_part_id r, z, one) refl in
               let ready : rests after r ≡ true = rw t refl in
               rw e (bag_rests g after tick owed later left recorded r (all r) ready (λ k. let x : Ready ≡ Ticking = sym t ∙ k in absurd (cc)) all_here all_taken
-              (all_tick ∙ sym (later_other r (new_part r ∙ no_part_id r))) (all_owes ∙ sym left_r)
-              (λ h. (all_whole h).1 ∙ sym (same_filter (is_chunk_of after r) (is_chunk_of g r) all_chunks (cleaned_chunk (all_whole h).0))))
+              (all_tick ∙ sym (later_other r (new_part r ∙ no_part_id r))) (all_owes ∙ sym left_r) all_unlisted all_since)
           | inr d ↦
               let n : nat_eq q r ≡ false = ne_eqb q r d in
               elim (cases_Bool (g.waits q r)) [
@@ -421,7 +390,7 @@ module _ (g : GridState) (r : ℕ) (rules : Rules g) (ok : IsGrid g.grid) (ticks
               let ready : rests after q ≡ true = rw t refl in
               rw (parted_new q p) (bag_rests g after tick owed later left recorded q (part_bag (all r).tick (all r).owed) ready
               (λ k. let x : Ready ≡ Ticking = sym t ∙ k in absurd (cc)) refl refl
-              (all_tick ∙ sym (later_part q (new_part q ∙ p))) (all_owes ∙ sym (left_part q (new_part q ∙ p))) (λ h. absurd (true≢false (sym h))))
+              (all_tick ∙ sym (later_part q (new_part q ∙ p))) (all_owes ∙ sym (left_part q (new_part q ∙ p))) refl refl)
           | inr p ↦ rw (parted_off q p) (elim (cases_eq q r) [
             | inl e ↦
                 let z : nat_eq r r ≡ true = eq-eqb r r refl in

@@ -11,17 +11,17 @@ use Rattle.fol_model.specs.Release.{release, must_wait, cleans, is_part_id, part
 use Rattle.fol_model.specs.ActionStep.{Recorded, at_id}
 use Rattle.fol_model.specs.Rules.{Rules}
 use Rattle.fol_regions.specs.Changes.{Changes, into, waiting_for, part_ids, release_change}
-use Rattle.fol_store.specs.Bag.{Bag, put_back}
+use Rattle.fol_store.specs.Bag.{Bag}
 use Rattle.fol_core.specs.Agenda.{Covers, owes}
 use Rattle.fol_core.specs.Bags.{CanJoin, Follow, IsBagOf, joined_bags}
-use Rattle.fol_core.specs.Released.{heirs, parted, parts_in, released_bags}
+use Rattle.fol_core.specs.Released.{heirs, parted, parts_in, released_bags, returned_bag}
 use Rattle.fol_core.proofs.JoinedBags.{behind, in_front}
 use Rattle.fol_core.proofs.PartIds.{parts_count, parts_few, parts_follow}
 use Rattle.fol_core.proofs.ReleasedBags as rb
 
 -- ---- what holds of the bags k after the release of r, by which g became h
 pub record ReleasedTo (g h : GridState) (r : ℕ) (ch : Changes) (tick owed later left : ℕ → ℕ) (recorded : ℕ → Recorded) (f : ℕ → Bag) : Type 0 where
-  pub joins : CanJoin ch.merges (at_id f r (put_back (tick r) (owed r) (f r)))
+  pub joins : CanJoin ch.merges (at_id f r (returned_bag (tick r) (owed r) (f r)))
   pub follow : Follow g.next (parts_in h ch r)
   pub few : length (parts_in h ch r) ≤ 1820
   pub few_heirs : length (heirs h ch r) ≤ 1820
@@ -41,7 +41,7 @@ module _ (g : GridState) (r : ℕ) (rules : Rules g) (ok : IsGrid g.grid) (ticks
   us = waiting_for g r
 
   abbrev back : ℕ → Bag
-  back = at_id f r (put_back (tick r) (owed r) (f r))
+  back = at_id f r (returned_bag (tick r) (owed r) (f r))
 
   abbrev all : ℕ → Bag
   all = joined_bags (into r us) back

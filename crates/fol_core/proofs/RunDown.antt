@@ -1,7 +1,8 @@
 -- What the store and the stack are when the tasks of a tick are over and their holds are dropped.
-use Rattle.std.proofs.Common.{◌≡◌, ◌≢◌, ℕ, ◌+◌, ◌<◌, refl, sym, ◌∙◌, ap, arith, Bool, true, false, not, ◌&&◌, inl, inr, List, [], ◌∷◌}
+use Rattle.std.proofs.Common.{◌≡◌, ◌≢◌, ℕ, ◌+◌, ◌<◌, refl, sym, ◌∙◌, ap, subst, arith, Bool, true, false, not, ◌&&◌, inl, inr, List, [], ◌∷◌}
 use Rattle.std.specs.Prelude.{nat_eq, nat_lt, filter, Option, Some, None}
 use Rattle.std.specs.List.{AllByRecursion}
+use Rattle.std.specs.List.Sorted.{IsStrictlySortedBy}
 use Rattle.std.proofs.Math.Path.{fun_ext}
 use Rattle.std.proofs.lemmas.Bool.{cases_Bool, cases_eq, eqb-true, ne_eqb, true≢false}
 use Rattle.std.proofs.lemmas.List.{append-nil}
@@ -23,21 +24,23 @@ use Rattle.fol_model.specs.World.{World, due}
 use Rattle.fol_model.specs.End.{dropped, left, run_down}
 use Rattle.fol_model.specs.Run.{Run, world}
 use Rattle.fol_laws.specs.Contents.{SameOn, seen}
-use Rattle.fol_laws.proofs.FunctionsChanged.{at_here, at_other}
+use Rattle.fol_laws.proofs.FunctionsChanged.{at_other}
 use Rattle.fol_laws.proofs.SamePlaces.{same_chunk-true}
 use Rattle.fol_laws.proofs.UnseenEnds.{recorded_owner}
 use Rattle.fol_laws.proofs.WholeRuns.{Good, good_run}
 use Rattle.fol_end_laws.specs.DroppedHolds.{drop_each}
 use Rattle.fol_end_laws.proofs.DropsInTurn.{drops_in_turn}
 use Rattle.fol_end_laws.proofs.FinishedTicks.{due_on_recorded, tasks_kept}
-use Rattle.fol_chunks.specs.Contents.{outside, option_filter}
+use Rattle.fol_chunks.specs.Contents.{is_recorded, outside, option_filter}
+use Rattle.fol_chunks.specs.Order.{chunk_cmp}
 use Rattle.fol_store.specs.Bag.{Bag}
 use Rattle.fol_store.specs.Stock.{Stock, bag_of, next_of}
 use Rattle.fol_core.specs.Agenda.{Covers}
-use Rattle.fol_core.specs.Bags.{IsBagOf, StoredIn}
+use Rattle.fol_core.specs.Bags.{AreBut, IsBagOf, StoredIn}
 use Rattle.fol_core.specs.Hands.{at_rest, in_hands, owner_of, ticker, went}
 use Rattle.fol_core.specs.Released.{Loosens}
 use Rattle.fol_core.specs.Same.{SameThings}
+use Rattle.fol_core.proofs.ChunkLists.{listed as chunk_listed}
 use Rattle.fol_core.proofs.Flats.{flat_ext}
 use Rattle.fol_core.proofs.ReleasedHands.{in_hands_there}
 
@@ -82,8 +85,9 @@ module _ (g : GridState) (hs : ChunkPos → ℕ) (r : ℕ) (ticks : g.state r �
   abbrev h : GridState
   h = record g { holds = hs }
 
-  own_chunks : l.listed ≡ true → filter (is_chunk_of g r) all_chunks ≡ filter (is_chunk_of h r) all_chunks
-  own_chunks w = ap (λ (p : ChunkPos → Bool). filter p all_chunks) (fun_ext (λ c. ap (λ (b : Bool). b && nat_eq (owner_of g c) r) (sym (l.loaded w c))))
+  -- a chunk that was not noted is of the region where it was
+  own_chunks : (k r).listed ≡ true → (c : ChunkPos) → is_recorded (k r).since c ≡ false → is_recorded (filter (is_chunk_of g r) all_chunks) c ≡ is_recorded (filter (is_chunk_of h r) all_chunks) c
+  own_chunks w c n = chunk_listed (is_chunk_of g r) all_chunks c ∙ ap (λ (b : Bool). (b && nat_eq (owner_of g c) r) && is_recorded all_chunks c) (sym (l.loaded w c n)) ∙ sym (chunk_listed (is_chunk_of h r) all_chunks c)
 
   other_chunks : (q : ℕ) → q ≢ r → filter (is_chunk_of g q) all_chunks ≡ filter (is_chunk_of h q) all_chunks
   other_chunks q d = ap (λ (p : ChunkPos → Bool). filter p all_chunks) (fun_ext (λ c. elim (cases_eq (owner_of g c) r) [
@@ -91,20 +95,18 @@ module _ (g : GridState) (hs : ChunkPos → ℕ) (r : ℕ) (ticks : g.state r �
     | inr e ↦ ap (λ (b : Bool). b && nat_eq (owner_of g c) q) (sym (others c e))
   ]))
 
-  here_bag : k r ≡ record (f r) { listed = l.listed }
-  here_bag = ap (λ (x : ℕ → Bag). x r) l.bags ∙ at_here f r (record (f r) { listed = l.listed })
-
-  other_bag : (q : ℕ) → q ≢ r → k q ≡ f q
-  other_bag q d = ap (λ (x : ℕ → Bag). x q) l.bags ∙ at_other f r (record (f r) { listed = l.listed }) q d
-
-  own_loosened : IsBagOf g tick owed recorded r (f r) → IsBagOf h later owed recorded r (record (f r) { listed = l.listed })
+  own_loosened : IsBagOf g tick owed recorded r (f r) → IsBagOf h later owed recorded r (k r)
   own_loosened b = record {
-    here = b.here;
-    taken = b.taken;
+    here = ap (λ (x : Bag). x.here) l.own ∙ b.here;
+    taken = ap (λ (x : Bag). x.taken) l.own ∙ b.taken;
     counter = λ x. let z : false ≡ true = rw ticks at x in absurd (true≢false (sym z));
-    owes = b.owes;
-    listed = λ d w. b.listed d (l.kept w) ∙ own_chunks w;
-    out = b.out;
+    owes = λ x. let z : false ≡ true = rw ticks at x in absurd (true≢false (sym z));
+    listed = λ d w. let p = b.listed d (l.kept w) in let e = ap (λ (x : Bag). x.chunks) l.own in record {
+      order = subst (IsStrictlySortedBy chunk_cmp) (sym e) p.order;
+      same = λ c n. ap (λ (xs : List ChunkPos). is_recorded xs c) e ∙ p.same c (l.noted w c n) ∙ own_chunks w c n;
+    };
+    since = λ x. let z : false ≡ true = rw ticks at x in absurd (true≢false (sym z));
+    out = λ x. ap (λ (x : Bag). x.chunks) l.own ∙ b.out x;
   }
 
   other_loosened : (q : ℕ) → q ≢ r → IsBagOf g tick owed recorded q (f q) → IsBagOf h later owed recorded q (f q)
@@ -113,20 +115,21 @@ module _ (g : GridState) (hs : ChunkPos → ℕ) (r : ℕ) (ticks : g.state r �
     taken = b.taken;
     counter = λ x. b.counter x ∙ sym (others_tick q d);
     owes = b.owes;
-    listed = λ n w. b.listed n w ∙ other_chunks q d;
+    listed = λ n w. subst (AreBut (f q).since (f q).chunks) (other_chunks q d) (b.listed n w);
+    since = b.since;
     out = b.out;
   }
 
   pub bags_loosened : ((q : ℕ) → IsBagOf g tick owed recorded q (f q)) → (q : ℕ) → IsBagOf h later owed recorded q (k q)
   bags_loosened bags q = elim (cases_eq q r) [
-    | inl e ↦ let b = here_bag in rw (e, b) (own_loosened (bags r))
-    | inr d ↦ let b = other_bag q d in rw b (other_loosened q d (bags q))
+    | inl e ↦ let P : ℕ → Type 0 = λ n. IsBagOf h later owed recorded n (k n) in subst P (sym e) (own_loosened (bags r))
+    | inr d ↦ let b = l.others q d in rw b (other_loosened q d (bags q))
   ]
 
   pub covers_loosened : (xs : List ℕ) → Covers xs g f → Covers xs h k
   covers_loosened xs cov q x = cov q (elim (cases_eq q r) [
     | inl e ↦ let z : false ≡ true = rw (e, ticks) at x in absurd (true≢false (sym z))
-    | inr d ↦ let b = other_bag q d in rw b at x
+    | inr d ↦ let b = l.others q d in rw b at x
   ])
 
 -- ---- the tasks at rest

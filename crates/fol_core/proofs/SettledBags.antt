@@ -1,10 +1,6 @@
 -- Bags that may be listed for the loaded chunks of their regions.
 use Rattle.std.proofs.Common.{◌≡◌, ◌≢◌, ℕ, ◌+◌, ◌<◌, refl, sym, ◌∙◌, ap, subst, arith, Bool, true, false, not, ◌&&◌, ◌||◌, inl, inr, List, filter, Some, None}
 use Rattle.std.specs.Prelude.{nat_eq, nat_lt}
-use Rattle.std.specs.List.{list_any}
-use Rattle.std.specs.List.Sorted.{IsStrictlySortedBy}
-use Rattle.std.specs.Ordering.{eq_by_cmp}
-use Rattle.std.proofs.Math.Path.{fun_ext}
 use Rattle.std.proofs.lemmas.Bool.{cases_Bool, cases_eq, eqb-true, eq-eqb, ne_eqb, lt-ltb, ltb-true, true≢false, and_from, and_right, or_right}
 use Rattle.fol_model.specs.declared.places.ChunkPos.{ChunkPos}
 use Rattle.fol_model.specs.Geometry.{is_chunk, same_chunk, section_of}
@@ -15,48 +11,27 @@ use Rattle.fol_model.specs.Add.{counted}
 use Rattle.fol_model.specs.ActionStep.{Recorded}
 use Rattle.fol_model.specs.Outputs.{is_chunk_of}
 use Rattle.fol_model.specs.Drop.{drop_hold}
-use Rattle.fol_model.proofs.PlaceKeys.{chunk_cmp_total, chunk_cmp_tells}
 use Rattle.fol_laws.proofs.SamePlaces.{same_chunk-true, same_chunk-self}
-use Rattle.fol_laws.proofs.Listed.{Tells, own, same_by, sorted_same}
+use Rattle.fol_laws.proofs.Listed.{own}
 use Rattle.fol_regions.specs.Answers.{some_id}
 use Rattle.fol_chunks.specs.Contents.{is_recorded}
-use Rattle.fol_chunks.specs.Order.{chunk_cmp}
 use Rattle.fol_store.specs.Bag.{Bag, disturbed}
 use Rattle.fol_store.specs.Relisted.{IsInOrder, Narrowed, Relisted, Widened}
 use Rattle.fol_core.specs.Agenda.{Covers, HaveBags}
-use Rattle.fol_core.specs.Bags.{IsBagOf, unsettled_at}
+use Rattle.fol_core.specs.Bags.{IsBagOf, KeepsUp, unsettled_at}
 use Rattle.fol_core.specs.Begun.{Gathered}
 use Rattle.fol_core.specs.Follows.{IsKnown, Narrows, Settle, Widens}
-use Rattle.fol_core.proofs.ChunkLists.{in_all, kept_sorted, listed}
+use Rattle.fol_core.proofs.ChunkLists.{in_all, listed}
 use Rattle.fol_core.proofs.GatheredBags.{gathered_bag}
 
 pub gathered_self : (g : GridState) (r : ℕ) (b : Bag) → Gathered g r b b
-gathered_self g r b = record { here = refl; taken = refl; counter = refl; owes = refl; listed = λ w. inl (w, refl); out = λ x. refl }
+gathered_self g r b = record { here = refl; taken = refl; counter = refl; owes = refl; listed = λ w. inl (w, refl, refl); since = λ x. refl; out = λ x. refl }
 
 pub settle_same : (g : GridState) (f k : ℕ → Bag) → k ≡ f → Settle g f k
 settle_same g f k e r = let P : Bag → Type 0 = λ b. Gathered g r (f r) b in subst P (ap (λ (x : ℕ → Bag). x r) (sym e)) (gathered_self g r (f r))
 
--- chunks that tie are the same
-ties : (a b : ChunkPos) → eq_by_cmp chunk_cmp a b ≡ same_chunk a b
-ties a b = elim (cases_Bool (same_chunk a b)) [
-  | inl e ↦ ap (eq_by_cmp chunk_cmp a) (sym (same_chunk-true a b e)) ∙ own chunk_cmp tells a ∙ sym e
-  | inr e ↦ elim (cases_Bool (eq_by_cmp chunk_cmp a b)) [
-    | inl f ↦ absurd (true≢false (sym (ap (same_chunk a) (sym (same_by chunk_cmp tells a b f)) ∙ same_chunk-self a) ∙ e))
-    | inr f ↦ f ∙ sym e
-  ]
-]
-  where
-    tells : Tells chunk_cmp
-    tells = record { order = chunk_cmp_total; same = chunk_cmp_tells }
-
--- a list in order is known by its chunks
-pub same_list : (xs ys : List ChunkPos) → IsStrictlySortedBy chunk_cmp xs → IsStrictlySortedBy chunk_cmp ys → ((q : ChunkPos) → is_recorded xs q ≡ is_recorded ys q) → xs ≡ ys
-same_list xs ys a b h = sorted_same chunk_cmp (record { order = chunk_cmp_total; same = chunk_cmp_tells }) xs ys a b (λ s.
-    let e : eq_by_cmp chunk_cmp s ≡ same_chunk s = fun_ext (ties s) in
-    ap (λ p. list_any p xs) e ∙ h s ∙ ap (λ p. list_any p ys) (sym e))
-
 -- the bag of a region gets other chunks, which are the region's
-pub relisted_all : (g : GridState) (id : ℕ) (p : ChunkPos → Bool) (f k : ℕ → Bag) → 0 < id → ((f id).listed ≡ true → (q : ChunkPos) → p q ≡ is_recorded (filter (is_chunk_of g id) all_chunks) q)
+pub relisted_all : (g : GridState) (id : ℕ) (p : ChunkPos → Bool) (f k : ℕ → Bag) → 0 < id → ((f id).listed ≡ true → (q : ChunkPos) → is_recorded (f id).since q ≡ false → p q ≡ is_recorded (filter (is_chunk_of g id) all_chunks) q)
     → Relisted p (f id) (k id) → ((u : ℕ) → u ≢ id → k u ≡ f u) → Settle g (unsettled_at id f) k
 relisted_all g id p f k l same own others r = elim (cases_eq id r) [
   | inl e ↦ let P : ℕ → Type 0 = λ n. Gathered g n (unsettled_at id f n) (k n) in subst P e mine
@@ -76,7 +51,8 @@ relisted_all g id p f k l same own others r = elim (cases_eq id r) [
           taken = ap (λ (z : Bag). z.taken) own.same;
           counter = ap (λ (z : Bag). z.tick) own.same;
           owes = ap (λ (z : Bag). z.owed) own.same;
-          listed = λ w. inr (same_list (k id).chunks (filter (is_chunk_of g id) all_chunks) (own.order w) (kept_sorted (is_chunk_of g id)) (λ q. own.chunks w q ∙ same (own.before w) q));
+          listed = λ w. inr (record { order = own.order w; same = λ q n. own.chunks w q n ∙ same (own.before w) q (own.noted w q n) });
+          since = own.here;
           out = own.out;
         })
 
@@ -100,14 +76,12 @@ left g c r one q = elim (cases_Bool (same_chunk c q)) [
 ]
 
 -- after the last hold of c
-pub narrows : (g : GridState) (c : ChunkPos) (r : ℕ) (b : Bag) → nat_eq (g.holds c) 1 ≡ true → (b.listed ≡ true → b.chunks ≡ filter (is_chunk_of g r) all_chunks) → Narrows (drop_hold g c) c r b
+pub narrows : (g : GridState) (c : ChunkPos) (r : ℕ) (b : Bag) → nat_eq (g.holds c) 1 ≡ true → (b.listed ≡ true → KeepsUp b (filter (is_chunk_of g r) all_chunks)) → Narrows (drop_hold g c) c r b
 narrows g c r b one is w =
-    let e : b.chunks ≡ filter (is_chunk_of g r) all_chunks = is w in
-    let P : List ChunkPos → Type 0 = λ xs. IsStrictlySortedBy chunk_cmp xs × ((q : ChunkPos) → (is_recorded xs q && not (same_chunk c q)) ≡ is_recorded (filter (is_chunk_of (drop_hold g c) r) all_chunks) q) in
-    subst P (sym e) (
-      kept_sorted (is_chunk_of g r),
-      λ q.
-          ap (λ z. z && not (same_chunk c q)) (listed (is_chunk_of g r) all_chunks q)
+    let k = is w in (
+      k.order,
+      λ q n.
+          ap (λ z. z && not (same_chunk c q)) (k.same q n ∙ listed (is_chunk_of g r) all_chunks q)
           ∙ turned (is_chunk_of g r q) (is_recorded all_chunks q) (not (same_chunk c q))
           ∙ ap (λ z. z && is_recorded all_chunks q) (sym (left g c r one q))
           ∙ sym (listed (is_chunk_of (drop_hold g c) r) all_chunks q),
@@ -115,14 +89,12 @@ narrows g c r b one is w =
 
 -- a chunk comes to a region
 pub widens : (g h : GridState) (c : ChunkPos) (r : ℕ) (b : Bag) → is_chunk c ≡ true → is_chunk_of h r c ≡ true → ((q : ChunkPos) → q ≢ c → is_chunk_of h r q ≡ is_chunk_of g r q)
-    → (b.listed ≡ true → b.chunks ≡ filter (is_chunk_of g r) all_chunks) → Widens h c r b
+    → (b.listed ≡ true → KeepsUp b (filter (is_chunk_of g r) all_chunks)) → Widens h c r b
 widens g h c r b limits mine others is w =
-    let e : b.chunks ≡ filter (is_chunk_of g r) all_chunks = is w in
-    let P : List ChunkPos → Type 0 = λ xs. IsStrictlySortedBy chunk_cmp xs × ((q : ChunkPos) → (is_recorded xs q || same_chunk c q) ≡ is_recorded (filter (is_chunk_of h r) all_chunks) q) in
-    subst P (sym e) (
-      kept_sorted (is_chunk_of g r),
-      λ q.
-          ap (λ z. z || same_chunk c q) (listed (is_chunk_of g r) all_chunks q)
+    let k = is w in (
+      k.order,
+      λ q n.
+          ap (λ z. z || same_chunk c q) (k.same q n ∙ listed (is_chunk_of g r) all_chunks q)
           ∙ come q
           ∙ sym (listed (is_chunk_of h r) all_chunks q),
     )
@@ -144,7 +116,7 @@ widens g h c r b limits mine others is w =
         none false = refl
 
 -- a chunk comes alone, to the region that has its section
-pub widens_alone : (g : GridState) (c : ChunkPos) (f : ℕ → Bag) → is_chunk c ≡ true → ((r : ℕ) → (f r).listed ≡ true → g.state r ≢ Dead → (f r).chunks ≡ filter (is_chunk_of g r) all_chunks)
+pub widens_alone : (g : GridState) (c : ChunkPos) (f : ℕ → Bag) → is_chunk c ≡ true → ((r : ℕ) → (f r).listed ≡ true → g.state r ≢ Dead → KeepsUp (f r) (filter (is_chunk_of g r) all_chunks))
     → g.state (g.owner (section_of g.grid c)) ≢ Dead → Widens (counted g c) c (g.owner (section_of g.grid c)) (f (g.owner (section_of g.grid c)))
 widens_alone g c f limits is lives = widens g (counted g c) c r (f r) limits mine others (λ w. is r w lives)
   where
@@ -174,7 +146,7 @@ pub settled_disturbed : (g : GridState) (c : ChunkPos) (f k m : ℕ → Bag) →
 settled_disturbed g c f k m s e r =
     let x = s r in
     let P : Bag → Type 0 = λ b. Gathered g r (f r) b in
-    subst P (ap (λ (h : ℕ → Bag). h r) (sym e)) (record { here = x.here; taken = x.taken; counter = x.counter; owes = x.owes; listed = x.listed; out = x.out })
+    subst P (ap (λ (h : ℕ → Bag). h r) (sym e)) (record { here = x.here; taken = x.taken; counter = x.counter; owes = x.owes; listed = x.listed; since = x.since; out = x.out })
 
 -- the id of a region, if it is one
 pub id_of : (n id : ℕ) → some_id n ≡ Some id → (n ≡ id) × (0 < n)
@@ -206,10 +178,10 @@ module _ (g : GridState) (n id : ℕ) (c : ChunkPos) (f : ℕ → Bag) (e : some
   lost_all k h own others =
       let x = id_of n id e in
       let P : ℕ → Type 0 = λ m. Narrowed c (f m) (k m) → ((u : ℕ) → u ≢ m → k u ≡ f u) → Settle g (unsettled_at n f) k in
-      subst P x.0 (λ o p. relisted_all g n (λ q. is_recorded (f n).chunks q && not (same_chunk c q)) f k x.1 (λ w. (h x.1 w).1) o p) own others
+      subst P x.0 (λ o p. relisted_all g n (λ q. is_recorded (f n).chunks q && not (same_chunk c q)) f k x.1 (λ w q n. (h x.1 w).1 q n) o p) own others
 
   pub gained_all : (k : ℕ → Bag) → (0 < n → Widens g c n (f n)) → Widened c (f id) (k id) → ((u : ℕ) → u ≢ id → k u ≡ f u) → Settle g (unsettled_at n f) k
   gained_all k h own others =
       let x = id_of n id e in
       let P : ℕ → Type 0 = λ m. Widened c (f m) (k m) → ((u : ℕ) → u ≢ m → k u ≡ f u) → Settle g (unsettled_at n f) k in
-      subst P x.0 (λ o p. relisted_all g n (λ q. is_recorded (f n).chunks q || same_chunk c q) f k x.1 (λ w. (h x.1 w).1) o p) own others
+      subst P x.0 (λ o p. relisted_all g n (λ q. is_recorded (f n).chunks q || same_chunk c q) f k x.1 (λ w q n. (h x.1 w).1 q n) o p) own others

@@ -25,6 +25,7 @@ no_bag_of o r b e = record {
   counter = λ h. absurd (cc);
   owes = λ h. absurd (cc);
   listed = λ d. absurd (d refl);
+  since = λ h. absurd (cc);
   out = λ h. absurd (cc);
 }
 

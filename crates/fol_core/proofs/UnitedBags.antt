@@ -20,7 +20,7 @@ use Rattle.fol_core.specs.Bags.{Alike, AreInOrder, CanJoin, IsBagOf, Joins, Join
 use Rattle.fol_core.specs.Begun.{Gathered}
 use Rattle.fol_core.proofs.ChunkLists.{kept_sorted, listed}
 use Rattle.fol_core.proofs.JoinedBags.{Apart, among}
-use Rattle.fol_core.proofs.SettledBags.{same_list}
+use Rattle.fol_core.proofs.KeptUp.{keeps_exact, keeps_like, same_list}
 
 empty_order : IsStrictlySortedBy chunk_cmp []
 unfolding IsStrictlySortedBy
@@ -44,7 +44,7 @@ joins_order (m ∷ ms) f h order j = joins_order ms j.0 h (joins_one_order m f j
 pub are_in_order : (g : GridState) (tick owed : ℕ → ℕ) (recorded : ℕ → Recorded) (f : ℕ → Bag) → ((r : ℕ) → IsBagOf g tick owed recorded r (f r)) → AreInOrder f
 are_in_order g tick owed recorded f bags r here w =
     let lives : g.state r ≢ Dead = λ d. let x : false ≡ true = rw d at (sym (bags r).here ∙ here) in true≢false (sym x) in
-    let e = (bags r).listed lives w in rw e (kept_sorted (is_chunk_of g r))
+    ((bags r).listed lives w).order
 
 -- new bags are in order
 pub opened_order : (tick owed : ℕ) (ids : List ℕ) (f : ℕ → Bag) → AreInOrder f → AreInOrder (opened_bags tick owed ids f)
@@ -55,7 +55,7 @@ opened_order tick owed (x ∷ xs) f order = opened_order tick owed xs (at_id f x
     one_opened tick owed x f order r = elim (cases_Bool (nat_eq x r)) [ inl e ↦ rw e (λ h w. empty_order) | inr e ↦ rw e (order r) ]
 
 -- whether the bags are here is all that a join needs of them
-abbrev AreHere : (ℕ → Bag) → (ℕ → Bag) → Type 0
+abbrev pub AreHere : (ℕ → Bag) → (ℕ → Bag) → Type 0
 AreHere f g = (r : ℕ) → (g r).here ≡ (f r).here
 
 joined_here : (m : MergePair) (f g : ℕ → Bag) → AreHere f g → AreHere (joined_bag m f) (joined_bag m g)
@@ -64,7 +64,7 @@ joined_here m f g same r = elim (cases_Bool (nat_eq m.into r)) [
   | inr e ↦ elim (cases_Bool (nat_eq m.from r)) [ inl x ↦ rw (e, x) refl | inr x ↦ rw (e, x) (same r) ]
 ]
 
-can_join_alike : (ms : List MergePair) (f g : ℕ → Bag) → AreHere f g → CanJoin ms f → CanJoin ms g
+pub can_join_alike : (ms : List MergePair) (f g : ℕ → Bag) → AreHere f g → CanJoin ms f → CanJoin ms g
 can_join_alike [] f g same can = tt
 can_join_alike (m ∷ ms) f g same can = (
   same m.from ∙ can.0,
@@ -87,7 +87,7 @@ pub can_join_next : (m : MergePair) (ms : List MergePair) (f h : ℕ → Bag) �
 can_join_next m ms f h can one = can_join_alike ms (joined_bag m f) h (one_here m f h can.2 one) can.3
 
 -- ---- what they owe
-abbrev OweSame : (ℕ → Bag) → (ℕ → Bag) → Type 0
+abbrev pub OweSame : (ℕ → Bag) → (ℕ → Bag) → Type 0
 OweSame f g = (r : ℕ) → (g r).owed ≡ (f r).owed
 
 joined_owed : (m : MergePair) (f g : ℕ → Bag) → OweSame f g → OweSame (joined_bag m f) (joined_bag m g)
@@ -96,7 +96,7 @@ joined_owed m f g same r = elim (cases_Bool (nat_eq m.into r)) [
   | inr e ↦ elim (cases_Bool (nat_eq m.from r)) [ inl x ↦ rw (e, x) refl | inr x ↦ rw (e, x) (same r) ]
 ]
 
-all_owed : (ms : List MergePair) (f g : ℕ → Bag) → OweSame f g → OweSame (joined_bags ms f) (joined_bags ms g)
+pub all_owed : (ms : List MergePair) (f g : ℕ → Bag) → OweSame f g → OweSame (joined_bags ms f) (joined_bags ms g)
 all_owed [] f g same = same
 all_owed (m ∷ ms) f g same = all_owed ms (joined_bag m f) (joined_bag m g) (joined_owed m f g same)
 
@@ -122,6 +122,7 @@ pub record UnitedInto (t : ℕ) (us : List ℕ) (f h : ℕ → Bag) : Type 0 whe
   pub taken : (h t).taken ≡ (f t).taken
   pub counter : (h t).tick ≡ (f t).tick
   pub owes : (h t).owed ≡ (joined_bags (into t us) f t).owed
+  pub since : (f t).taken ≡ false → (h t).since ≡ (f t).since
   pub out : (f t).taken ≡ true → (h t).chunks ≡ (f t).chunks
   pub were : (h t).listed ≡ true → (r : ℕ) → IsPart t us r → (f r).listed ≡ true
   pub all : (h t).listed ≡ true → (r : ℕ) → IsPart t us r → (c : ChunkPos) → is_recorded (f r).chunks c ≡ true → is_recorded (h t).chunks c ≡ true
@@ -137,6 +138,7 @@ module _ (t : ℕ) where
     taken = refl;
     counter = refl;
     owes = refl;
+    since = λ x. refl;
     out = λ x. refl;
     were = λ w r p. elim p [ inl s ↦ ap (λ n. (f n).listed) s ∙ w | inr m ↦ absurd (true≢false (sym m)) ];
     all = λ w r p c k. elim p [ inl s ↦ ap (λ n. is_recorded (f n).chunks c) (sym s) ∙ k | inr m ↦ absurd (true≢false (sym m)) ];
@@ -144,12 +146,13 @@ module _ (t : ℕ) where
   })
 
   -- one more joins, before the others
-  module _ (u : ℕ) (us : List ℕ) (f k h : ℕ → Bag) (ut : u ≢ t) (not_t : among t us ≡ false) (not_u : among u us ≡ false) (one : JoinsOne (record { «from» = u; into = t }) f k) (rest : UnitedInto t us k h) where
+  module _ (u : ℕ) (us : List ℕ) (f k h : ℕ → Bag) (home : (f t).taken ≡ false) (none : (f t).since ≡ []) (ut : u ≢ t) (not_t : among t us ≡ false) (not_u : among u us ≡ false)
+      (one : JoinsOne (record { «from» = u; into = t }) f k) (rest : UnitedInto t us k h) where
     same : (r : ℕ) → among r us ≡ true → k r ≡ f r
     same r m = one.others r (λ e. true≢false (sym m ∙ ap (λ n. among n us) e ∙ not_u)) (λ e. true≢false (sym m ∙ ap (λ n. among n us) e ∙ not_t))
 
     in_two : (c : ChunkPos) (w : (k t).listed ≡ true) → is_recorded (k t).chunks c ≡ (is_recorded (f t).chunks c || is_recorded (f u).chunks c)
-    in_two c w = one.own.relisted.chunks w c
+    in_two c w = one.own.relisted.chunks w c (ap (λ (xs : List ChunkPos). is_recorded xs c) (one.own.relisted.here home ∙ none))
 
     among_u : among u (u ∷ us) ≡ true
     among_u = or_left (nat_eq u u) (among u us) (self u)
@@ -168,6 +171,7 @@ module _ (t : ℕ) where
       taken = rest.taken ∙ ap (λ (b : Bag). b.taken) one.own.relisted.same;
       counter = rest.counter ∙ ap (λ (b : Bag). b.tick) one.own.relisted.same;
       owes = rest.owes ∙ all_owed (into t us) (joined_bag (record { «from» = u; into = t }) f) k (one_owed (record { «from» = u; into = t }) f k one) t;
+      since = λ x. rest.since (ap (λ (b : Bag). b.taken) one.own.relisted.same ∙ x) ∙ one.own.relisted.here x;
       out = λ x. rest.out (ap (λ (b : Bag). b.taken) one.own.relisted.same ∙ x) ∙ one.own.relisted.out x;
       were = λ w r p. were w r p;
       all = λ w r p c x. all w r p c x;
@@ -201,11 +205,12 @@ module _ (t : ℕ) where
           | inr e ↦ (y.0, inr (or_right (nat_eq y.0 u) (among y.0 us) e), sym (ap (λ (b : Bag). is_recorded b.chunks c) (same y.0 e)) ∙ y.2)
         ]
 
-  pub united_into : (us : List ℕ) (f h : ℕ → Bag) → among t us ≡ false → Apart us → Joins (into t us) f h → UnitedInto t us f h
-  united_into [] f h n a j = united_none f h j
-  united_into (u ∷ us) f h n a j =
+  pub united_into : (us : List ℕ) (f h : ℕ → Bag) → (f t).taken ≡ false → (f t).since ≡ [] → among t us ≡ false → Apart us → Joins (into t us) f h → UnitedInto t us f h
+  united_into [] f h home none n a j = united_none f h j
+  united_into (u ∷ us) f h home none n a j =
       let p = or_parts (nat_eq t u) (among t us) n in
-      united_more u us f j.0 h (λ e. eqb-false t u p.0 (sym e)) p.1 a.0 j.1 (united_into us j.0 h p.1 a.1 j.2)
+      united_more u us f j.0 h home none (λ e. eqb-false t u p.0 (sym e)) p.1 a.0 j.1
+          (united_into us j.0 h (ap (λ (b : Bag). b.taken) j.1.own.relisted.same ∙ home) (j.1.own.relisted.here home ∙ none) p.1 a.1 j.2)
 
 -- a listed bag that the regions united in has the chunks of all of them
 module _ (g : GridState) (t : ℕ) (us : List ℕ) (f h : ℕ → Bag) (u : UnitedInto t us f h)
@@ -232,10 +237,10 @@ module _ (g : GridState) (t : ℕ) (us : List ℕ) (f h : ℕ → Bag) (u : Unit
 
 -- ---- bags that stand for others
 pub alike_self : (b : Bag) → Alike b b
-alike_self b = record { here = refl; taken = refl; counter = refl; owes = refl; out = λ x. refl }
+alike_self b = record { here = refl; taken = refl; counter = refl; owes = refl; since = λ x. refl; out = λ x. refl }
 
 pub gathered_alike : (g : GridState) (r : ℕ) (a b : Bag) → Alike a b → (b.listed ≡ true → b.chunks ≡ filter (is_chunk_of g r) all_chunks) → Gathered g r a b
-gathered_alike g r a b s is = record { here = s.here; taken = s.taken; counter = s.counter; owes = s.owes; listed = λ w. inr (is w); out = s.out }
+gathered_alike g r a b s is = record { here = s.here; taken = s.taken; counter = s.counter; owes = s.owes; listed = λ w. inr (keeps_exact b.since b.chunks (is_chunk_of g r) (is w)); since = s.since; out = s.out }
 
 -- what stands for a bag that stands for another stands for that one
 pub gathered_then : (g : GridState) (r : ℕ) (a b c : Bag) → Gathered g r a b → Gathered g r b c → Gathered g r a c
@@ -245,8 +250,9 @@ gathered_then g r a b c x y = record {
   counter = y.counter ∙ x.counter;
   owes = y.owes ∙ x.owes;
   listed = λ w. elim (y.listed w) [
-    | inl l ↦ elim (x.listed l.0) [ inl k ↦ inl (k.0, l.1 ∙ k.1) | inr k ↦ inr (l.1 ∙ k) ]
+    | inl l ↦ elim (x.listed l.0) [ inl k ↦ inl (k.0, l.1 ∙ k.1, l.2 ∙ k.2) | inr k ↦ inr (keeps_like b.since c.since b.chunks c.chunks (filter (is_chunk_of g r) all_chunks) l.2 l.1 k) ]
     | inr l ↦ inr l
   ];
+  since = λ t. y.since (x.taken ∙ t) ∙ x.since t;
   out = λ t. y.out (x.taken ∙ t) ∙ x.out t;
 }

@@ -29,7 +29,7 @@ use Rattle.fol_store.specs.Stock.{bag_of}
 use Rattle.fol_core.specs.declared.tables.Course.{Course}
 use Rattle.fol_core.specs.declared.tables.Tables.{Tables}
 use Rattle.fol_core.specs.Hands.{at_rest, in_hands, since, ticker, went}
-use Rattle.fol_core.specs.Bags.{IsBagOf, unsettled_at}
+use Rattle.fol_core.specs.Bags.{AreBut, IsBagOf, unsettled_at}
 use Rattle.fol_core.specs.Agenda.{IsAgenda}
 use Rattle.fol_core.specs.Follows.{CanLose, Settle, Drops, IsKnown, losing}
 use Rattle.fol_core.specs.Answers.{unload_result}
@@ -65,7 +65,8 @@ drop_bag g c tick owed recorded r b is = record {
   taken = is.taken;
   counter = is.counter;
   owes = is.owes;
-  listed = λ d away w. is.listed d w ∙ sym (same_filter (is_chunk_of (drop_hold g c) r) (is_chunk_of g r) all_chunks (chunks away));
+  listed = λ d away w. subst (AreBut b.since b.chunks) (sym (same_filter (is_chunk_of (drop_hold g c) r) (is_chunk_of g r) all_chunks (chunks away))) (is.listed d w);
+  since = is.since;
   out = is.out;
 }
   where

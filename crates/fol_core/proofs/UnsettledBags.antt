@@ -1,7 +1,7 @@
 -- A bag that has to be gathered anew.
-use Rattle.std.proofs.Common.{◌≡◌, ◌≢◌, ℕ, ◌≤◌, ◌<◌, refl, sym, ◌∙◌, arith, true, inl, inr, filter, ◌||◌, not, ◌&&◌}
+use Rattle.std.proofs.Common.{◌≡◌, ◌≢◌, ℕ, ◌≤◌, ◌<◌, refl, sym, ◌∙◌, arith, true, false, inl, inr, [], filter, ◌||◌, not, ◌&&◌}
 use Rattle.std.specs.Prelude.{nat_eq, nat_lt}
-use Rattle.std.proofs.lemmas.Bool.{cases_Bool, eqb-true, eqb-false, ltb-false, true≢false}
+use Rattle.std.proofs.lemmas.Bool.{and_parts, cases_Bool, eqb-true, eqb-false, ltb-false, not-true, true≢false}
 use Rattle.fol_model.specs.declared.regions.State.{State}
 use Rattle.fol_model.specs.declared.regions.State.TheVariants.{Transient, Ready, Ticking, Dead}
 use Rattle.fol_model.specs.Universe.{all_chunks}
@@ -10,8 +10,9 @@ use Rattle.fol_model.specs.ActionStep.{Recorded}
 use Rattle.fol_model.specs.Outputs.{is_chunk_of}
 use Rattle.fol_store.specs.Bag.{Bag}
 use Rattle.fol_core.specs.Hands.{rests}
-use Rattle.fol_core.specs.Bags.{IsBagOf, unsettled_at}
+use Rattle.fol_core.specs.Bags.{IsBagOf, KeepsUp, unsettled_at}
 use Rattle.fol_core.specs.Agenda.{HaveBags}
+use Rattle.fol_core.proofs.KeptUp.{exact}
 
 -- as `IsBagOf`, but that a bag of region n need not be that of its chunks
 pub record IsBagBut (g : GridState) (tick owed : ℕ → ℕ) (recorded : ℕ → Recorded) (n r : ℕ) (b : Bag) : Type 0 where
@@ -19,7 +20,8 @@ pub record IsBagBut (g : GridState) (tick owed : ℕ → ℕ) (recorded : ℕ �
   pub taken : b.taken ≡ is_ticking (g.state r)
   pub counter : rests g r ≡ true → b.tick ≡ tick r
   pub owes : rests g r ≡ true → b.owed ≡ owed r
-  pub listed : g.state r ≢ Dead → n ≢ r → b.listed ≡ true → b.chunks ≡ filter (is_chunk_of g r) all_chunks
+  pub listed : g.state r ≢ Dead → n ≢ r → b.listed ≡ true → KeepsUp b (filter (is_chunk_of g r) all_chunks)
+  pub since : rests g r ≡ true → b.since ≡ []
   pub out : g.state r ≡ Ticking → b.chunks ≡ filter (recorded r) all_chunks
 
 pub unsettled_bag : (g : GridState) (tick owed : ℕ → ℕ) (recorded : ℕ → Recorded) (n : ℕ) (h : ℕ → Bag) → ((r : ℕ) → g.state r ≢ Dead → 0 < r)
@@ -32,6 +34,7 @@ unsettled_bag g tick owed recorded n h given is r = elim (cases_Bool (nat_lt 0 n
       counter = b.counter;
       owes = b.owes;
       listed = λ d w. absurd (true≢false (sym w));
+      since = b.since;
       out = b.out;
     })
     | inr e ↦ let b = is r in rw (l, e) (record {
@@ -40,6 +43,7 @@ unsettled_bag g tick owed recorded n h given is r = elim (cases_Bool (nat_lt 0 n
       counter = b.counter;
       owes = b.owes;
       listed = λ d w. b.listed d (eqb-false n r e) w;
+      since = b.since;
       out = b.out;
     })
   ]
@@ -49,12 +53,13 @@ unsettled_bag g tick owed recorded n h given is r = elim (cases_Bool (nat_lt 0 n
     counter = b.counter;
     owes = b.owes;
     listed = λ d w. b.listed d (λ e. let p : 0 < r = given r d in let z : n ≤ 0 = ltb-false 0 n l in omega arith) w;
+    since = b.since;
     out = b.out;
   })
 ]
 
 pub bag_but : (g : GridState) (tick owed : ℕ → ℕ) (recorded : ℕ → Recorded) (n r : ℕ) (b : Bag) → IsBagOf g tick owed recorded r b → IsBagBut g tick owed recorded n r b
-bag_but g tick owed recorded n r b is = record { here = is.here; taken = is.taken; counter = is.counter; owes = is.owes; listed = λ d m w. is.listed d w; out = is.out }
+bag_but g tick owed recorded n r b is = record { here = is.here; taken = is.taken; counter = is.counter; owes = is.owes; listed = λ d m w. is.listed d w; since = is.since; out = is.out }
 
 pub not_dead : (s : State) → s ≢ Dead → not (is_dead s) ≡ true
 not_dead Transient d = refl
@@ -73,6 +78,14 @@ ready_rests Ready h = refl
 ready_rests Transient h = absurd (true≢false (sym h))
 ready_rests Ticking h = absurd (true≢false (sym h))
 ready_rests Dead h = absurd (true≢false (sym h))
+
+-- the bag of a region that rests is not with a worker
+pub rests_home : (s : State) → (not (is_dead s) && not (is_ticking s)) ≡ true → is_ticking s ≡ false
+rests_home s h = not-true (is_ticking s) (and_parts (not (is_dead s)) (not (is_ticking s)) h).1
+
+-- the bag of a region that rests is listed for its loaded chunks
+pub exact_bag : (g : GridState) (tick owed : ℕ → ℕ) (recorded : ℕ → Recorded) (r : ℕ) (b : Bag) → IsBagOf g tick owed recorded r b → g.state r ≢ Dead → rests g r ≡ true → b.listed ≡ true → b.chunks ≡ filter (is_chunk_of g r) all_chunks
+exact_bag g tick owed recorded r b is lives h w = exact b.since b.chunks (is_chunk_of g r) (is.listed lives w) (is.since h)
 
 -- a region that lives has its bag here or with a worker
 pub known_bag : (g : GridState) (tick owed : ℕ → ℕ) (recorded : ℕ → Recorded) (n r : ℕ) (f : ℕ → Bag) → IsBagBut g tick owed recorded n r (f r) → g.state r ≢ Dead → ((f r).here || (f r).taken) ≡ true

@@ -1,5 +1,7 @@
 -- How the bags of the store follow the regions.
 use Rattle.std.specs.Prelude.{ℕ, ◌≡◌, ◌≢◌, ◌+◌, true, false, max, nat_lt, if◌then◌else◌, List, [], ◌∷◌, filter, Option}
+use Rattle.std.specs.List.Sorted.{IsStrictlySortedBy}
+use Rattle.fol_model.specs.declared.places.ChunkPos.{ChunkPos}
 use Rattle.fol_model.specs.declared.regions.State.TheVariants.{Dead, Ticking}
 use Rattle.fol_model.specs.Universe.{all_chunks}
 use Rattle.fol_model.specs.GridState.{GridState, is_ticking}
@@ -7,12 +9,22 @@ use Rattle.fol_model.specs.ActionStep.{Flat, Recorded, at_id}
 use Rattle.fol_model.specs.Outputs.{is_chunk_of}
 use Rattle.fol_model.specs.Job.{Job}
 use Rattle.fol_model.specs.World.{World}
-use Rattle.fol_chunks.specs.Contents.{outside}
+use Rattle.fol_chunks.specs.Contents.{is_recorded, outside}
+use Rattle.fol_chunks.specs.Order.{chunk_cmp}
 use Rattle.fol_regions.specs.declared.change.MergePair.{MergePair}
 use Rattle.fol_store.specs.Bag.{Bag, no_bag, new_bag}
 use Rattle.fol_store.specs.Relisted.{IsInOrder, United}
 use Rattle.fol_store.specs.Stock.{Stock, flat_of, jobs_of, bag_of, next_of}
 use Rattle.fol_core.specs.Hands.{at_rest, in_hands, rests}
+
+-- these chunks, in their order, are the others, but for those that were noted
+pub record AreBut (noted chunks others : List ChunkPos) : Type 0 where
+  pub order : IsStrictlySortedBy chunk_cmp chunks
+  pub same : (q : ChunkPos) → is_recorded noted q ≡ false → is_recorded chunks q ≡ is_recorded others q
+
+-- the chunks of the bag are these, but for those that it noted
+abbrev pub KeepsUp : Bag → List ChunkPos → Type 0
+KeepsUp b chunks = AreBut b.since b.chunks chunks
 
 -- the bag of a region
 pub record IsBagOf (g : GridState) (tick owed : ℕ → ℕ) (recorded : ℕ → Recorded) (r : ℕ) (b : Bag) : Type 0 where
@@ -20,8 +32,10 @@ pub record IsBagOf (g : GridState) (tick owed : ℕ → ℕ) (recorded : ℕ →
   pub taken : b.taken ≡ is_ticking (g.state r)
   pub counter : rests g r ≡ true → b.tick ≡ tick r
   pub owes : rests g r ≡ true → b.owed ≡ owed r
-  -- a listed bag is that of the region's loaded chunks
-  pub listed : g.state r ≢ Dead → b.listed ≡ true → b.chunks ≡ filter (is_chunk_of g r) all_chunks
+  -- a listed bag is that of the region's loaded chunks, but for those that it noted
+  pub listed : g.state r ≢ Dead → b.listed ≡ true → KeepsUp b (filter (is_chunk_of g r) all_chunks)
+  -- one that is here has noted none
+  pub since : rests g r ≡ true → b.since ≡ []
   -- a bag that was taken out is that of the recorded chunks
   pub out : g.state r ≡ Ticking → b.chunks ≡ filter (recorded r) all_chunks
 
@@ -49,6 +63,7 @@ pub record Alike (old new : Bag) : Type 0 where
   pub taken : new.taken ≡ old.taken
   pub counter : new.tick ≡ old.tick
   pub owes : new.owed ≡ old.owed
+  pub since : old.taken ≡ false → new.since ≡ old.since
   pub out : old.taken ≡ true → new.chunks ≡ old.chunks
 
 -- one region joins another, whose bag may be listed for the chunks of both

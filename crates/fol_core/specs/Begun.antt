@@ -1,5 +1,5 @@
 -- What a Begin takes out of the store.
-use Rattle.std.specs.Prelude.{ℕ, ◌≡◌, ◌-◌, true, not, ◌&&◌, ◌⊎◌, nat_le, if◌then◌else◌, filter, Option, Some, None}
+use Rattle.std.specs.Prelude.{ℕ, ◌≡◌, ◌-◌, true, false, not, ◌&&◌, ◌⊎◌, nat_le, if◌then◌else◌, filter, Option, Some, None}
 use Rattle.fol_model.specs.declared.tasks.Task.{Task}
 use Rattle.fol_model.specs.Universe.{all_chunks}
 use Rattle.fol_model.specs.GridState.{GridState}
@@ -7,6 +7,7 @@ use Rattle.fol_model.specs.ActionStep.{Recorded}
 use Rattle.fol_model.specs.Job.{Job}
 use Rattle.fol_model.specs.Outputs.{is_chunk_of}
 use Rattle.fol_store.specs.Bag.{Bag}
+use Rattle.fol_core.specs.Bags.{KeepsUp}
 
 -- how a bag of region r may differ after a gathering: it is listed for what it was, or for the region's loaded chunks
 pub record Gathered (g : GridState) (r : ℕ) (old new : Bag) : Type 0 where
@@ -14,7 +15,8 @@ pub record Gathered (g : GridState) (r : ℕ) (old new : Bag) : Type 0 where
   pub taken : new.taken ≡ old.taken
   pub counter : new.tick ≡ old.tick
   pub owes : new.owed ≡ old.owed
-  pub listed : new.listed ≡ true → ((old.listed ≡ true) × (new.chunks ≡ old.chunks)) ⊎ (new.chunks ≡ filter (is_chunk_of g r) all_chunks)
+  pub listed : new.listed ≡ true → ((old.listed ≡ true) × (new.chunks ≡ old.chunks) × (new.since ≡ old.since)) ⊎ KeepsUp new (filter (is_chunk_of g r) all_chunks)
+  pub since : old.taken ≡ false → new.since ≡ old.since
   pub out : old.taken ≡ true → new.chunks ≡ old.chunks
 
 -- the task goes with the tick and waits for a later one

@@ -47,13 +47,13 @@ losing s g c = if nat_eq (g.holds c) 1 then g.owner s else 0
 abbrev pub Settle : GridState → (ℕ → Bag) → (ℕ → Bag) → Type 0
 Settle g f k = (r : ℕ) → Gathered g r (f r) (k r)
 
--- where the bag is listed, its chunks but for c are those of region r
+-- where the bag is listed, its chunks but for c are those of region r, but for those that it noted
 abbrev pub Narrows : GridState → ChunkPos → ℕ → Bag → Type 0
-Narrows g c r b = b.listed ≡ true → IsStrictlySortedBy chunk_cmp b.chunks × ((q : ChunkPos) → (is_recorded b.chunks q && not (same_chunk c q)) ≡ is_recorded (filter (is_chunk_of g r) all_chunks) q)
+Narrows g c r b = b.listed ≡ true → IsStrictlySortedBy chunk_cmp b.chunks × ((q : ChunkPos) → is_recorded b.since q ≡ false → (is_recorded b.chunks q && not (same_chunk c q)) ≡ is_recorded (filter (is_chunk_of g r) all_chunks) q)
 
--- where the bag is listed, its chunks and c are those of region r
+-- where the bag is listed, its chunks and c are those of region r, but for those that it noted
 abbrev pub Widens : GridState → ChunkPos → ℕ → Bag → Type 0
-Widens g c r b = b.listed ≡ true → IsStrictlySortedBy chunk_cmp b.chunks × ((q : ChunkPos) → (is_recorded b.chunks q || same_chunk c q) ≡ is_recorded (filter (is_chunk_of g r) all_chunks) q)
+Widens g c r b = b.listed ≡ true → IsStrictlySortedBy chunk_cmp b.chunks × ((q : ChunkPos) → is_recorded b.since q ≡ false → (is_recorded b.chunks q || same_chunk c q) ≡ is_recorded (filter (is_chunk_of g r) all_chunks) q)
 
 -- whether the hold was added
 abbrev pub is_added : AddAnswer → Bool

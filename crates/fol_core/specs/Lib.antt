@@ -8,6 +8,7 @@ pub mod Follows
 pub mod Stands
 pub mod Same
 pub mod Begun
+pub mod CatchingUp
 pub mod Room
 pub mod Released
 pub mod Posts

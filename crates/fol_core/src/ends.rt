@@ -15,6 +15,7 @@ ghost use Rattle.fol_queues.specs.Waiting.{dated};
 ghost use Rattle.fol_regions.specs.Table.{grid_state};
 ghost use Rattle.fol_regions.specs.Answers.{IsGiven};
 ghost use Rattle.fol_regions.specs.Changes.{release_change};
+ghost use Rattle.fol_store.specs.Relisted.{IsInOrder};
 ghost use Rattle.fol_store.specs.Stock.{bag_of, flat_of, jobs_of, next_of};
 ghost use Rattle.fol_model.specs.declared.openings.Opening.{Opening};
 ghost use Rattle.fol_model.specs.declared.events.Entry.{Entry};
@@ -27,11 +28,12 @@ ghost use Rattle.fol_core.specs.MayEnd.{MayEnd};
 ghost use Rattle.fol_core.specs.Stands.{Fits, Stands};
 ghost use Rattle.fol_core.specs.Ticks.{IsOut};
 ghost use Rattle.fol_core.specs.Bags.{Follow};
-ghost use Rattle.fol_core.specs.Released.{CanEnd, DropsHolds, EndsRegion, Loosens, opened_parts, part_bag, parted};
+ghost use Rattle.fol_core.specs.Released.{BringsBack, CanEnd, DropsHolds, EndsRegion, Loosens, MayRelease, Releases, opened_parts, part_bag, parted};
 ghost use Rattle.fol_core.specs.Same.{SameStock, SameThings};
 
 use crate::agenda::tidy;
 use crate::bags::join;
+use crate::catching_up::catch_up;
 use crate::tables::Tables;
 use crate::wishes::accept_all;
 use fol_data::{RegionData, Tick};
@@ -80,23 +82,24 @@ pub(crate) fn end_tick(tables: &mut Tables, tick: Tick, mut accepts: Vec<Accept>
 /// Drops the holds of the tasks that ran in a tick of the region.
 fn drop_due(tables: &mut Tables, region: u64, due: &[Task])
     requires out { (bag_of tables.old.store region).taken ≡ true }
+    requires order { IsInOrder (bag_of tables.old.store region) }
     ensures { DropsHolds tables.old tables.new region due.now }
 {
     drop_holds(&mut tables.regions, &mut tables.store, region, due);
 }
 
-/// Drops the holds of the tasks that ran in a tick of the region. Where a chunk lost its last hold, the region's bag has to be gathered
-/// anew.
+/// Drops the holds of the tasks that ran in a tick of the region. Where a chunk lost its last hold, the region's bag notes it.
 fn drop_holds(regions: &mut Regions, store: &mut Store, region: u64, due: &[Task])
     requires out { (bag_of store.old region).taken ≡ true }
+    requires order { IsInOrder (bag_of store.old region) }
     ensures regions { grid_state regions.new ≡ drop_each (grid_state regions.old) due.now }
     ensures bags { Loosens (grid_state regions.old) (grid_state regions.new) region
         (bag_of store.old) (bag_of store.new) }
     ensures things { SameThings store.old store.new }
     ensures next { next_of store.new ≡ next_of store.old }
     ensures spare { regions.new.spare ≡ regions.old.spare }
-    ensures tasks { store.new.spare ≡ store.old.spare }
-    ensures slots { store.new.slots ≡ store.old.slots }
+    ensures tasks { store.old.spare ≤ store.new.spare }
+    ensures slots { store.old.slots ≤ store.new.slots }
 {
     for task in due {
         drop_hold(regions, store, region, task.chunk);
@@ -106,17 +109,19 @@ fn drop_holds(regions: &mut Regions, store: &mut Store, region: u64, due: &[Task
 /// Drops one hold of a chunk.
 fn drop_hold(regions: &mut Regions, store: &mut Store, region: u64, chunk: ChunkPos)
     requires out { (bag_of store.old region).taken ≡ true }
+    requires order { IsInOrder (bag_of store.old region) }
+    ensures order { IsInOrder (bag_of store.new region) }
     ensures regions { grid_state regions.new ≡ drop (grid_state regions.old) chunk }
     ensures bags { Loosens (grid_state regions.old) (grid_state regions.new) region
         (bag_of store.old) (bag_of store.new) }
     ensures things { SameThings store.old store.new }
     ensures next { next_of store.new ≡ next_of store.old }
     ensures spare { regions.new.spare ≡ regions.old.spare }
-    ensures tasks { store.new.spare ≡ store.old.spare }
-    ensures slots { store.new.slots ≡ store.old.slots }
+    ensures tasks { store.old.spare ≤ store.new.spare }
+    ensures slots { store.old.slots ≤ store.new.slots }
 {
     match regions.remove(chunk) {
-        Removed::Gone => store.unsettle(region),
+        Removed::Gone => store.lose(region, chunk),
         Removed::Lowered => {}
         Removed::NotLoaded => {}
     }
@@ -127,9 +132,27 @@ pub(crate) fn end_region(tables: &mut Tables, region: u64, chunks: Vec<ChunkPos>
     requires { CanEnd tables.old region chunks.items body }
     ensures { EndsRegion tables.old tables.new region body }
 {
+    bring_back(tables, region, chunks, body);
+    release_region(tables, region);
+}
+
+/// The chunks and the data of a Ticking region come back, and its bag follows the chunks that came and left meanwhile.
+fn bring_back(tables: &mut Tables, region: u64, chunks: Vec<ChunkPos>, body: RegionData)
+    requires { CanEnd tables.old region chunks.items body }
+    ensures { BringsBack tables.old tables.new region body }
+{
+    tables.regions.keeps_rules();
+    tables.store.put(region, chunks, body);
+    catch_up(&tables.regions, &mut tables.store, &tables.grid, region);
+}
+
+/// Releases a Ticking region whose chunks and data are back.
+fn release_region(tables: &mut Tables, region: u64)
+    requires { MayRelease tables.old region }
+    ensures { Releases tables.old tables.new region }
+{
     tables.regions.keeps_rules();
     tables.regions.release(region);
-    tables.store.put(region, chunks, body);
     let change = tables.regions.last();
     join(&mut tables.store, change.merges());
     if is_over(&tables.regions, region) {

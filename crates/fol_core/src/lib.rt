@@ -16,6 +16,7 @@ mod agenda;
 mod answers;
 mod bags;
 mod begins;
+mod catching_up;
 mod closing;
 mod ends;
 mod holds;

@@ -4,6 +4,7 @@ ghost use Rattle.std.specs.Prelude.{◌≡◌, ◌≢◌, ◌≤◌, ◌&&◌, �
 ghost use Rattle.std.specs.Option.{is_none, ForSome};
 ghost use Rattle.std.specs.List.Sorted.{IsStrictlySortedBy};
 ghost use Rattle.fol_model.specs.ActionStep.{at_id};
+ghost use Rattle.fol_chunks.specs.Contents.{is_recorded};
 ghost use Rattle.fol_chunks.specs.Order.{chunk_cmp};
 ghost use Rattle.fol_store.specs.Places.{place_at};
 ghost use Rattle.fol_store.specs.Relisted.{IsInOrder, Narrowed, Widened};
@@ -74,6 +75,8 @@ impl Store {
         requires known { ((bag_of self.old id).here || (bag_of self.old id).taken) ≡ true }
         requires order { IsInOrder (bag_of self.old id) }
         ensures own { Narrowed c (bag_of self.old id) (bag_of self.new id) }
+        ensures away { (bag_of self.old id).taken ≡ true → (bag_of self.new id).listed ≡ true
+            → is_recorded (bag_of self.new id).since c ≡ true }
         ensures others { (u : ℕ) → u ≢ id → bag_of self.new u ≡ bag_of self.old u }
         ensures next { next_of self.new ≡ next_of self.old }
         ensures contents { flat_of self.new ≡ flat_of self.old }

@@ -2,7 +2,9 @@ use Rattle.std.proofs.Common.{◌≡◌, ◌∙◌, filter}
 use Rattle.fol_model.specs.Universe.{all_chunks}
 use Rattle.fol_model.specs.Outputs.{is_chunk_of}
 use Rattle.fol_regions.specs.Table.{grid_state}
+use Rattle.fol_store.specs.Stock.{bag_of}
 use Rattle.fol_core.proofs.ChunkLists.{kept_sorted, kept_within}
+use Rattle.fol_core.proofs.GatheredBags.{gathered_all}
 use Rattle.fol_core.proofs.begins.settle.Goals as goal
 
 pub gather-requires-clause-order : goal.gather-requires-clause-order
@@ -14,3 +16,8 @@ pub gather-requires-clause-places : goal.gather-requires-clause-places
 gather-requires-clause-places c =
     let e : c.deref.result.now ≡ filter (is_chunk_of (grid_state c.args.regions.now) c.args.id) all_chunks = c.deref.ensures.value ∙ c.list_chunks.ensures.chunks in
     rw e (kept_within (is_chunk_of (grid_state c.args.regions.now) c.args.id))
+
+pub returns-clause-bags : goal.returns-clause-bags
+returns-clause-bags c =
+    gathered_all c.gather.result (grid_state c.args.regions.now) c.args.id c.deref.result.now (bag_of c.args.store.now) (bag_of c.gather.new.self) (c.deref.ensures.value ∙ c.list_chunks.ensures.chunks)
+    c.requires.at_home c.gather.ensures.whole c.gather.ensures.err c.gather.ensures.others

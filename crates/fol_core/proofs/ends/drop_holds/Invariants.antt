@@ -1,6 +1,7 @@
-use Rattle.std.proofs.Common.{◌≡◌, drop, true}
+use Rattle.std.proofs.Common.{◌≡◌, ◌≤◌, drop, true}
 use Rattle.fol_end_laws.specs.DroppedHolds.{drop_each}
 use Rattle.fol_regions.specs.Table.{grid_state}
+use Rattle.fol_store.specs.Relisted.{IsInOrder}
 use Rattle.fol_store.specs.Stock.{bag_of, next_of}
 use Rattle.fol_core.specs.Released.{Loosens}
 use Rattle.fol_core.specs.Same.{SameThings}
@@ -13,6 +14,7 @@ invariant-loop-task l =
     × SameThings l.initial.store l.store
     × (next_of l.store ≡ next_of l.initial.store)
     × (l.regions.spare ≡ l.initial.regions.spare)
-    × (l.store.spare ≡ l.initial.store.spare)
-    × (l.store.slots ≡ l.initial.store.slots)
+    × (l.initial.store.spare ≤ l.store.spare)
+    × (l.initial.store.slots ≤ l.store.slots)
     × ((bag_of l.store l.region).taken ≡ true)
+    × IsInOrder (bag_of l.store l.region)

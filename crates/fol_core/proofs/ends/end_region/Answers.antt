@@ -1,7 +1,8 @@
-use Rattle.fol_core.proofs.Given.{given_after}
+use Rattle.fol_core.proofs.EndedRegion.{ends_region, may_release}
 use Rattle.fol_core.proofs.ends.end_region.Goals as goal
 
-pub is_over-requires : goal.is_over-requires
-is_over-requires c = let e = c.release.ensures.state in record {
-  given = rw e (given_after _ c.args.region c.requires.ticks (c.keeps_rules.ensures.given c.args.region) (c.keeps_rules.ensures.below_next c.args.region));
-}
+pub release_region-requires : goal.release_region-requires
+release_region-requires c = may_release c.args.tables.now c.bring_back.new.tables c.args.region c.args.chunks.items c.args.body c.requires c.bring_back.ensures
+
+pub returns : goal.returns
+returns c = ends_region c.args.tables.now c.bring_back.new.tables c.args.region c.args.chunks.items c.args.body c.requires c.bring_back.ensures c.release_region.new.tables c.release_region.ensures

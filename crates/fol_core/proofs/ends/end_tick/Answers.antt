@@ -3,7 +3,10 @@ use Rattle.fol_core.proofs.EndSteps as step
 use Rattle.fol_core.proofs.ends.end_tick.Goals as goal
 
 pub drop_due-requires : goal.drop_due-requires
-drop_due-requires c = let m = c.requires.may in record { out = step.taken c.args.tables.now c.args.tick m.opening m.history m.room m.stands m.out }
+drop_due-requires c = let m = c.requires.may in record {
+  out = step.taken c.args.tables.now c.args.tick m.opening m.history m.room m.stands m.out;
+  order = step.in_order c.args.tables.now c.args.tick m.opening m.history m.room m.stands m.out;
+}
 
 pub overflow_add-body : goal.overflow_add-body
 overflow_add-body c = let m = c.requires.may in let b = step.bound c.args.tables.now c.args.tick m.opening m.history m.room m.stands m.out in omega (arith, b)

@@ -1,5 +1,6 @@
-use Rattle.std.proofs.Common.{◌≡◌, ◌<◌, ◌||◌, ◌&&◌, true, false, [], length, sym, ◌∙◌}
-use Rattle.std.proofs.lemmas.Bool.{and_parts}
+use Rattle.std.proofs.Common.{◌≡◌, ◌<◌, ◌||◌, ◌&&◌, true, false, [], List, length, sym, ◌∙◌, ap}
+use Rattle.std.proofs.lemmas.Bool.{and_parts, true≢false}
+use Rattle.fol_model.specs.declared.places.ChunkPos.{ChunkPos}
 use Rattle.fol_model.specs.Geometry.{same_chunk}
 use Rattle.fol_chunks.specs.Contents.{is_recorded}
 use Rattle.fol_store.specs.contracts.store.Store.{the_view}
@@ -7,7 +8,9 @@ use Rattle.fol_store.specs.Places.{is_bag}
 use Rattle.fol_store.specs.Stock.{slot, place, bag_of}
 use Rattle.fol_store.proofs.BagSteps.{open_range}
 use Rattle.fol_store.proofs.Filling.{own_at}
+use Rattle.fol_store.proofs.Noting.{recorded_last}
 use Rattle.fol_store.proofs.OneMore.{recorded_away}
+use Rattle.fol_store.proofs.Stepping.{here_not_taken}
 use Rattle.fol_store.proofs.Relisting.{lacks_chunk, less_elsewhere, noted_bag, same_chunks}
 use Rattle.fol_store.proofs.store.Store.lose.Goals as goal
 
@@ -46,3 +49,22 @@ returns-else-has_bag-clause-own c =
     let home : is_bag c.args.id (place (the_view c.self.inside) c.args.c) ≡ false = rw c.at.ensures at (sym c.has_bag.ensures ∙ c.if-has_bag.false) in
     let lacks : is_recorded (bag_of c.args.self.now c.args.id).chunks c.args.c ≡ false = rw (← c.self.view_is) (lacks_chunk (the_view c.self.inside) c.args.id c.args.c c.self.invariant ready home) in
     same_chunks _ (bag_of c.args.self.now c.args.id) c.requires.order (λ q. recorded_away (bag_of c.args.self.now c.args.id).chunks c.args.c q lacks)
+
+pub returns-then-not-is_ready-clause-away : goal.returns-then-not-is_ready-clause-away
+returns-then-not-is_ready-clause-away c t w =
+    let e = (c.note_change.ensures.noted w).1 in
+    ap (λ (xs : List ChunkPos). is_recorded xs c.args.c) e ∙ recorded_last (bag_of c.args.self.now c.args.id).since c.args.c
+
+pub returns-then-has_bag-clause-away : goal.returns-then-has_bag-clause-away
+unfolding bag_of
+returns-then-has_bag-clause-away c t w =
+    let ready : ((slot (the_view c.self.inside) c.args.id).here && (slot (the_view c.self.inside) c.args.id).listed) ≡ true = rw c.as_slice.ensures.value at (sym c.is_ready.ensures ∙ c.if-not-is_ready.false) in
+    let home = here_not_taken c.args.id (the_view c.self.inside) c.self.invariant (and_parts (slot (the_view c.self.inside) c.args.id).here (slot (the_view c.self.inside) c.args.id).listed ready).0 in
+    absurd (true≢false (sym (rw (← c.self.view_is) at t) ∙ home))
+
+pub returns-else-has_bag-clause-away : goal.returns-else-has_bag-clause-away
+unfolding bag_of
+returns-else-has_bag-clause-away c t w =
+    let ready : ((slot (the_view c.self.inside) c.args.id).here && (slot (the_view c.self.inside) c.args.id).listed) ≡ true = rw c.as_slice.ensures.value at (sym c.is_ready.ensures ∙ c.if-not-is_ready.false) in
+    let home = here_not_taken c.args.id (the_view c.self.inside) c.self.invariant (and_parts (slot (the_view c.self.inside) c.args.id).here (slot (the_view c.self.inside) c.args.id).listed ready).0 in
+    absurd (true≢false (sym (rw (← c.self.view_is) at t) ∙ home))
