@@ -125,15 +125,12 @@ nobody_in (None ∷ xs) h (suc k) = nobody_in xs h k
 nobody_in (Some x ∷ xs) h k = absurd (true≢false (sym h))
 
 -- a page with nobody may leave
-pub counts-blank : (before after : List ((ℤ × ℤ) × Page)) (x z : ℤ) (p : Page) → page_at before x z ≡ Some p → list_all (λ counts. not (is_some counts)) p.sections ≡ true
+pub counts-gone : (before after : List ((ℤ × ℤ) × Page)) (x z : ℤ) → ((q : SectionPos) → (page_of q.x ≡ x) × (page_of q.z ≡ z) → counts_at before q ≡ None)
     → ((a b : ℤ) → page_at after a b ≡ cond (is_same x z a b) None (page_at before a b)) → (q : SectionPos) → counts_at after q ≡ counts_at before q
 unfolding counts_at
-counts-blank before after x z p was blank step q = ap (option_and_then (λ p. counts_on p q)) (step (page_of q.x) (page_of q.z)) ∙ elim (cases_Bool (is_same x z (page_of q.x) (page_of q.z))) [
+counts-gone before after x z none step q = ap (option_and_then (λ p. counts_on p q)) (step (page_of q.x) (page_of q.z)) ∙ elim (cases_Bool (is_same x z (page_of q.x) (page_of q.z))) [
   | inr e ↦ rw e refl
-  | inl e ↦
-      let k = same_place x z (page_of q.x) (page_of q.z) e in
-      let there : page_at before (page_of q.x) (page_of q.z) ≡ Some p = (λ i. page_at before (sym k.0 i) (sym k.1 i)) ∙ was in
-      rw (e, there) (sym (nobody_in p.sections blank (place_of q)))
+  | inl e ↦ let k = same_place x z (page_of q.x) (page_of q.z) e in rw e (sym (none q (sym k.0, sym k.1)))
 ]
 
 pub none_there : {X : Type 0} (o : Option X) → is_some o ≡ false → o ≡ None

@@ -1,13 +1,13 @@
 //! Dead sections that leave, by stretches of a list that lie in one page.
 
-ghost use Rattle.std.specs.Prelude.{◌≡◌, ℤ, ◌≤◌, ◌&&◌, cond, None, count_by, nat_eq};
+ghost use Rattle.std.specs.Prelude.{◌≡◌, ℤ, ◌≤◌, ◌&&◌, true, false, cond, IsTrue, None, count_by, nat_eq};
 ghost use Rattle.std.specs.HashMap.{spare};
 ghost use Rattle.std.specs.List.{All};
 ghost use Rattle.fol_model.specs.declared.places.SectionPos.{SectionPos};
 ghost use Rattle.fol_model.specs.Geometry.{is_among};
-ghost use Rattle.fol_sections.specs.Pages.{AllUsed, IsOnPage, counts_at, counts_on, has_page, near_at, near_on};
+ghost use Rattle.fol_sections.specs.Pages.{AllUsed, HasSection, IsOnPage, counts_at, counts_on, has_page, near_at, near_on, page_of as page};
 
-use crate::pages::{Page, Pages, drop_if_empty, near_in, page_of, place_of};
+use crate::pages::{Page, Pages, is_empty, near_in, page_of, place_of};
 use crate::stretches::stretch;
 use fol_model::SectionPos;
 
@@ -27,20 +27,28 @@ fn clear_on(page: &mut Page, part: &[SectionPos]) -> usize
     dead
 }
 
-/// Takes those sections of a list, all in the page of `first`, out of the page near which no section holds a loaded chunk, and
-/// returns how many they are.
-fn clear_stretch(pages: &mut Pages, first: SectionPos, part: &[SectionPos]) -> usize
+/// Takes those sections of a list, all in the page of `first`, out of the page near which no section holds a loaded chunk. Returns
+/// how many they are, and whether the page is there and has no present section any more.
+fn clear_stretch(pages: &mut Pages, first: SectionPos, part: &[SectionPos]) -> (usize, bool)
     requires page { All (IsOnPage first) part.now }
-    ensures dead { result ≡ count_by (λ s. nat_eq (near_at pages.old.entries s) 0) part.now }
+    ensures dead { result.0 ≡ count_by (λ s. nat_eq (near_at pages.old.entries s) 0) part.now }
     ensures out { (q : SectionPos) → counts_at pages.new.entries q
         ≡ cond (is_among part.now q && nat_eq (near_at pages.old.entries q) 0)
         None (counts_at pages.old.entries q) }
     ensures pages { (x z : ℤ) → has_page pages.new.entries x z ≡ has_page pages.old.entries x z }
+    ensures empty { result.1 ≡ true → (q : SectionPos) → IsOnPage first q
+        → counts_at pages.new.entries q ≡ None }
+    ensures busy { result.1 ≡ false
+        → IsTrue (has_page pages.new.entries (page first.x) (page first.z))
+        → HasSection pages.new.entries (page first.x) (page first.z) }
     ensures room { spare pages.new ≡ spare pages.old }
 {
     match pages.get_mut(&page_of(first)) {
-        Some(page) => clear_on(page, part),
-        None => part.len(),
+        Some(page) => {
+            let dead = clear_on(page, part);
+            (dead, is_empty(page))
+        }
+        None => (part.len(), false),
     }
 }
 
@@ -55,8 +63,10 @@ fn drop_stretch(pages: &mut Pages, first: SectionPos, part: &[SectionPos]) -> us
     ensures room { spare pages.old ≤ spare pages.new }
     ensures used { AllUsed pages.old.entries → AllUsed pages.new.entries }
 {
-    let dead = clear_stretch(pages, first, part);
-    drop_if_empty(pages, page_of(first));
+    let (dead, is_done) = clear_stretch(pages, first, part);
+    if is_done {
+        let _ = pages.remove(&page_of(first));
+    }
     dead
 }
 

@@ -172,28 +172,9 @@ pub fn change(pages: &mut Pages, s: SectionPos, counts: Counts)
 }
 
 /// Whether a page has no present section.
-fn is_empty(page: &Page) -> bool
+pub fn is_empty(page: &Page) -> bool
     ensures value { result ≡ list_all (λ counts. not (is_some counts)) page.now.sections }
     ensures whole { length page.now.sections ≡ 64 }
 {
     page.sections.iter().all(|counts| counts.is_none())
-}
-
-/// Takes a page out that has no present section.
-pub fn drop_if_empty(pages: &mut Pages, key: (i32, i32))
-    ensures same { (q : SectionPos) → counts_at pages.new.entries q
-        ≡ counts_at pages.old.entries q }
-    ensures others { (x z : ℤ) → IsTrue (has_page pages.new.entries x z)
-        → IsTrue (has_page pages.old.entries x z) }
-    ensures used { IsTrue (has_page pages.new.entries key.0 key.1)
-        → HasSection pages.new.entries key.0 key.1 }
-    ensures room { spare pages.old ≤ spare pages.new }
-{
-    let is_done = match pages.get(&key) {
-        Some(page) => is_empty(page),
-        None => false,
-    };
-    if is_done {
-        let _ = pages.remove(&key);
-    }
 }

@@ -1,9 +1,10 @@
 use Rattle.std.proofs.Common.{◌≡◌, sym, ◌∙◌, ap, rules}
 use Rattle.std.specs.Prelude.{is_some, nat_eq}
 use Rattle.std.specs.Option.{option_copied_mut}
+use Rattle.std.proofs.lemmas.Bool.{true≢false}
 use Rattle.fol_sections.specs.Pages.{near_at, near_on, has_page, page_at, page_of}
 use Rattle.fol_sections.specs.Places.{is_same}
-use Rattle.fol_sections.proofs.DropSteps.{all_dead, count_stretch, out_of_none, out_of_page}
+use Rattle.fol_sections.proofs.DropSteps.{all_dead, count_stretch, out_of_none, out_of_page, page_busy, page_empty}
 use Rattle.fol_sections.proofs.PageSteps.{pages-same}
 use Rattle.fol_sections.proofs.PageStretches.{near_there}
 use Rattle.fol_sections.proofs.drops.clear_stretch.Goals as goal
@@ -12,22 +13,22 @@ pub returns-in-Some-clause-dead : goal.returns-in-Some-clause-dead
 unfolding page_at
 returns-in-Some-clause-dead c =
     let was = sym (ap option_copied_mut (sym c.in-Some.is) ∙ rw c.page_of.ensures at c.get_mut.ensures.value) in
-    c.clear_on.ensures.dead ∙ count_stretch (λ n. nat_eq n 0) (near_on c.in-Some.page.now) (near_at c.args.pages.now.entries) c.args.first c.args.part.now c.requires.page
+    c.clear_on-dead.ensures.dead ∙ count_stretch (λ n. nat_eq n 0) (near_on c.in-Some.page.now) (near_at c.args.pages.now.entries) c.args.first c.args.part.now c.requires.page
     (λ q on. near_there c.args.pages.now.entries c.args.first q on c.in-Some.page.now was)
 
 pub returns-in-Some-clause-out : goal.returns-in-Some-clause-out
 unfolding page_at is_same
 returns-in-Some-clause-out c =
     let was = sym (ap option_copied_mut (sym c.in-Some.is) ∙ rw c.page_of.ensures at c.get_mut.ensures.value) in
-    let w = c.get_mut.follows.holds c.clear_on.new.page in
+    let w = c.get_mut.follows.holds c.clear_on-dead.new.page in
     let updates = rw c.page_of.ensures at (w.3 (ap is_some (sym c.get_mut.ensures.value ∙ ap option_copied_mut c.in-Some.is))) in
-    out_of_page c.args.pages.now.entries _ c.args.first c.in-Some.page.now c.clear_on.new.page was (λ a b. updates.0 (a, b)) c.args.part.now c.requires.page c.clear_on.ensures.out
+    out_of_page c.args.pages.now.entries _ c.args.first c.in-Some.page.now c.clear_on-dead.new.page was (λ a b. updates.0 (a, b)) c.args.part.now c.requires.page c.clear_on-dead.ensures.out
 
 pub returns-in-Some-clause-pages : goal.returns-in-Some-clause-pages
 unfolding page_at has_page is_same
 returns-in-Some-clause-pages c =
     let was = sym (ap option_copied_mut (sym c.in-Some.is) ∙ rw c.page_of.ensures at c.get_mut.ensures.value) in
-    let w = c.get_mut.follows.holds c.clear_on.new.page in
+    let w = c.get_mut.follows.holds c.clear_on-dead.new.page in
     let updates = rw c.page_of.ensures at (w.3 (ap is_some (sym c.get_mut.ensures.value ∙ ap option_copied_mut c.in-Some.is))) in
     pages-same c.args.pages.now.entries _ (page_of c.args.first.x) (page_of c.args.first.z) _ (λ a b. updates.0 (a, b)) (ap is_some was)
 
@@ -43,3 +44,27 @@ returns-in-None-clause-out c =
     let none = sym (ap option_copied_mut (sym c.in-None.is) ∙ rw c.page_of.ensures at c.get_mut.ensures.value) in
     let same : c.get_mut.follows.lender-at-none.entries ≡ c.args.pages.now.entries = search rules in
     rw same (out_of_none c.args.pages.now.entries c.args.first c.args.part.now c.requires.page none)
+
+pub returns-in-Some-clause-empty : goal.returns-in-Some-clause-empty
+unfolding page_at is_same
+returns-in-Some-clause-empty c = λ done.
+    let was = sym (ap option_copied_mut (sym c.in-Some.is) ∙ rw c.page_of.ensures at c.get_mut.ensures.value) in
+    let w = c.get_mut.follows.holds c.clear_on-dead.new.page in
+    let updates = rw c.page_of.ensures at (w.3 (ap is_some (sym c.get_mut.ensures.value ∙ ap option_copied_mut c.in-Some.is))) in
+    page_empty c.args.pages.now.entries _ c.args.first c.in-Some.page.now c.clear_on-dead.new.page was (λ a b. updates.0 (a, b)) c.args.part.now c.requires.page c.clear_on-dead.ensures.out (sym c.is_empty.ensures.value ∙ done)
+
+pub returns-in-Some-clause-busy : goal.returns-in-Some-clause-busy
+unfolding page_at is_same
+returns-in-Some-clause-busy c = λ busy there.
+    let was = sym (ap option_copied_mut (sym c.in-Some.is) ∙ rw c.page_of.ensures at c.get_mut.ensures.value) in
+    let w = c.get_mut.follows.holds c.clear_on-dead.new.page in
+    let updates = rw c.page_of.ensures at (w.3 (ap is_some (sym c.get_mut.ensures.value ∙ ap option_copied_mut c.in-Some.is))) in
+    page_busy c.args.pages.now.entries _ c.args.first c.in-Some.page.now c.clear_on-dead.new.page was (λ a b. updates.0 (a, b)) c.args.part.now c.requires.page c.clear_on-dead.ensures.out c.is_empty.ensures.whole (sym c.is_empty.ensures.value ∙ busy)
+
+pub returns-in-None-clause-busy : goal.returns-in-None-clause-busy
+unfolding page_at has_page
+returns-in-None-clause-busy c = λ busy there.
+    let none = sym (ap option_copied_mut (sym c.in-None.is) ∙ rw c.page_of.ensures at c.get_mut.ensures.value) in
+    let same : c.get_mut.follows.lender-at-none.entries ≡ c.args.pages.now.entries = search rules in
+    let gone = rw same at there in
+    absurd (true≢false (sym gone ∙ ap is_some none))
