@@ -90,7 +90,8 @@ impl Owners {
 
     /// The same regions with the same room, in memory of their own.
     pub fn copy(&self) -> Result<Owners, AllocError>
-        ensures owner { IfOk result (λ v. (q : SectionPos) → owner_in v.pages q ≡ owner_in self.now.pages q) }
+        ensures owner { IfOk result (λ v. (q : SectionPos) → owner_in v.pages q
+            ≡ owner_in self.now.pages q) }
         ensures room { IfOk result (λ v. self.now.free ≤ v.free) }
     {
         let mut pages = self.pages.clone()?;
