@@ -210,7 +210,7 @@ module _ (t : ℕ) where
   united_into (u ∷ us) f h home none n a j =
       let p = or_parts (nat_eq t u) (among t us) n in
       united_more u us f j.0 h home none (λ e. eqb-false t u p.0 (sym e)) p.1 a.0 j.1
-          (united_into us j.0 h (ap (λ (b : Bag). b.taken) j.1.own.relisted.same ∙ home) (j.1.own.relisted.here home ∙ none) p.1 a.1 j.2)
+      (united_into us j.0 h (ap (λ (b : Bag). b.taken) j.1.own.relisted.same ∙ home) (j.1.own.relisted.here home ∙ none) p.1 a.1 j.2)
 
 -- a listed bag that the regions united in has the chunks of all of them
 module _ (g : GridState) (t : ℕ) (us : List ℕ) (f h : ℕ → Bag) (u : UnitedInto t us f h)

@@ -144,7 +144,7 @@ pub record Releases (old new : Tables) (r : ℕ) : Type 0 where
   pub regions : grid_state new.regions ≡ release (grid_state old.regions) r
   pub things : SameThings old.store new.store
   pub bags : (f : ℕ → Bag) → ((h : ℕ → Bag) → Joins (release_change (grid_state old.regions) r).merges (bag_of old.store) h
-          → ((h r).here ≡ true) × Settle (release (grid_state old.regions) r) f (parted_in (release (grid_state old.regions) r) (release_change (grid_state old.regions) r) r h))
+      → ((h r).here ≡ true) × Settle (release (grid_state old.regions) r) f (parted_in (release (grid_state old.regions) r) (release_change (grid_state old.regions) r) r h))
       → Settle (release (grid_state old.regions) r) f (bag_of new.store)
   pub next : next_of new.store ≡ next_of old.store + length (parts_in (release (grid_state old.regions) r) (release_change (grid_state old.regions) r) r)
   pub agenda : IsAgenda new.agenda.items (grid_state new.regions) (bag_of new.store)
