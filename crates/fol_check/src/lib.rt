@@ -15,8 +15,6 @@ mod commands;
 mod phases;
 mod replay;
 mod same;
-#[cfg(test)]
-mod tests;
 mod ticks;
 mod verdicts;
 mod whole;

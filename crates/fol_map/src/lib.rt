@@ -13,8 +13,6 @@ mod places;
 mod program;
 mod reading;
 mod rows;
-#[cfg(test)]
-mod tests;
 
 pub use endings::Ending;
 pub use parts::Fault;

@@ -1,6 +1,6 @@
 //! What no clause says: that memory is found, and that small worlds come out as worked out by hand.
 
-use fol_model::{ChunkPos, Grid, SectionPos, State};
+use fol_model::{ChunkPos, Grid, State};
 use fol_regions::{MergePair, Regions};
 use std::alloc::Global;
 use std::process::Abort;
@@ -154,16 +154,4 @@ fn a_region_falls_apart(rt: HostRuntime) {
     assert_eq!(rt; regions.last().parts(), parts.as_slice());
     region_is(&rt, &regions, 2, State::Ready, 9, &[]);
     region_is(&rt, &regions, 3, State::Ready, 9, &[]);
-}
-
-/// The section at a place is owned by this region.
-fn owner_is(rt: &impl Abort, regions: &Regions, x: i32, z: i32, id: u64) {
-    assert_eq!(rt; regions.owner(SectionPos { x, z }), Some(id));
-}
-
-#[test]
-fn each_part_owns_its_sections(rt: HostRuntime) {
-    let regions = two_parts(&rt, rt.alloc());
-    owner_is(&rt, &regions, -1, -1, 2);
-    owner_is(&rt, &regions, 5, -1, 3);
 }

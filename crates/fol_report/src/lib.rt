@@ -15,8 +15,6 @@ mod events;
 mod json_form;
 mod lines;
 mod rows;
-#[cfg(test)]
-mod tests;
 mod text;
 mod words;
 

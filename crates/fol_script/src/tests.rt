@@ -166,22 +166,6 @@ fn the_second_version_has_repeated_tasks(rt: HostRuntime) -> Result<(), Fail> {
 }
 
 #[test]
-fn printers_give_back_the_first_example(rt: HostRuntime) -> Result<(), Fail> {
-    let world = read_world(rt.alloc(), HEAD.as_bytes())?;
-    assert_eq!(rt;
-        print_world(rt.alloc(), &world)?.as_slice(),
-        HEAD.as_bytes()
-    );
-    let text = "load 0 0\nrun 2\nend\n";
-    let script = read_script(rt.alloc(), text.as_bytes(), 1)?;
-    assert_eq!(rt;
-        print_script(rt.alloc(), &script)?.as_slice(),
-        text.as_bytes()
-    );
-    Ok(())
-}
-
-#[test]
 fn a_world_is_printed_in_order_and_without_skipped_lines(rt: HostRuntime) -> Result<(), Fail> {
     let text =
         "# made by hand\nworld 2\n\ngrid 5 8 4 16384 1000 1000\nentity 7 0 1 2 -16 16\nblock 1 0 0 1\nblock 0 9 -1 2\nentity 3 -5 0 0 0 0\nblock 0 9 -2 65535\nblock 5 5 5 0\nblock -1 255 0 7";
@@ -191,62 +175,6 @@ fn a_world_is_printed_in_order_and_without_skipped_lines(rt: HostRuntime) -> Res
     assert_eq!(rt;
         print_world(rt.alloc(), &world)?.as_slice(),
         sorted.as_bytes()
-    );
-    Ok(())
-}
-
-/// Adds the loads of a rectangle of chunks, row by row.
-fn push_loads(
-    text: &mut String,
-    left: u32,
-    top: u32,
-    width: u32,
-    height: u32,
-) -> Result<(), AllocError> {
-    for z in 0..height {
-        for x in 0..width {
-            let (x, z) = (left.wrapping_add(x), top.wrapping_add(z));
-            writeln!(text, "load {x} {z}")?;
-        }
-    }
-    Ok(())
-}
-
-/// The script of three players, two hundred posts, a merge and a split.
-fn session(alloc: Global) -> Result<String, AllocError> {
-    let mut text = String::new(alloc);
-    push_loads(&mut text, 0, 0, 4, 4)?;
-    push_loads(&mut text, 12, 0, 4, 3)?;
-    push_loads(&mut text, 0, 40, 4, 3)?;
-    for j in 0..200u32 {
-        let (cx, cz) = match j % 3 {
-            0 => (0u32, 0u32),
-            1 => (12, 0),
-            _ => (0, 40),
-        };
-        let delay = 1 + j % 50;
-        let x = 16 * cx + j % 16;
-        let z = 16 * cz;
-        let id = 1 + j;
-        writeln!(text, "post {cx} {cz} {delay} set {x} {j} {z} {id}")?;
-    }
-    text.push_str("run 50\nend\nload 7 0\nrun 25\nend\nunload 7 0\nrun 25\nend\n")?;
-    Ok(text)
-}
-
-#[test]
-fn printers_give_back_the_realistic_session(rt: HostRuntime) -> Result<(), Fail> {
-    let head = "world 1\ngrid 1 1 1 4 1 7\nentity 1 0 64 0 1 0\n";
-    let world = read_world(rt.alloc(), head.as_bytes())?;
-    assert_eq!(rt;
-        print_world(rt.alloc(), &world)?.as_slice(),
-        head.as_bytes()
-    );
-    let text = session(rt.alloc())?;
-    let script = read_script(rt.alloc(), text.as_bytes(), 1)?;
-    assert_eq!(rt;
-        print_script(rt.alloc(), &script)?.as_slice(),
-        text.as_bytes()
     );
     Ok(())
 }
@@ -262,28 +190,6 @@ fn bytes_that_are_no_text_are_refused_outside_comments(rt: HostRuntime) -> Resul
     match read_script(rt.alloc(), &zero, 1) {
         Ok(_) => assert!(rt; false, "a zero byte"),
         Err(error) => assert_eq!(rt; Some(error), bad(1, Cause::Text)),
-    }
-    Ok(())
-}
-
-/// So many equal bytes.
-fn repeated(alloc: Global, byte: u8, count: usize) -> Result<Vec<u8>, AllocError> {
-    let mut bytes = Vec::new(alloc);
-    for _ in 0..count {
-        bytes.push(byte)?;
-    }
-    Ok(bytes)
-}
-
-#[test]
-fn long_texts_and_long_lines_are_read(rt: HostRuntime) -> Result<(), Fail> {
-    let newlines = repeated(rt.alloc(), b'\n', 1_000_000)?;
-    let script = read_script(rt.alloc(), newlines.as_slice(), 1)?;
-    assert_eq!(rt; print_script(rt.alloc(), &script)?.len(), 0);
-    let digits = repeated(rt.alloc(), b'7', 1_000_000)?;
-    match read_script(rt.alloc(), digits.as_slice(), 1) {
-        Ok(_) => assert!(rt; false, "a line of digits"),
-        Err(error) => assert_eq!(rt; Some(error), bad(1, Cause::Word)),
     }
     Ok(())
 }

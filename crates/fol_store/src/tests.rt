@@ -83,22 +83,6 @@ fn rests(alloc: Global, rows: &Rows) -> Result<Vec<(u64, u32)>, AllocError> {
         .collect(alloc)
 }
 
-/// What was laid comes back in order, and a task that came with its rest.
-#[test]
-fn gives_the_opening_back(rt: HostRuntime) -> Result<(), Fail> {
-    let mut store = Store::new(rt.alloc(), &opening(rt.alloc())?)?;
-    store.reserve(1, 0)?;
-    store.accept(task(1, CHUNKS[0]), 1_000_000);
-    let rows = store.into_rows(rt.alloc())?;
-    assert_eq!(rt; rows.blocks.as_slice(), BLOCKS.as_slice());
-    assert_eq!(rt; rows.entities.as_slice(), ENTITIES.as_slice());
-    assert_eq!(rt;
-        rests(rt.alloc(), &rows)?.as_slice(),
-        [(1, 1_000_000)].as_slice()
-    );
-    Ok(())
-}
-
 /// Takes a bag out and puts it back; gives the region's counter.
 fn turn(store: &mut Store, id: u64) -> u64
     requires here { (bag_of store.old id).here ≡ true }

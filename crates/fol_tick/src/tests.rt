@@ -13,8 +13,7 @@ ghost use Rattle.fol_tick.specs.Runs.{MayRun, arrivals};
 use crate::{HostAnswer, ListHost, run_tick};
 use fol_data::{RegionData, Size, Tick};
 use fol_model::{
-    Action, BlockPos, ChunkPos, Entity, Loaded, Nested, Outcome, Ran, Sequence, Task, TickLog,
-    Unloaded,
+    Action, BlockPos, ChunkPos, Entity, Nested, Outcome, Ran, Sequence, Task, TickLog, Unloaded,
 };
 use std::alloc::{AllocError, Global};
 use std::test::Fail;
@@ -113,19 +112,6 @@ fn done(number: u64) -> Ran {
     }
 }
 
-/// Three loads.
-fn loads(alloc: Global) -> Result<Vec<Task>, AllocError>
-    ensures order { IfOk result (λ tasks. Rising tasks.items) }
-    ensures limits { IfOk result (λ tasks. All (λ t. IsTrue (is_action t.action)) tasks.items) }
-    ensures arrivals { IfOk result (λ tasks. arrivals tasks.items ≡ []) }
-{
-    Ok(vec![in alloc;
-        task(1, Action::Load(AWAY)),
-        task(2, Action::Load(AWAY)),
-        task(3, Action::Load(AWAY)),
-    ]?)
-}
-
 /// One load.
 fn one_load(alloc: Global) -> Result<Vec<Task>, AllocError>
     ensures order { IfOk result (λ tasks. Rising tasks.items) }
@@ -137,7 +123,7 @@ fn one_load(alloc: Global) -> Result<Vec<Task>, AllocError>
 
 /// The host finds no memory for the only task; the next call runs it.
 #[test]
-fn one_load_after_want_of_memory(rt: HostRuntime) -> Result<(), Fail> {
+fn a_load_that_finds_no_memory_runs_in_the_next_call(rt: HostRuntime) -> Result<(), Fail> {
     let alloc = rt.alloc();
     let mut tick = tick_of(alloc, one_load(alloc)?)?;
     let mut host = ListHost::of(vec![in alloc; HostAnswer::NoMemory]?);
@@ -148,43 +134,6 @@ fn one_load_after_want_of_memory(rt: HostRuntime) -> Result<(), Fail> {
     run_tick(alloc, &mut tick, &mut host)?;
     assert_eq!(rt; tick.log.ran.as_slice(), [done(1)].as_slice());
     assert!(rt; tick.log.wishes.is_empty());
-    assert!(rt; tick.moved);
-    Ok(())
-}
-
-/// Two calls run out of memory at the second of three loads, and the third call runs it and the last.
-#[test]
-fn three_loads_after_want_of_memory(rt: HostRuntime) -> Result<(), Fail> {
-    let alloc = rt.alloc();
-    let mut tick = tick_of(alloc, loads(alloc)?)?;
-    let counted = HostAnswer::Load(Loaded::Counted);
-    let full = HostAnswer::Load(Loaded::Full {
-        present: 16_380,
-        wanted: 9,
-    });
-    let answers = vec![in alloc;
-        counted,
-        HostAnswer::NoMemory,
-        HostAnswer::NoMemory,
-        full,
-        counted,
-    ]?;
-    let mut host = ListHost::of(answers);
-    let Err(_) = run_tick(alloc, &mut tick, &mut host) else {
-        return Err(Fail::from("the host found no memory"));
-    };
-    assert_eq!(rt; tick.next, 1);
-    let Err(_) = run_tick(alloc, &mut tick, &mut host) else {
-        return Err(Fail::from("the host found no memory"));
-    };
-    assert_eq!(rt; tick.next, 1);
-    run_tick(alloc, &mut tick, &mut host)?;
-    let outcome = Outcome::Full;
-    let second = Ran { number: 2, outcome };
-    assert_eq!(rt;
-        tick.log.ran.as_slice(),
-        [done(1), second, done(3)].as_slice()
-    );
     assert!(rt; tick.moved);
     Ok(())
 }

@@ -9,8 +9,8 @@ ghost use Rattle.fol_tick_laws.specs.OpenTicks.{IsOpen, KeepsOpen, KeepsOthers};
 use fol_core::{BeginAnswer, Close, Core, Phase, Posting};
 use fol_data::Tick;
 use fol_model::{
-    Action, BlockPos, ChunkPos, Closing, Event, Grid, Loaded, Opening, RegionRow, SectionPos,
-    Sequence, State,
+    Action, BlockPos, ChunkPos, Closing, Grid, Loaded, Opening, RegionRow, SectionPos, Sequence,
+    State,
 };
 use fol_tick::{ListHost, run_tick};
 use std::alloc::Global;
@@ -232,29 +232,6 @@ fn what_a_tick_loads_waits_for_its_end(rt: HostRuntime) {
 }
 
 #[test]
-fn the_second_tick_ends_last(rt: HostRuntime) {
-    let alloc = rt.alloc();
-    let mut busy = Busy::start(&rt, alloc);
-    let first = busy.begin(&rt, alloc, 1, 1);
-    let second = busy.begin(&rt, alloc, 2, 2);
-    busy.load(&rt, 1, BETWEEN);
-    busy.post_set(&rt);
-    busy.states_are(
-        &rt,
-        [State::Ticking, State::Ticking, State::Transient].map(Some),
-    );
-    busy.end(&rt, alloc, first);
-    busy.states_are(
-        &rt,
-        [State::Transient, State::Ticking, State::Dead].map(Some),
-    );
-    busy.end(&rt, alloc, second);
-    busy.states_are(&rt, [State::Dead, State::Ready, State::Dead].map(Some));
-    let Busy { core } = busy;
-    task_rests(&rt, &closing_of(&rt, alloc, core, 2, 0));
-}
-
-#[test]
 fn the_first_tick_ends_last(rt: HostRuntime) {
     let alloc = rt.alloc();
     let mut busy = Busy::start(&rt, alloc);
@@ -290,21 +267,4 @@ fn a_region_beside_a_tick_waits_for_its_end(rt: HostRuntime) {
     let answer = core.close_phase(0).expect(&rt, "memory");
     assert_eq!(rt; answer, Close::NotYet(1));
     closing_of(&rt, alloc, core, 1, 1);
-}
-
-#[test]
-fn a_stop_is_recorded_once(rt: HostRuntime) {
-    let alloc = rt.alloc();
-    let mut core = Core::start(alloc, opening(&rt, alloc)).expect(&rt, "memory");
-    core.stop(3);
-    core.stop(0);
-    let [entry] = core.history() else {
-        panic!(&rt; "one Stop is recorded");
-    };
-    assert!(rt; matches!(&entry.event, Event::Stop { caller: 3 }));
-    assert!(rt; core.phase_ticks() < 10_000);
-    match core.open_phase(0, 1) {
-        Ok(answer) => assert_eq!(rt; answer, Phase::Over),
-        Err(_) => panic!(&rt; "memory"),
-    }
 }

@@ -16,9 +16,6 @@ const ONE_REGION: &str = "load 0 0\nrun 2\nend\n";
 const ONE_REGION_REPORT: &str =
     "report 1\nevents 8\nload 0 0 0 counted\nopen 2\nbegin 1 1\nend 1 1 tick 1 ran 0 accepted 0\nbegin 1 1\nend 1 1 tick 2 ran 0 accepted 0\nclose\nfinish\nregions 1\nregion 1 ready tick 2 owed 0 sections 9 chunks 1\nowners 9\nowner -1 -1 1\nowner 0 -1 1\nowner 1 -1 1\nowner -1 0 1\nowner 0 0 1\nowner 1 0 1\nowner -1 1 1\nowner 0 1 1\nowner 1 1 1\ntasks 0\nentities 0\nblocks 0\nend\n";
 
-const EMPTY_REPORT: &str =
-    "report 1\nevents 1\nfinish\nregions 0\nowners 0\ntasks 0\nentities 0\nblocks 0\nend\n";
-
 const EMPTY_JSON: &str =
     "{\"blocks\":[],\"entities\":[],\"events\":[\"finish\"],\"owners\":[],\"regions\":[],\"report\":1,\"tasks\":[]}\n";
 
@@ -136,14 +133,6 @@ fn is_numbered(came: &Came, code: u8, line: u64, text: &[u8]) -> bool {
         }
         && came.err.bytes() == text
         && came.out.bytes().is_empty()
-}
-
-#[test]
-fn a_script_of_no_bytes_reports_an_empty_world(rt: HostRuntime) -> Result<(), Fail> {
-    let came = run_texts(&rt, rt.alloc(), WORLD, "")?;
-    assert!(rt; is_plain(&came, 0, b""));
-    assert_eq!(rt; came.out.bytes(), EMPTY_REPORT.as_bytes());
-    Ok(())
 }
 
 #[test]
@@ -349,15 +338,6 @@ fn ticks_that_meet<R: Threads + Wait + Sync>(
     };
     let status = run(rt, alloc, words, &mut shelf, &mut out, &mut err, &gate);
     Ok((status, gate.met.load(Ordering::SeqCst)))
-}
-
-#[test]
-fn ticks_of_two_workers_are_open_at_once(rt: HostRuntime) -> Result<(), Fail> {
-    let script = "load 0 0\nload 4 0\nrun 1\nend\n";
-    let (status, met) = ticks_that_meet(&rt, rt.alloc(), &["run", "w", "s", "2"], script, 2)?;
-    assert_eq!(rt; status.code, 0);
-    assert_eq!(rt; met, 2);
-    Ok(())
 }
 
 #[test]
