@@ -1,8 +1,11 @@
 pub mod Places
-pub mod Results
-pub mod Sorts
-pub mod Rows
 pub mod Chains
-pub mod Steps
+pub mod Members
+pub mod Rows
+pub mod Near
+pub mod RunLists
+pub mod Taking
+pub mod Adding
 pub mod Search
+pub mod Pools
 pub mod Parting

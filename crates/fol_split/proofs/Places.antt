@@ -1,17 +1,17 @@
 -- Facts on sections: when two are one, their order, and their distance.
-use Rattle.std.proofs.Common.{◌≡◌, ℕ, zero, suc, drop, ◌+◌, ◌<◌, refl, sym, ◌∙◌, ap, arith, true, false, inl, inr, List, [], ◌∷◌, length, get_or}
-use Rattle.std.specs.Prelude.{ℤ, pos, ◌-ℤ◌, nat_abs, nat_le}
+use Rattle.std.proofs.Common.{◌≡◌, ℕ, ◌+◌, ◌<◌, ◌≤◌, refl, sym, ◌∙◌, ap, arith, true, false, ◌⊎◌, inl, inr, List, length, get_or}
+use Rattle.std.specs.Prelude.{ℤ, pos, ◌-ℤ◌, ◌<ℤ◌, nat_abs, nat_le}
 use Rattle.std.specs.List.{IsDistinct}
 use Rattle.std.specs.List.Sorted.{IsSortedBy, IsStrictlySortedBy}
-use Rattle.std.specs.Ordering.{is_lt, ordering_reverse}
-use Rattle.std.specs.Cmp.{IsEquivalence, both_ways}
+use Rattle.std.specs.Ordering.{is_lt, int_cmp, ordering_reverse, ordering_then}
+use Rattle.std.specs.Cmp.{IsEquivalence, both_ways, int_cmp_is, int_ranks}
 use Rattle.std.specs.declared.cmp.Ordering.{Ordering}
 use Rattle.std.specs.declared.cmp.Ordering.TheVariants.{Less, Equal, Greater}
-use Rattle.std.proofs.lemmas.Bool.{cases_Bool, true≢false}
-use Rattle.std.proofs.lemmas.Map.Keys.{sorted_from_all_adjacent, apart_from_distinct, IsDistinct-from_apart, IsDistinct-tail, Less-from_sorted}
+use Rattle.std.proofs.lemmas.Bool.{cases_Bool, and_parts, leb-true, true≢false}
+use Rattle.std.proofs.lemmas.Map.Keys.{sorted_from_all_adjacent, apart_from_distinct, IsDistinct-from_apart, Less-from_sorted}
 use borrow.Author.Differences.{ints}
 use Rattle.fol_model.specs.declared.places.SectionPos.{SectionPos}
-use Rattle.fol_model.specs.Geometry.{distance, is_within, same_section}
+use Rattle.fol_model.specs.Geometry.{distance, is_section, is_within, same_section}
 use Rattle.fol_model.specs.Universe.{section_cmp}
 use Rattle.fol_model.proofs.PlaceKeys.{same_section-true, same_section-self, section_cmp_total, section_cmp_tells}
 
@@ -62,12 +62,6 @@ distance-swap a b = simp (abs_swap a.x b.x, abs_swap a.z b.z)
 pub within-swap : (a : SectionPos) (r : ℕ) (b : SectionPos) → is_within a r b ≡ is_within b r a
 within-swap a r b = ap (λ d. nat_le d r) (distance-swap a b)
 
--- the last of distinct sections are distinct
-pub distinct-tail : (n : ℕ) (xs : List SectionPos) → IsDistinct same_section xs → IsDistinct same_section (drop n xs)
-distinct-tail zero xs h = h
-distinct-tail (suc n) [] h = h
-distinct-tail (suc n) (x ∷ xs) h = distinct-tail n xs (IsDistinct-tail same_section x xs h)
-
 -- sections that rise are distinct
 pub rising-distinct : (xs : List SectionPos) → ((k : ℕ) (d : SectionPos) → k + 1 < length xs → section_cmp (get_or xs k d) (get_or xs (k + 1) d) ≡ Less) → IsDistinct same_section xs
 rising-distinct xs h =
@@ -76,3 +70,29 @@ rising-distinct xs h =
       | inr e ↦ e
       | inl e ↦ absurd (less_not_same (get_or xs i d) (get_or xs j d) (Less-from_sorted section_cmp xs i j d sorted l m) e)
     ])
+
+pub less_row : (a b : SectionPos) → a.z <ℤ b.z → section_cmp a b ≡ Less
+unfolding section_cmp
+less_row a b l = ap (λ r. ordering_then r (int_cmp a.x b.x)) (sym (int_cmp_is a.z b.z Less l))
+
+pub less_in_row : (a b : SectionPos) → a.z ≡ b.z → a.x <ℤ b.x → section_cmp a b ≡ Less
+unfolding section_cmp
+less_in_row a b e l = ap (λ r. ordering_then r (int_cmp a.x b.x)) (sym (int_cmp_is a.z b.z Equal e)) ∙ sym (int_cmp_is a.x b.x Less l)
+
+then_less : (r s : Ordering) → ordering_then r s ≡ Less → (r ≡ Less) ⊎ ((r ≡ Equal) × (s ≡ Less))
+then_less Less s e = inl refl
+then_less Equal s e = inr (refl, e)
+then_less Greater s e = absurd (cc)
+
+-- what is less stands in a row before, or before in the same row
+pub less-gives : (a b : SectionPos) → section_cmp a b ≡ Less → (a.z <ℤ b.z) ⊎ ((a.z ≡ b.z) × (a.x <ℤ b.x))
+unfolding section_cmp
+less-gives a b h = elim (then_less (int_cmp a.z b.z) (int_cmp a.x b.x) h) [
+  | inl l ↦ let r = int_ranks a.z b.z in inl (rw l at r)
+  | inr p ↦ let z = int_ranks a.z b.z in let x = int_ranks a.x b.x in inr (rw p.0 at z, rw p.1 at x)
+]
+
+-- a section within the limits
+pub section_near : (s : SectionPos) → is_section s ≡ true → (nat_abs s.x ≤ 1000008) × (nat_abs s.z ≤ 1000008)
+unfolding is_section
+section_near s h = let p = and_parts (nat_le (nat_abs s.x) 1000008) (nat_le (nat_abs s.z) 1000008) h in (leb-true _ _ p.0, leb-true _ _ p.1)

@@ -1,96 +1,94 @@
--- The sections of a row, and of some rows.
-use Rattle.std.proofs.Common.{◌≡◌, ℕ, ◌+◌, ◌≤◌, refl, sym, ◌∙◌, ap, arith, Bool, true, false, ◌&&◌, ◌||◌, inl, inr}
-use Rattle.std.specs.Prelude.{ℤ, pos, ◌+ℤ◌, ◌-ℤ◌, ◌<ℤ◌, ◌≤ℤ◌, nat_abs, nat_le}
+-- The sections of a run.
+use Rattle.std.proofs.Common.{◌≡◌, ℕ, zero, suc, refl, sym, ◌∙◌, ap, arith, true, inl, inr, List, [], ◌∷◌, ◌++◌, length, append_assoc}
+use Rattle.std.specs.Prelude.{ℤ, pos, ◌+ℤ◌, ◌-ℤ◌, ◌<ℤ◌, ◌≤ℤ◌, nat_abs, map}
 use Rattle.std.specs.Ordering.{int_eq}
-use Rattle.std.specs.Cmp.{both_ways}
-use Rattle.std.proofs.lemmas.Bool.{cases_Bool, and_parts, and_from, or_cases, or_left, or_right, leb-true, le-leb, true≢false}
+use Rattle.std.proofs.lemmas.Bool.{cases_Bool, or_cases, or_left, or_right, and_from, true≢false}
 use Rattle.std.proofs.lemmas.Bool.Decides.{Decides-int_eq}
+use Rattle.std.proofs.lemmas.List.{append-nil}
 use borrow.Author.Differences.{ints}
 use Rattle.fol_model.specs.declared.places.SectionPos.{SectionPos}
-use Rattle.fol_model.specs.Geometry.{distance, is_section, is_within, same_section}
-use Rattle.fol_split.specs.Pool.{is_one_of, is_in_row, is_in_rows}
+use Rattle.fol_model.specs.Geometry.{same_section, is_among}
+use Rattle.fol_model.specs.Universe.{from}
+use Rattle.fol_model.proofs.PlaceKeys.{same_section-true}
+use Rattle.fol_split.specs.declared.runs.Run.{Run}
+use Rattle.fol_split.specs.Runs.{sections_of, first_of}
 
-pub one_of-gives : (x : ℤ) (n : ℕ) (y : ℤ) → is_one_of x n y ≡ true → (x ≤ℤ y) × (y <ℤ (x +ℤ pos n))
-unfolding is_one_of
-one_of-gives x n y h = (grind (arith, ints), grind (arith, ints))
+-- n sections of the row z, from x on
+abbrev pub row : ℤ → ℤ → ℕ → List SectionPos
+row z x n = map (λ y. record { x = y; z = z }) (from x n)
 
-pub one_of-from : (x : ℤ) (n : ℕ) (y : ℤ) → x ≤ℤ y → y <ℤ (x +ℤ pos n) → is_one_of x n y ≡ true
-unfolding is_one_of
-one_of-from x n y a b = grind (arith, ints)
+row-gives : (z x : ℤ) (n : ℕ) (s : SectionPos) → is_among (row z x n) s ≡ true → (s.z ≡ z) × (x ≤ℤ s.x) × (s.x <ℤ (x +ℤ pos n))
+unfolding from
+row-gives z x zero s h = absurd (true≢false (sym h))
+row-gives z x (suc n) s h = elim (or_cases (same_section s (record { x = x; z = z })) (is_among (row z (x +ℤ pos 1) n) s) h) [
+  | inl e ↦ let q = same_section-true s (record { x = x; z = z }) e in
+      let at : s.x ≡ x = ap (λ t. t.x) q in
+      (ap (λ t. t.z) q, omega (arith, ints, at), omega (arith, ints, at))
+  | inr e ↦ let r = row-gives z (x +ℤ pos 1) n s e in (r.0, omega (arith, ints, r.1), omega (arith, ints, r.2))
+]
 
-one_of-none : (x y : ℤ) → is_one_of x 0 y ≡ false
-unfolding is_one_of
-one_of-none x y = grind (arith, ints)
+row-from : (z x : ℤ) (n : ℕ) (s : SectionPos) → s.z ≡ z → x ≤ℤ s.x → s.x <ℤ (x +ℤ pos n) → is_among (row z x n) s ≡ true
+unfolding from same_section
+row-from z x zero s e l h = absurd (omega (arith, ints, l, h))
+row-from z x (suc n) s e l h = elim (cases_Bool (int_eq s.x x)) [
+  | inl k ↦ or_left _ _ (and_from _ _ k ((Decides-int_eq s.z z).1 e))
+  | inr k ↦
+      let other : s.x ≡ x → ⊥ = λ q. true≢false (sym ((Decides-int_eq s.x x).1 q) ∙ k) in
+      or_right (same_section s (record { x = x; z = z })) _ (row-from z (x +ℤ pos 1) n s e (omega (arith, ints, l, other)) (omega (arith, ints, h)))
+]
 
--- one more
-one_of-more : (x : ℤ) (n : ℕ) (y : ℤ) → is_one_of x (n + 1) y ≡ (is_one_of x n y || int_eq (x +ℤ pos n) y)
-one_of-more x n y = both_ways _ _
-    (λ h. let g = one_of-gives x (n + 1) y h in elim (cases_Bool (int_eq (x +ℤ pos n) y)) [
-      | inl e ↦ or_right (is_one_of x n y) _ e
-      | inr e ↦ let other : (x +ℤ pos n) ≡ y → ⊥ = λ q. true≢false (sym ((Decides-int_eq (x +ℤ pos n) y).1 q) ∙ e) in
-          or_left _ _ (one_of-from x n y g.0 (omega (arith, ints, g.0, g.1, other)))
-    ])
-    (λ h. elim (or_cases (is_one_of x n y) (int_eq (x +ℤ pos n) y) h) [
-      | inl e ↦ let g = one_of-gives x n y e in one_of-from x (n + 1) y g.0 (omega (arith, ints, g.1))
-      | inr e ↦ let g = (Decides-int_eq (x +ℤ pos n) y).0 e in one_of-from x (n + 1) y (omega (arith, ints)) (omega (arith, ints))
-    ])
+pub length-row : (z x : ℤ) (n : ℕ) → length (row z x n) ≡ n
+unfolding from
+length-row z x zero = refl
+length-row z x (suc n) = ap suc (length-row z (x +ℤ pos 1) n)
 
--- no section is one of none
-pub row-none : (first : SectionPos) (row : ℕ) (s : SectionPos) → is_in_row first row 0 s ≡ false
-row-none first row s = ap (λ b. int_eq (first.z +ℤ pos row) s.z && b) (one_of-none first.x s.x) ∙ never (int_eq (first.z +ℤ pos row) s.z)
-  where
-    never : (b : Bool) → (b && false) ≡ false
-    never true = refl
-    never false = refl
+pub row-push : (z x : ℤ) (n : ℕ) (y : ℤ) → y ≡ x +ℤ pos n → row z x (suc n) ≡ row z x n ++ record { x = y; z = z } ∷ []
+unfolding from
+row-push z x zero y e = let at : x ≡ y = omega (arith, ints, e) in λ i. record { x = at i; z = z } ∷ []
+row-push z x (suc n) y e = let rest = row-push z (x +ℤ pos 1) n y (omega (arith, ints, e)) in λ i. record { x = x; z = z } ∷ rest i
 
--- one more section of the row
-pub row-more : (first : SectionPos) (row n : ℕ) (s : SectionPos)
-    → is_in_row first row (n + 1) s ≡ (is_in_row first row n s || same_section (record { x = first.x +ℤ pos n; z = first.z +ℤ pos row }) s)
-unfolding same_section
-row-more first row n s =
-    ap (λ b. int_eq (first.z +ℤ pos row) s.z && b) (one_of-more first.x n s.x)
-    ∙ spread (int_eq (first.z +ℤ pos row) s.z) (is_one_of first.x n s.x) (int_eq (first.x +ℤ pos n) s.x)
-  where
-    spread : (z a b : Bool) → (z && (a || b)) ≡ ((z && a) || (b && z))
-    spread true true b = refl
-    spread true false true = refl
-    spread true false false = refl
-    spread false a true = refl
-    spread false a false = refl
+-- ---- a row that grows at its end
+pub row-start : (xs : List SectionPos) (z x y : ℤ) → y ≡ x → xs ≡ xs ++ row z x (nat_abs (y -ℤ x))
+unfolding from
+row-start xs z x y e = let n : nat_abs (y -ℤ x) ≡ 0 = omega (arith, ints, e) in rw n (sym (append-nil xs))
 
-pub rows-none : (first : SectionPos) (n : ℕ) (s : SectionPos) → is_in_rows first 0 n s ≡ false
-rows-none first n s = ap (λ b. b && is_one_of first.x n s.x) (one_of-none first.z s.z)
+pub row-step : (xs now : List SectionPos) (z x y next : ℤ) (s : SectionPos) → now ≡ xs ++ row z x (nat_abs (y -ℤ x)) → x ≤ℤ y → s ≡ record { x = y; z = z } → next ≡ y +ℤ pos 1
+    → now ++ s ∷ [] ≡ xs ++ row z x (nat_abs (next -ℤ x))
+row-step xs now z x y next s h l e f =
+    let n : nat_abs (next -ℤ x) ≡ suc (nat_abs (y -ℤ x)) = omega (arith, ints, l, f) in
+    ap (λ zs. zs ++ s ∷ []) h ∙ append_assoc xs (row z x (nat_abs (y -ℤ x))) (s ∷ [])
+    ∙ ap (λ zs. xs ++ zs) (ap (λ t. row z x (nat_abs (y -ℤ x)) ++ t ∷ []) e ∙ sym (row-push z x (nat_abs (y -ℤ x)) y (omega (arith, ints, l))) ∙ ap (row z x) (sym n))
 
--- one more row
-pub rows-more : (first : SectionPos) (rows n : ℕ) (s : SectionPos) → is_in_rows first (rows + 1) n s ≡ (is_in_rows first rows n s || is_in_row first rows n s)
-rows-more first rows n s =
-    ap (λ b. b && is_one_of first.x n s.x) (one_of-more first.z rows s.z)
-    ∙ spread (is_one_of first.z rows s.z) (int_eq (first.z +ℤ pos rows) s.z) (is_one_of first.x n s.x)
-  where
-    spread : (a b x : Bool) → ((a || b) && x) ≡ ((a && x) || (b && x))
-    spread true true true = refl
-    spread true true false = refl
-    spread true false true = refl
-    spread true false false = refl
-    spread false b x = refl
+pub row-whole : (run : Run) (y : ℤ) → y ≡ run.to → row run.z run.from (nat_abs (y -ℤ run.from)) ≡ sections_of run
+unfolding sections_of
+row-whole run y e = ap (λ t. row run.z run.from (nat_abs (t -ℤ run.from))) e
 
--- all rows of the square round a section
-pub rows-square : (s : SectionPos) (r n : ℕ) (t : SectionPos) → n ≡ r + r + 1
-    → is_within s r t ≡ is_in_rows (record { x = s.x -ℤ pos r; z = s.z -ℤ pos r }) n n t
-unfolding distance
-rows-square s r n t e = both_ways _ _
-    (λ h. let d = leb-true _ _ h in
-    and_from _ _
-    (one_of-from (s.z -ℤ pos r) n t.z (omega (arith, ints)) (omega (arith, ints)))
-    (one_of-from (s.x -ℤ pos r) n t.x (omega (arith, ints)) (omega (arith, ints))))
-    (λ h. let p = and_parts (is_one_of (s.z -ℤ pos r) n t.z) (is_one_of (s.x -ℤ pos r) n t.x) h in
-    let z = one_of-gives (s.z -ℤ pos r) n t.z p.0 in
-    let x = one_of-gives (s.x -ℤ pos r) n t.x p.1 in
-    let dx : nat_abs (s.x -ℤ t.x) ≤ r = omega (arith, ints, x.0, x.1) in
-    let dz : nat_abs (s.z -ℤ t.z) ≤ r = omega (arith, ints, z.0, z.1) in
-    le-leb _ _ (omega arith))
+pub length-run : (run : Run) → length (sections_of run) ≡ nat_abs (run.to -ℤ run.from)
+unfolding sections_of
+length-run run = length-row run.z run.from (nat_abs (run.to -ℤ run.from))
 
--- a section within the limits
-pub section_near : (s : SectionPos) → is_section s ≡ true → (nat_abs s.x ≤ 1000008) × (nat_abs s.z ≤ 1000008)
-unfolding is_section
-section_near s h = let p = and_parts (nat_le (nat_abs s.x) 1000008) (nat_le (nat_abs s.z) 1000008) h in (leb-true _ _ p.0, leb-true _ _ p.1)
+module _ (run : Run) (solid : run.from <ℤ run.to) where
+  pub in_run-gives : (s : SectionPos) → is_among (sections_of run) s ≡ true → (s.z ≡ run.z) × (run.from ≤ℤ s.x) × (s.x <ℤ run.to)
+  unfolding sections_of
+  in_run-gives s h = let r = row-gives run.z run.from (nat_abs (run.to -ℤ run.from)) s h in (r.0, r.1, omega (arith, ints, r.2))
+
+  pub in_run-from : (s : SectionPos) → s.z ≡ run.z → run.from ≤ℤ s.x → s.x <ℤ run.to → is_among (sections_of run) s ≡ true
+  unfolding sections_of
+  in_run-from s e l h = row-from run.z run.from (nat_abs (run.to -ℤ run.from)) s e l (omega (arith, ints))
+
+  pub first_in : is_among (sections_of run) (first_of run) ≡ true
+  first_in = in_run-from (first_of run) refl (omega (arith, ints)) solid
+
+  -- one section more behind it
+  pub wider : (s : SectionPos) → s.z ≡ run.z → s.x ≡ run.to → sections_of (record { z = run.z; from = run.from; to = s.x +ℤ pos 1 }) ≡ sections_of run ++ s ∷ []
+  unfolding sections_of
+  wider s e f =
+      let n : nat_abs ((s.x +ℤ pos 1) -ℤ run.from) ≡ suc (nat_abs (run.to -ℤ run.from)) = omega (arith, ints) in
+      let last : s ≡ record { x = s.x; z = run.z } = λ i. record { x = s.x; z = e i } in
+      ap (row run.z run.from) n ∙ row-push run.z run.from (nat_abs (run.to -ℤ run.from)) s.x (omega (arith, ints))
+      ∙ ap (λ t. row run.z run.from (nat_abs (run.to -ℤ run.from)) ++ t ∷ []) (sym last)
+
+-- a run of one section
+pub single : (s : SectionPos) → sections_of (record { z = s.z; from = s.x; to = s.x +ℤ pos 1 }) ≡ s ∷ []
+unfolding sections_of from
+single s = let n : nat_abs ((s.x +ℤ pos 1) -ℤ s.x) ≡ 1 = omega (arith, ints) in ap (row s.z s.x) n

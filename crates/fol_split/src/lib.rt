@@ -4,10 +4,15 @@
 //! radius of the next. A [`Splitter`] holds the parts that its last call of `parts` found: each of them in order, and the parts
 //! in order of their least sections. It takes its memory once, when it is made.
 //!
+//! The search goes by runs, the longest stretches of sections that stand side by side in one row: the sections of a run are in one
+//! part, and those of two runs are where the runs' rows and ends are near. So it costs a copy of the sections, and for each run and
+//! each row within the merge radius a search by halves in the list of the runs.
+//!
 //! The region table uses it where a region is cleaned: what is left of the region stays one region or becomes several.
 #![tactic(auto)]
 
 mod pool;
+mod runs;
 mod spans;
 mod splitter;
 #[cfg(test)]

@@ -1,13 +1,12 @@
 //! The parts of a set of sections.
 
-ghost use Rattle.std.specs.Prelude.{◌≡◌, ◌+◌, ◌<◌, ◌≤◌, IsTrue, IfOk, [], length, pos};
+ghost use Rattle.std.specs.Prelude.{◌≡◌, ◌+◌, ◌<◌, ◌≤◌, IsTrue, IfOk, [], length};
 ghost use Rattle.std.specs.List.{All, IsDistinct, slice_index_or};
-ghost use Rattle.std.specs.List.Sorted.{IsStrictlySortedBy};
 ghost use Rattle.std.specs.Vec.{vec_capacity};
 ghost use Rattle.fol_model.specs.Geometry.{is_section, same_section};
-ghost use Rattle.fol_model.specs.Universe.{section_cmp};
 ghost use Rattle.fol_split.specs.Parts.{ArePartsOf};
 ghost use Rattle.fol_split.specs.Pool.{is_left};
+ghost use Rattle.fol_split.specs.Runs.{AreRuns, run_at, first_of};
 ghost use Rattle.fol_split.specs.Spans.{IsSplit};
 
 use crate::pool::Pool;
@@ -90,42 +89,37 @@ impl Splitter {
 fn split(pool: &mut Pool, spans: &mut Vec<Span>, merge: u8)
     requires none_taken { pool.old.found ≡ [] }
     requires no_part { spans.old.items ≡ [] }
-    requires in_order { IsStrictlySortedBy section_cmp pool.old.order }
-    requires in_range { All (λ s. IsTrue (is_section s)) pool.old.order }
     requires room { MOST_SECTIONS ≤ vec_capacity spans.old }
-    requires few { length pool.old.order ≤ MOST_SECTIONS }
+    requires reach_low { 1 ≤ merge }
     requires reach_high { merge ≤ 4 }
-    ensures split { IsSplit pool.new spans.new.items merge (length pool.old.order) }
-    ensures order { pool.new.order ≡ pool.old.order }
+    ensures split { IsSplit pool.new spans.new.items merge (length pool.old.runs) }
+    ensures runs { pool.new.runs ≡ pool.old.runs }
     ensures few { length spans.new.items ≤ MOST_SECTIONS }
     ensures room { MOST_SECTIONS ≤ vec_capacity spans.new }
 {
-    for i in 0..pool.len() {
-        if pool.is_left(pool.section(i)) {
-            take_part(pool, spans, merge, i);
+    for k in 0..pool.len() {
+        if pool.is_left(k) {
+            take_part(pool, spans, merge, k);
         }
     }
 }
 
-/// Takes the part whose least section is the one at place `i`.
-fn take_part(pool: &mut Pool, spans: &mut Vec<Span>, merge: u8, i: usize)
-    requires before { IsSplit pool.old spans.old.items merge i }
-    requires in_place { i < length pool.old.order }
-    requires left { IsTrue
-        (is_left pool.old (slice_index_or pool.old.order i (record { x = pos 0; z = pos 0 }))) }
-    requires in_order { IsStrictlySortedBy section_cmp pool.old.order }
-    requires in_range { All (λ s. IsTrue (is_section s)) pool.old.order }
+/// Takes the part whose least section is the first one of the run at place `k`.
+fn take_part(pool: &mut Pool, spans: &mut Vec<Span>, merge: u8, k: usize)
+    requires before { IsSplit pool.old spans.old.items merge k }
+    requires in_place { k < length pool.old.runs }
+    requires sound { AreRuns pool.old.runs }
+    requires left { IsTrue (is_left pool.old (first_of (run_at pool.old.runs k))) }
     requires room { MOST_SECTIONS ≤ vec_capacity spans.old }
-    requires few { length pool.old.order ≤ MOST_SECTIONS }
+    requires reach_low { 1 ≤ merge }
     requires reach_high { merge ≤ 4 }
-    ensures after { IsSplit pool.new spans.new.items merge (i + 1) }
-    ensures order { pool.new.order ≡ pool.old.order }
+    ensures after { IsSplit pool.new spans.new.items merge (k + 1) }
+    ensures runs { pool.new.runs ≡ pool.old.runs }
     ensures few { length spans.new.items ≤ MOST_SECTIONS }
     ensures room { MOST_SECTIONS ≤ vec_capacity spans.new }
 {
     let from = pool.taken();
-    pool.take_class(pool.section(i), merge);
-    pool.sort_from(from);
+    pool.take_class(k, merge);
     let _ = spans.push(Span {
         from,
         to: pool.taken(),

@@ -92,3 +92,24 @@ fn columns_are_parts_of_their_own(rt: HostRuntime) -> Result<(), Fail> {
     sizes_are(&rt, &mut splitter, &sections, 4, &[16_384])?;
     Ok(())
 }
+
+#[test]
+fn runs_are_near_within_the_merge_radius(rt: HostRuntime) -> Result<(), Fail> {
+    let mut splitter = Splitter::new(rt.alloc())?;
+    // Three runs in one row with gaps of one and of three, and two runs three rows below.
+    let sections = [
+        SectionPos { x: -4, z: -1 },
+        SectionPos { x: -3, z: -1 },
+        SectionPos { x: -1, z: -1 },
+        SectionPos { x: 3, z: -1 },
+        SectionPos { x: 4, z: -1 },
+        SectionPos { x: 1, z: 2 },
+        SectionPos { x: 8, z: 2 },
+        SectionPos { x: 9, z: 2 },
+    ];
+    sizes_are(&rt, &mut splitter, &sections, 1, &[2, 1, 2, 1, 2])?;
+    sizes_are(&rt, &mut splitter, &sections, 2, &[3, 2, 1, 2])?;
+    sizes_are(&rt, &mut splitter, &sections, 3, &[6, 2])?;
+    sizes_are(&rt, &mut splitter, &sections, 4, &[8])?;
+    Ok(())
+}

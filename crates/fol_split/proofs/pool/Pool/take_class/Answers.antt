@@ -1,28 +1,34 @@
-use Rattle.std.proofs.Common.{◌≡◌, true, sym, ◌∙◌, ap, arith, length, IsTrue}
-use Rattle.fol_model.specs.declared.places.SectionPos.{SectionPos}
-use Rattle.fol_model.specs.Geometry.{is_section, is_among}
-use Rattle.fol_split.proofs.Search.{search_start, search_step, search_class, search_apart, all_among, among_at}
+use Rattle.std.proofs.Common.{sym, ◌∙◌, arith}
+use Rattle.fol_split.specs.Runs.{no_run, run_at, first_of}
+use Rattle.fol_split.proofs.Pools.{left_is, class_room, pool_after, takes_class, class_apart}
+use Rattle.fol_split.proofs.Rows.{first_in}
 use Rattle.fol_split.proofs.pool.Pool.take_class.Goals as goal
 
-pub loop-next-init : goal.loop-next-init
-loop-next-init c = rw c.taken-next.ensures.value
-    (search_start c.args.self.now c.take.new.self c.args.merge c.args.first c.requires.left c.take.ensures (c.take.ensures.distinct c.taken-next.ensures.distinct))
+pub take_class-requires-clause-left : goal.take_class-requires-clause-left
+take_class-requires-clause-left c =
+    let requires = rw (← c.self.view_is) at c.requires in
+    let runs = c.self.inside.runs.runs in
+    let there = first_in (run_at runs c.args.k) (requires.sound.solid c.args.k no_run requires.in_place) in
+    sym (left_is c.self.inside.runs c.self.inside.found.items c.args.k (first_of (run_at runs c.args.k)) c.self.invariant.0 requires.in_place there) ∙ requires.left
 
-pub take_near-requires-clause-in_range : goal.take_near-requires-clause-in_range
-take_near-requires-clause-in_range c =
-    let there = rw (← c.taken_at-s.ensures c.taken_at-s.result) at (among_at c.loop-next.self.found c.loop-next.next c.taken_at-s.result (omega arith)) in
-    let order : is_among c.args.self.now.order c.taken_at-s.result ≡ true = ap (λ xs. is_among xs c.taken_at-s.result) (sym c.loop-next.invariant.order) ∙ c.taken.ensures.within c.taken_at-s.result there in
-    all_among (λ (s : SectionPos). IsTrue (is_section s)) c.args.self.now.order c.taken_at-s.result c.requires.in_range order
+pub append_class-requires : goal.append_class-requires
+append_class-requires c = omega (arith, class_room _ _ _ _ _ c.self.invariant.0 c.take_class.ensures, c.self.invariant.1.found)
 
-pub loop-next-preserved : goal.loop-next-preserved
-loop-next-preserved c = search_step _ _ _ _ _ c.taken_at-s.result c.taken_at-s.result _ c.loop-next.invariant (omega arith)
-    (c.take_near.ensures.distinct c.taken.ensures.distinct) (c.taken_at-s.ensures c.taken_at-s.result) c.take_near.ensures
+pub invariant_of-self : goal.invariant_of-self
+invariant_of-self c = (
+  rw c.append_class.ensures.found (pool_after _ _ _ _ _ c.self.invariant.0 c.take_class.ensures),
+  record {
+    order = c.self.invariant.1.order;
+    found = omega (arith, c.append_class.ensures.room, c.self.invariant.1.found);
+  },
+)
 
-pub loop-next-smaller : goal.loop-next-smaller
-loop-next-smaller c = omega (arith, ap length c.take_near.ensures.order)
+pub returns-clause-class : goal.returns-clause-class
+returns-clause-class c =
+    let requires = rw (← c.self.view_is) at c.requires in
+    rw (← c.self.view_is, c.append_class.ensures.found) (takes_class _ _ _ _ _ c.self.invariant.0 c.take_class.ensures requires.apart)
 
-pub returns : goal.returns
-returns c = record {
-  class = search_class _ _ _ _ _ c.loop-next.invariant (omega arith) c.taken.ensures.distinct c.taken.ensures.within c.requires.apart;
-  apart = search_apart _ _ _ _ _ c.loop-next.invariant (omega arith) c.taken.ensures.distinct c.taken.ensures.within c.requires.apart;
-}
+pub returns-clause-apart : goal.returns-clause-apart
+returns-clause-apart c =
+    let requires = rw (← c.self.view_is) at c.requires in
+    rw c.append_class.ensures.found (class_apart _ _ _ _ _ c.self.invariant.0 c.take_class.ensures requires.apart)
