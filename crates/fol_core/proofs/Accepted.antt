@@ -41,7 +41,7 @@ use Rattle.fol_core.specs.Hands.{at_rest, in_hands}
 use Rattle.fol_core.specs.Posts.{CanQueue, LeavesRoom, Queues}
 use Rattle.fol_core.specs.Returned.{StandsNowhere, returned}
 use Rattle.fol_core.specs.Underway.{HasRoomFor, IsFree, Underway}
-use Rattle.fol_core.proofs.Accepting.{covers_disturbed, disturbed_bag, few_made, grid_stays, held_bags, held_next, new_next, next_grows, post_hands, post_jobs, post_kept}
+use Rattle.fol_core.proofs.Accepting.{covers_stirred, few_made, grid_stays, held_bags, held_next, new_next, next_grows, post_hands, post_jobs, post_kept, stirred_bag}
 use Rattle.fol_core.proofs.Flats.{flat_ext}
 use Rattle.fol_core.proofs.ReleasedHands.{in_hands_there}
 use Rattle.fol_core.proofs.RunDown.{outside_same}
@@ -217,7 +217,7 @@ module _ (t : Tables) (v : Contents) (w : World) (since : ℕ → ℕ) (r n : �
       flat = queues.flat ∙ holds.things.flat ∙ u.midway.stored.flat ∙ sym (ap (λ (h : Recorded). outside h w.flat) hands);
       jobs = jobs;
       next = queues.next ∙ next_now;
-      bags = λ q. let b = queues.bags q in rw b (disturbed_bag (add w.grid x.chunk) w.tick (owed_after_add w.grid x.chunk w.owed) w.recorded q x.chunk (bag_of t'.store q) (bags_now q));
+      bags = λ q. stirred_bag (add w.grid x.chunk) w.tick (owed_after_add w.grid x.chunk w.owed) w.recorded q x.chunk (bag_of t'.store q) (bag_of z.store q) (queues.bags q) (bags_now q);
     }
 
     posted_ending : Ending r p
@@ -230,7 +230,7 @@ module _ (t : Tables) (v : Contents) (w : World) (since : ℕ → ℕ) (r n : �
         regions = ap grid_state queues.regions ∙ now;
         stored = posted_stored;
         tickets = let e = queues.tickets ∙ tickets in rw e u.midway.tickets;
-        covers = let e = queues.agenda in rw e (covers_disturbed t'.agenda.items (add w.grid x.chunk) x.chunk (bag_of t'.store) (bag_of z.store) queues.bags covers_now);
+        covers = let e = queues.agenda in rw e (covers_stirred t'.agenda.items (add w.grid x.chunk) x.chunk (bag_of t'.store) (bag_of z.store) queues.bags covers_now);
         course = let e = queues.course in let h = holds.course in rw (e, h) (record {
           next_job = ap (λ (k : ℕ). k + 1) u.midway.course.next_job;
           in_phase = u.midway.course.in_phase;

@@ -1,5 +1,5 @@
 -- Wishes that are accepted while their region still ticks.
-use Rattle.std.proofs.Common.{◌≡◌, ℕ, ◌+◌, ◌≤◌, ◌<◌, ◌^◌, refl, sym, ◌∙◌, ap, arith, true, false, inl, inr, List, length}
+use Rattle.std.proofs.Common.{◌≡◌, ℕ, ◌+◌, ◌≤◌, ◌<◌, ◌^◌, refl, sym, ◌∙◌, ap, subst, arith, true, false, inl, inr, List, length}
 use Rattle.std.specs.Prelude.{nat_eq, nat_lt, Option, Some}
 use Rattle.std.proofs.Math.Path.{fun_ext}
 use Rattle.std.proofs.lemmas.Bool.{cases_Bool, eqb-true, ltb-true, true≢false}
@@ -24,7 +24,7 @@ use Rattle.fol_regions.specs.Table.{grid_state}
 use Rattle.fol_regions.specs.Answers.{add_answer}
 use Rattle.fol_regions.specs.Changes.{add_change}
 use Rattle.fol_chunks.specs.Contents.{Contents}
-use Rattle.fol_store.specs.Bag.{Bag, disturbed}
+use Rattle.fol_store.specs.Bag.{Bag, Stirred}
 use Rattle.fol_store.specs.Stock.{bag_of, jobs_of, next_of}
 use Rattle.fol_core.specs.declared.tables.Tables.{Tables}
 use Rattle.fol_core.specs.Agenda.{Covers}
@@ -42,20 +42,22 @@ use Rattle.fol_core.proofs.SettledBags.{settled_bags}
 use Rattle.fol_core.proofs.UnitedBags.{are_in_order}
 use Rattle.fol_core.proofs.UnsettledBags.{have_bags, known_bag}
 
--- ---- a bag that may have to be gathered anew
-pub disturbed_bag : (g : GridState) (tick owed : ℕ → ℕ) (recorded : ℕ → Recorded) (r : ℕ) (c : ChunkPos) (b : Bag) → IsBagOf g tick owed recorded r b → IsBagOf g tick owed recorded r (disturbed c b)
-disturbed_bag g tick owed recorded r c b is = record {
-  here = is.here;
-  taken = is.taken;
-  counter = is.counter;
-  owes = is.owes;
-  listed = λ d w. is.listed d w;
-  since = is.since;
-  out = is.out;
-}
+-- ---- a bag that may be calm no more
+pub stirred_bag : (g : GridState) (tick owed : ℕ → ℕ) (recorded : ℕ → Recorded) (r : ℕ) (c : ChunkPos) (b d : Bag) → Stirred c b d → IsBagOf g tick owed recorded r b → IsBagOf g tick owed recorded r d
+stirred_bag g tick owed recorded r c b d e is =
+    let P : Bag → Type 0 = λ k. IsBagOf g tick owed recorded r k in
+    subst P (sym e.same) (record {
+      here = is.here;
+      taken = is.taken;
+      counter = is.counter;
+      owes = is.owes;
+      listed = λ d w. is.listed d w;
+      since = is.since;
+      out = is.out;
+    })
 
-pub covers_disturbed : (xs : List ℕ) (g : GridState) (c : ChunkPos) (f k : ℕ → Bag) → ((r : ℕ) → k r ≡ disturbed c (f r)) → Covers xs g f → Covers xs g k
-covers_disturbed xs g c f k same cov r x = cov r (let b = same r in rw b at x)
+pub covers_stirred : (xs : List ℕ) (g : GridState) (c : ChunkPos) (f k : ℕ → Bag) → ((r : ℕ) → Stirred c (f r) (k r)) → Covers xs g f → Covers xs g k
+covers_stirred xs g c f k e cov r x = cov r (let b = (e r).same in rw b at x)
 
 not_below : (k m : ℕ) → m ≤ k → nat_lt k m ≡ false
 not_below k m l = elim (cases_Bool (nat_lt k m)) [ inl e ↦ let x = ltb-true k m e in absurd (omega arith) | inr e ↦ e ]

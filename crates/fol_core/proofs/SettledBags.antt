@@ -15,7 +15,7 @@ use Rattle.fol_laws.proofs.SamePlaces.{same_chunk-true, same_chunk-self}
 use Rattle.fol_laws.proofs.Listed.{own}
 use Rattle.fol_regions.specs.Answers.{some_id}
 use Rattle.fol_chunks.specs.Contents.{is_recorded}
-use Rattle.fol_store.specs.Bag.{Bag, disturbed}
+use Rattle.fol_store.specs.Bag.{Bag, Stirred}
 use Rattle.fol_store.specs.Relisted.{IsInOrder, Narrowed, Relisted, Widened}
 use Rattle.fol_core.specs.Agenda.{Covers, HaveBags}
 use Rattle.fol_core.specs.Bags.{IsBagOf, KeepsUp, unsettled_at}
@@ -142,11 +142,11 @@ settled_have g f k have s r h = (s r).here ∙ have r h
 pub settled_covers : (xs : List ℕ) (g : GridState) (f k : ℕ → Bag) → Covers xs g f → Settle g f k → Covers xs g k
 settled_covers xs g f k cov s r x = cov r (let e = (s r).owes in rw e at x)
 
-pub settled_disturbed : (g : GridState) (c : ChunkPos) (f k m : ℕ → Bag) → Settle g f k → m ≡ (λ r. disturbed c (k r)) → Settle g f m
-settled_disturbed g c f k m s e r =
+pub settled_stirred : (g : GridState) (c : ChunkPos) (f k m : ℕ → Bag) → Settle g f k → ((r : ℕ) → Stirred c (k r) (m r)) → Settle g f m
+settled_stirred g c f k m s e r =
     let x = s r in
     let P : Bag → Type 0 = λ b. Gathered g r (f r) b in
-    subst P (ap (λ (h : ℕ → Bag). h r) (sym e)) (record { here = x.here; taken = x.taken; counter = x.counter; owes = x.owes; listed = x.listed; since = x.since; out = x.out })
+    subst P (sym (e r).same) (record { here = x.here; taken = x.taken; counter = x.counter; owes = x.owes; listed = x.listed; since = x.since; out = x.out })
 
 -- the id of a region, if it is one
 pub id_of : (n id : ℕ) → some_id n ≡ Some id → (n ≡ id) × (0 < n)

@@ -4,7 +4,7 @@ use Rattle.fol_model.specs.declared.places.ChunkPos.{ChunkPos}
 use Rattle.fol_model.specs.declared.actions.Action.{Action}
 use Rattle.fol_model.specs.ActionStep.{at_id}
 use Rattle.fol_model.specs.Job.{queued}
-use Rattle.fol_store.specs.Bag.{disturbed}
+use Rattle.fol_store.specs.Bag.{Stirred}
 use Rattle.fol_store.specs.Stock.{bag_of, flat_of, jobs_of, next_of}
 use Rattle.fol_core.specs.declared.tables.Tables.{Tables}
 
@@ -22,7 +22,7 @@ pub record Queues (old new : Tables) (c : ChunkPos) (delay : ℕ) (action : Acti
   pub regions : new.regions ≡ old.regions
   pub flat : flat_of new.store ≡ flat_of old.store
   pub jobs : jobs_of new.store ≡ at_id (jobs_of old.store) old.course.next_job (Some (queued c delay action))
-  pub bags : (r : ℕ) → bag_of new.store r ≡ disturbed c (bag_of old.store r)
+  pub bags : (r : ℕ) → Stirred c (bag_of old.store r) (bag_of new.store r)
   pub next : next_of new.store ≡ next_of old.store
   pub spare : old.store.spare ≤ new.store.spare + 1
   pub slots : old.store.slots ≤ new.store.slots

@@ -6,7 +6,7 @@ ghost use Rattle.fol_model.specs.Limits.{is_action, is_delay, may_post};
 ghost use Rattle.fol_model.specs.Add.{is_full};
 ghost use Rattle.fol_model.specs.ActionStep.{at_id};
 ghost use Rattle.fol_model.specs.Job.{queued};
-ghost use Rattle.fol_store.specs.Bag.{disturbed};
+ghost use Rattle.fol_store.specs.Bag.{Stirred};
 ghost use Rattle.fol_regions.specs.Table.{grid_state};
 ghost use Rattle.fol_store.specs.Stock.{bag_of, flat_of, jobs_of, next_of};
 ghost use Rattle.fol_core.specs.Answers.{PostRecords, post_result, posting_of};
@@ -93,7 +93,7 @@ fn accepted(tables: &mut Tables, c: ChunkPos, delay: u32, action: Action) -> Acc
     requires few { tables.old.course.next_job < 2 ^ 62 }
     requires delay { IsTrue (is_delay delay) }
     ensures answer { result ≡ Accept.Posted tables.old.course.next_job }
-    ensures bags { bag_of tables.new.store ≡ λ r. disturbed c (bag_of tables.old.store r) }
+    ensures bags { (r : ℕ) → Stirred c (bag_of tables.old.store r) (bag_of tables.new.store r) }
     ensures flat { flat_of tables.new.store ≡ flat_of tables.old.store }
     ensures jobs { jobs_of tables.new.store
         ≡ at_id (jobs_of tables.old.store) tables.old.course.next_job

@@ -5,6 +5,8 @@ pub mod Resound
 pub mod ThingSteps
 pub mod BagSteps
 pub mod Accepting
+pub mod Queuing
+pub mod Stirring
 pub mod Taking
 pub mod Putting
 pub mod Opening

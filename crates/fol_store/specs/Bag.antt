@@ -1,5 +1,5 @@
 -- What contracts see of the bag of a region.
-use Rattle.std.specs.Prelude.{ℕ, Bool, true, false, not, ◌&&◌, List, []}
+use Rattle.std.specs.Prelude.{ℕ, ◌≡◌, Bool, true, false, not, ◌&&◌, List, []}
 use Rattle.fol_model.specs.declared.places.ChunkPos.{ChunkPos}
 use Rattle.fol_chunks.specs.Contents.{is_recorded}
 
@@ -35,6 +35,12 @@ new_bag tick owed = record { here = true; taken = false; tick = tick; owed = owe
 -- after a task came on the chunk: a listed bag that has the chunk is calm no more
 abbrev pub disturbed : ChunkPos → Bag → Bag
 disturbed c b = record b { calm = b.calm && not (b.listed && is_recorded b.chunks c) }
+
+-- after a task came on the chunk, which the bag may have taken in: the bag that has the chunk may be calm no more
+pub record Stirred (c : ChunkPos) (old new : Bag) : Type 0 where
+  pub same : new ≡ record old { calm = new.calm }
+  pub before : new.calm ≡ true → old.calm ≡ true
+  pub away : is_recorded old.chunks c ≡ false → new.calm ≡ old.calm
 
 -- after all of it was taken out
 abbrev pub taken_out : Bag → Bag

@@ -14,6 +14,21 @@ pub record SameMeaning (old new : Stock) : Type 0 where
   pub spare : old.spare ≤ new.spare
   pub slots : old.slots ≤ new.slots
 
+-- only how much more a bag can take in may differ
+pub record Roomier (old new : Stock) : Type 0 where
+  pub contents : flat_of new ≡ flat_of old
+  pub tasks : jobs_of new ≡ jobs_of old
+  pub bags : bag_of new ≡ bag_of old
+  pub next : next_of new ≡ next_of old
+  pub spare : new.spare ≡ old.spare
+  pub slots : new.slots ≡ old.slots
+
+-- the bag has the chunk, is here, and has room for a task
+pub record TakesTask (s : Stock) (c : ChunkPos) (id : ℕ) : Type 0 where
+  pub home : (place s c).bag ≡ Some id
+  pub here : (slot s id).here ≡ true
+  pub room : 1 ≤ (slot s id).body.queues.spare
+
 -- contents and tasks stay, and no room is lost
 pub record SameWorld (old new : Stock) : Type 0 where
   pub contents : flat_of new ≡ flat_of old

@@ -25,6 +25,7 @@ mod store;
 mod taken;
 #[cfg(test)]
 mod tests;
+mod waiting;
 
 pub use rows::Rows;
 pub use store::Store;

@@ -1,25 +1,27 @@
 //! The bags by region.
 
-ghost use Rattle.std.specs.Prelude.{◌≡◌, ◌≢◌, IsTrue, IfOk, OnOk, OnErr, ◌+◌, ◌<◌, ◌&&◌, ◌||◌, not, ℕ, nat_eq, if◌then◌else◌, true, false, [], ◌∷◌, ◌++◌, length, vec_len};
+ghost use Rattle.std.specs.Prelude.{◌≡◌, ◌≢◌, IsTrue, IfOk, OnOk, OnErr, None, ◌+◌, ◌<◌, ◌≤◌, ◌&&◌, ◌||◌, not, ℕ, nat_eq, if◌then◌else◌, true, false, [], ◌∷◌, ◌++◌, length, vec_len};
 ghost use Rattle.std.specs.Option.{is_none, ForSome};
 ghost use Rattle.std.specs.Vec.{vec_capacity};
 ghost use Rattle.fol_store.specs.Stock.{no_slot};
 ghost use Rattle.fol_store.specs.Slots.{slot_in, stays_calm};
-ghost use Rattle.fol_store.specs.Things.{no_data, IsTimely};
+ghost use Rattle.fol_store.specs.Things.{no_data, things, of_task, IsTimely};
+ghost use Rattle.fol_data.specs.Rests.{IsInTime};
 ghost use Rattle.fol_store.specs.Places.{is_bag};
-ghost use Rattle.fol_store.specs.Moves.{SameThings, AreApart, Loses, Gains};
+ghost use Rattle.fol_store.specs.Moves.{SameThings, AreApart, Loses, Gains, Queues};
 ghost use Rattle.std.specs.List.Sorted.{IsStrictlySortedBy};
 ghost use Rattle.fol_chunks.specs.Order.{chunk_cmp};
 ghost use Rattle.fol_chunks.specs.Contents.{is_recorded};
 ghost use Rattle.fol_model.specs.declared.places.ChunkPos.{ChunkPos};
 ghost use Rattle.fol_model.specs.Geometry.{same_chunk};
 
-use crate::Taken;
 use crate::places::Place;
 use crate::shift::shift;
 use crate::slot::Slot;
+use crate::{Taken, waiting};
 use fol_data::RegionData;
 use fol_model::{ChunkPos, Sequence};
+use fol_queues::Dated;
 use std::alloc::{AllocError, Global};
 use std::mem;
 
@@ -170,6 +172,61 @@ pub fn is_stirred(bags: &[Slot], id: usize) -> bool
 {
     let slot = &bags[id];
     slot.listed && !slot.calm
+}
+
+/// Makes room for one task in a bag. False where the bag is not here, or memory runs out.
+pub fn make_room(bags: &mut Vec<Slot>, id: usize) -> bool
+    requires there { id < vec_len bags.old }
+    requires timely { IsTimely (slot_in bags.old.items id).body }
+    ensures here { IsTrue result → (slot_in bags.old.items id).here ≡ true }
+    ensures room { IsTrue result → 1 ≤ (slot_in bags.new.items id).body.queues.spare }
+    ensures same { SameThings (slot_in bags.old.items id).body (slot_in bags.new.items id).body }
+    ensures timely { IsTimely (slot_in bags.new.items id).body }
+    ensures slots { (u : ℕ) → slot_in bags.new.items u
+        ≡ (if nat_eq id u
+        then record (slot_in bags.old.items id) { body = (slot_in bags.new.items id).body }
+        else slot_in bags.old.items u) }
+    ensures len { vec_len bags.new ≡ vec_len bags.old }
+    ensures capacity { vec_capacity bags.new ≡ vec_capacity bags.old }
+{
+    let slot = &mut bags[id];
+    room_in(slot)
+}
+
+/// Makes room for one task. False where the bag is not here, or memory runs out.
+fn room_in(slot: &mut Slot) -> bool
+    requires timely { IsTimely slot.old.body }
+    ensures here { IsTrue result → slot.old.here ≡ true }
+    ensures room { IsTrue result → 1 ≤ slot.new.body.queues.spare }
+    ensures same { SameThings slot.old.body slot.new.body }
+    ensures timely { IsTimely slot.new.body }
+    ensures rest { slot.new ≡ record slot.old { body = slot.new.body } }
+{
+    if !slot.here {
+        return false;
+    }
+    waiting::make_room(&mut slot.body).is_ok()
+}
+
+/// Queues a task in a bag, with its deadline as its rest.
+pub fn queue(bags: &mut Vec<Slot>, id: usize, dated: Dated)
+    requires there { id < vec_len bags.old }
+    requires timely { IsTimely (slot_in bags.old.items id).body }
+    requires room { 1 ≤ (slot_in bags.old.items id).body.queues.spare }
+    requires fresh { things (slot_in bags.old.items id).body (of_task dated.task.number) ≡ None }
+    requires in_time { IsInTime 0 dated }
+    ensures queued { Queues dated (slot_in bags.old.items id).body
+        (slot_in bags.new.items id).body }
+    ensures timely { IsTimely (slot_in bags.new.items id).body }
+    ensures slots { (u : ℕ) → slot_in bags.new.items u
+        ≡ (if nat_eq id u
+        then record (slot_in bags.old.items id) { body = (slot_in bags.new.items id).body }
+        else slot_in bags.old.items u) }
+    ensures len { vec_len bags.new ≡ vec_len bags.old }
+    ensures capacity { vec_capacity bags.new ≡ vec_capacity bags.old }
+{
+    let slot = &mut bags[id];
+    waiting::queue(&mut slot.body, dated);
 }
 
 /// Notes that tasks may lie in the spot of a chunk of a bag. If memory runs out, nothing is noted.

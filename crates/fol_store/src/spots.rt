@@ -12,6 +12,7 @@ ghost use Rattle.fol_store.specs.Moves.{SameThings, AreApart, Loses, Gains, Queu
 
 use crate::slot::Slot;
 use crate::slots::{self, new_data};
+use crate::waiting;
 use fol_data::{RegionData, Size};
 use fol_model::{BlockPos, ChunkPos, Entity};
 use fol_queues::Dated;
@@ -120,20 +121,7 @@ pub fn make_room(spots: &mut Vec<RegionData>, i: usize) -> Result<(), AllocError
     ensures len { vec_len spots.new ≡ vec_len spots.old }
 {
     let spot = &mut spots[i];
-    room_in(spot)
-}
-
-/// Makes room for one task.
-fn room_in(room: &mut RegionData) -> Result<(), AllocError>
-    requires timely { IsTimely room.old }
-    ensures same { SameThings room.old room.new }
-    ensures timely { IsTimely room.new }
-    ensures room { OnOk result (1 ≤ room.new.queues.spare) }
-{
-    room.reserve(Size {
-        tasks: 1,
-        things: 0,
-    })
+    waiting::make_room(spot)
 }
 
 /// Queues a task in a spot, with its deadline as its rest.
@@ -150,21 +138,7 @@ pub fn queue(spots: &mut Vec<RegionData>, i: usize, dated: Dated)
     ensures len { vec_len spots.new ≡ vec_len spots.old }
 {
     let spot = &mut spots[i];
-    queue_in(spot, dated);
-}
-
-/// Queues a task with its deadline as its rest.
-fn queue_in(room: &mut RegionData, dated: Dated)
-    requires timely { IsTimely room.old }
-    requires room { 1 ≤ room.old.queues.spare }
-    requires fresh { things room.old (of_task dated.task.number) ≡ None }
-    requires in_time { IsInTime 0 dated }
-    ensures queued { Queues dated room.old room.new }
-    ensures timely { IsTimely room.new }
-{
-    let Dated { task, deadline } = dated;
-    let tick = room.tick;
-    room.queues.accept(task, deadline as u32, tick);
+    waiting::queue(spot, dated);
 }
 
 /// Lays a block into a spot where it has no number.

@@ -13,10 +13,11 @@ ghost use Rattle.fol_chunks.specs.Contents.{flat_of as contents_of, within, outs
 ghost use Rattle.fol_chunks.specs.Order.{chunk_cmp};
 ghost use Rattle.fol_chunks.specs.Rows.{by_place, by_id};
 ghost use Rattle.fol_data.specs.Rests.{rests_of, IsInTime};
-ghost use Rattle.fol_store.specs.Bag.{no_bag, new_bag, disturbed, is_whole, taken_out, put_back};
+ghost use Rattle.fol_store.specs.Bag.{no_bag, new_bag, is_whole, taken_out, put_back};
 ghost use Rattle.fol_store.specs.Gathered.{AreFree, OthersSpared, Touched};
 ghost use Rattle.fol_store.specs.TaskRows.{by_number, rows_of};
 
+mod accept;
 mod calm;
 mod chunks;
 mod draw;
@@ -29,7 +30,7 @@ use crate::places::Places;
 use crate::slot::Slot;
 use crate::{Rows, Taken, rows, slots, sorting};
 use fol_data::RegionData;
-use fol_model::{ChunkPos, Opening, Task};
+use fol_model::{ChunkPos, Opening};
 use fol_queues::Dated;
 use std::alloc::{AllocError, Global};
 use std::marker::Model;
@@ -88,8 +89,6 @@ impl Store {
     {
         (self.bags.capacity() - self.bags.len()) as u64
     }
-
-    /// Queues a task that is due in the `delay`-th tick that its chunk's region begins from now on. The bag that has the chunk is
 
     /// Closes the bag of a region that is over. What lies in it stays in the store. Takes no memory.
     pub fn close(&mut self, id: u64)
@@ -172,30 +171,6 @@ impl Store {
         ensures slots { self.new.slots ≡ self.old.slots }
     {
         slots::unlist(&mut self.bags, id as usize);
-    }
-
-    /// Queues a task that is due in the `delay`-th tick that its chunk's region begins from now on. A listed bag that has the chunk is
-    /// calm no more. Takes no memory.
-    pub fn accept(&mut self, task: Task, delay: u32)
-        requires spare { 1 ≤ self.old.spare }
-        requires fresh { IsNone (jobs_of self.old task.number) }
-        requires delay_low { 1 ≤ delay }
-        requires delay_high { delay ≤ 1000000 }
-        ensures tasks { jobs_of self.new
-            ≡ at_id (jobs_of self.old) task.number (Some (queued task.chunk delay task.action)) }
-        ensures contents { flat_of self.new ≡ flat_of self.old }
-        ensures bags { bag_of self.new ≡ λ id. disturbed task.chunk (bag_of self.old id) }
-        ensures next { next_of self.new ≡ next_of self.old }
-        ensures spare { self.old.spare ≤ self.new.spare + 1 }
-        ensures slots { self.old.slots ≤ self.new.slots }
-    {
-        let c = task.chunk;
-        let place = self.places.at(c);
-        self.arrivals.push_reserved(Dated {
-            task,
-            deadline: delay as u64,
-        });
-        slots::disturb(&mut self.bags, place);
     }
 
     /// Opens the bag of the next region, which has these numbers and no chunk. Takes no memory.

@@ -1,4 +1,3 @@
-use Rattle.std.proofs.Math.Path.{fun_ext}
 use Rattle.std.proofs.lemmas.Bool.{and_parts, leb-true}
 use Rattle.std.specs.Prelude.{nat_le}
 use Rattle.fol_model.specs.Limits.{is_delay}
@@ -13,6 +12,3 @@ queue-requires c = let d = and_parts (nat_le 1 c.args.delay) (nat_le c.args.dela
   delay_high = leb-true c.args.delay 1000000 d.1;
   few = c.requires.few;
 }
-
-pub returns-clause-bags : goal.returns-clause-bags
-returns-clause-bags c = fun_ext c.queue.ensures.queued.bags

@@ -1,40 +1,26 @@
-use Rattle.std.proofs.Common.{◌≡◌, ◌-◌, length, arith, vec_len, None}
-use Rattle.std.specs.Vec.{vec_capacity}
-use Rattle.fol_queues.specs.declared.dated.Dated.{Dated}
-use Rattle.fol_data.specs.Rests.{IsInTime}
-use Rattle.fol_store.specs.contracts.store.Store.{the_view}
-use Rattle.fol_store.specs.Things.{of_task}
-use Rattle.fol_store.specs.Stock.{found, next_of}
-use Rattle.fol_store.proofs.Accepting.{accepted, accepted_tasks, accepted_contents, accepted_bags, fresh_found}
+use Rattle.std.proofs.Common.{ℕ, refl, ◌∙◌, ap, Option, Some}
+use Rattle.fol_model.specs.ActionStep.{at_id}
+use Rattle.fol_model.specs.Job.{Job, queued}
+use Rattle.fol_store.proofs.Stirring.{stirred_same, stirred_disturbed}
 use Rattle.fol_store.proofs.store.Store.accept.Goals as goal
 
--- the task with its rest
-abbrev come : goal.After-disturb → Dated
-come c = record { task = c.args.task; deadline = c.args.delay }
+pub queue_in-requires-clause-takes : goal.queue_in-requires-clause-takes
+queue_in-requires-clause-takes c = c.in-Some.ensures.found c.in-Some.id refl
 
-none : (c : goal.After-disturb) → found (the_view c.self.inside) (of_task c.args.task.number) ≡ None
-none c = fresh_found (the_view c.self.inside) c.args.task.number (rw (← c.self.view_is) at c.requires.fresh)
+pub queue_in-requires-clause-fresh : goal.queue_in-requires-clause-fresh
+queue_in-requires-clause-fresh c = let e = c.bag_with_room.ensures.same.tasks in rw e c.requires.fresh
 
-pub invariant_of-self : goal.invariant_of-self
-invariant_of-self c =
-    let long : length c.disturb.new.bags.items ≡ length c.self.inside.bags.items = omega arith in
-    let in_time : IsInTime 0 (come c) = record { low = omega (arith, c.requires.delay_low); high = omega (arith, c.requires.delay_high) } in
-    rw c.push_reserved.ensures.items (accepted (the_view c.self.inside) (come c) c.disturb.new.bags.items _ _ (rw c.at-place.ensures at c.disturb.ensures.slots) (none c) c.self.invariant long in_time)
+pub hold_back-requires-clause-fresh : goal.hold_back-requires-clause-fresh
+hold_back-requires-clause-fresh c = let e = c.bag_with_room.ensures.same.tasks in rw e c.requires.fresh
 
-pub returns-clause-tasks : goal.returns-clause-tasks
-returns-clause-tasks c =
-    rw (← c.self.view_is, c.push_reserved.ensures.items) (accepted_tasks (the_view c.self.inside) (come c) c.disturb.new.bags.items (vec_capacity c.push_reserved.new.self - vec_len c.push_reserved.new.self) (vec_capacity c.disturb.new.bags - vec_len c.disturb.new.bags) (rw c.at-place.ensures at c.disturb.ensures.slots) (none c) c.self.invariant)
+pub returns-in-Some-clause-tasks : goal.returns-in-Some-clause-tasks
+returns-in-Some-clause-tasks c = c.queue_in.ensures.tasks ∙ ap (λ (f : ℕ → Option Job). at_id f c.args.task.number (Some (queued c.args.task.chunk c.args.delay c.args.task.action))) c.bag_with_room.ensures.same.tasks
 
-pub returns-clause-contents : goal.returns-clause-contents
-returns-clause-contents c =
-    rw (← c.self.view_is, c.push_reserved.ensures.items) (accepted_contents (the_view c.self.inside) (come c) c.disturb.new.bags.items (vec_capacity c.push_reserved.new.self - vec_len c.push_reserved.new.self) (vec_capacity c.disturb.new.bags - vec_len c.disturb.new.bags) (rw c.at-place.ensures at c.disturb.ensures.slots) (none c) c.self.invariant)
+pub returns-in-Some-clause-contents : goal.returns-in-Some-clause-contents
+returns-in-Some-clause-contents c = c.queue_in.ensures.contents ∙ c.bag_with_room.ensures.same.contents
 
-pub returns-clause-bags : goal.returns-clause-bags
-returns-clause-bags c =
-    rw (← c.self.view_is, c.push_reserved.ensures.items) (accepted_bags (the_view c.self.inside) (come c) c.disturb.new.bags.items (vec_capacity c.push_reserved.new.self - vec_len c.push_reserved.new.self) (vec_capacity c.disturb.new.bags - vec_len c.disturb.new.bags) (rw c.at-place.ensures at c.disturb.ensures.slots) (none c) c.self.invariant)
+pub returns-in-None-clause-tasks : goal.returns-in-None-clause-tasks
+returns-in-None-clause-tasks c = c.hold_back.ensures.tasks ∙ ap (λ (f : ℕ → Option Job). at_id f c.args.task.number (Some (queued c.args.task.chunk c.args.delay c.args.task.action))) c.bag_with_room.ensures.same.tasks
 
-pub returns-clause-next : goal.returns-clause-next
-unfolding next_of
-returns-clause-next c =
-    let long : length c.disturb.new.bags.items ≡ length c.self.inside.bags.items = omega arith in
-    rw (← c.self.view_is) long
+pub returns-in-None-clause-contents : goal.returns-in-None-clause-contents
+returns-in-None-clause-contents c = c.hold_back.ensures.contents ∙ c.bag_with_room.ensures.same.contents

@@ -5,7 +5,7 @@ use Rattle.std.proofs.lemmas.Bool.{cases_Bool}
 use Rattle.fol_model.specs.Job.{queued}
 use Rattle.fol_queues.specs.Waiting.{dated, job_of}
 use Rattle.fol_queues.specs.declared.dated.Dated.{Dated}
-use Rattle.fol_store.proofs.spots.queue_in.Goals as goal
+use Rattle.fol_store.proofs.waiting.queue.Goals as goal
 
 pub returns-clause-queued : goal.returns-clause-queued
 returns-clause-queued c = record {

@@ -1,5 +1,5 @@
 use Rattle.fol_store.proofs.ThingSteps.{same_things, same_timely}
-use Rattle.fol_store.proofs.spots.room_in.Goals as goal
+use Rattle.fol_store.proofs.waiting.make_room.Goals as goal
 
 pub returns-clause-same : goal.returns-clause-same
 returns-clause-same c = same_things c.args.room.now c.reserve.new.self c.reserve.ensures.tick c.reserve.ensures.owed c.reserve.ensures.tasks c.reserve.ensures.contents
