@@ -65,3 +65,4 @@ pub mod OwnerRows
 pub mod EntityRows
 pub mod ClosingRows
 pub mod Crossing
+pub mod PartedBags

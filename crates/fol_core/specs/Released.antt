@@ -1,5 +1,6 @@
 -- How the bags of the store follow a release.
-use Rattle.std.specs.Prelude.{ℕ, ◌≡◌, ◌+◌, ◌≤◌, ◌<◌, ◌^◌, true, false, ◌||◌, List, [], ◌∷◌, ◌++◌, ◌≢◌, filter, length, vec_len, vec_capacity, IsTrue, if◌then◌else◌}
+use Rattle.std.specs.Prelude.{ℕ, ◌≡◌, ◌+◌, ◌≤◌, ◌<◌, ◌^◌, true, false, ◌||◌, List, [], ◌∷◌, ◌++◌, ◌≢◌, filter, length, nat_eq, vec_len, vec_capacity, IsTrue, if◌then◌else◌}
+use Rattle.std.specs.List.{list_any}
 use Rattle.std.specs.Option.{ForSome, is_none, option_or}
 use Rattle.fol_model.specs.declared.regions.State.TheVariants.{Ticking}
 use Rattle.fol_model.specs.declared.tasks.Task.{Task}
@@ -32,6 +33,14 @@ part_bag tick owed = record (new_bag tick owed) { listed = false }
 abbrev pub opened_parts : ℕ → ℕ → List ℕ → (ℕ → Bag) → ℕ → Bag
 opened_parts tick owed [] f = f
 opened_parts tick owed (x ∷ xs) f = opened_parts tick owed xs (at_id f x (part_bag tick owed))
+
+-- the regions of these ids are parts of the region r, whose bag is here still: each has a bag with its numbers, for which nothing was gathered
+pub record AreFresh (r : ℕ) (ids : List ℕ) (f : ℕ → Bag) : Type 0 where
+  pub here : (f r).here ≡ true
+  pub first : ℕ
+  pub follow : Follow first ids
+  pub below : r < first
+  pub fresh : (q : ℕ) → list_any (nat_eq q) ids ≡ true → f q ≡ part_bag (f r).tick (f r).owed
 
 -- of a region that ticked: it came back with these numbers, and has to be gathered anew
 abbrev pub returned_bag : ℕ → ℕ → Bag → Bag

@@ -1,13 +1,19 @@
 //! The bags of the store follow the regions.
 
-ghost use Rattle.std.specs.Prelude.{◌≡◌, ℕ, ◌+◌, ◌≤◌, ◌^◌, length, true};
+ghost use Rattle.std.specs.Prelude.{◌≡◌, ℕ, ◌+◌, ◌≤◌, ◌^◌, length, true, filter, IfOk};
 ghost use Rattle.std.specs.List.{AllByRecursion};
+ghost use Rattle.fol_model.specs.Universe.{all_chunks};
+ghost use Rattle.fol_model.specs.Outputs.{is_chunk_of};
+ghost use Rattle.fol_regions.specs.Table.{grid_state};
+ghost use Rattle.fol_regions.specs.Answers.{IsGiven};
 ghost use Rattle.fol_store.specs.Stock.{bag_of, flat_of, jobs_of, next_of};
 ghost use Rattle.fol_core.specs.Bags.{AreInOrder, CanJoin, Follow, Joins, opened_bags, owing_bags};
 ghost use Rattle.fol_core.specs.Same.{SameThings};
 
-use fol_regions::MergePair;
+use fol_model::ChunkPos;
+use fol_regions::{MergePair, Regions};
 use fol_store::Store;
+use std::alloc::{AllocError, Global};
 
 /// Each region of the pairs joins the other one, which then owes the greater number, and whose bag may be listed for the chunks of both.
 pub(crate) fn join(store: &mut Store, merges: &[MergePair])
@@ -51,4 +57,19 @@ pub(crate) fn set_owed(store: &mut Store, ids: &[u64], n: u32)
     for id in ids {
         store.set_owed(*id, n);
     }
+}
+
+/// The loaded chunks of a region, in order.
+pub(crate) fn list_chunks(
+    alloc: Global,
+    regions: &Regions,
+    id: u64,
+) -> Result<Vec<ChunkPos>, AllocError>
+    requires { IsGiven (grid_state regions.now) id }
+    ensures { IfOk result (λ chunks. chunks.items
+        ≡ filter (is_chunk_of (grid_state regions.now) id) all_chunks) }
+{
+    let mut chunks = Vec::with_capacity(alloc, regions.chunk_count(id) as usize)?;
+    regions.list_chunks(id, &mut chunks);
+    Ok(chunks)
 }

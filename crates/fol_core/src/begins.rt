@@ -22,6 +22,7 @@ ghost use Rattle.fol_core.specs.Same.{SameThings};
 
 use crate::BeginAnswer;
 use crate::agenda::{owes, tidy};
+use crate::bags::list_chunks;
 use crate::machine::{Core, Room, record};
 use crate::tables::{Tables, grow_history};
 use fol_data::{RegionData, Tick};
@@ -141,8 +142,7 @@ fn settle(alloc: Global, regions: &Regions, store: &mut Store, id: u64) -> Resul
     if store.is_listed(id) {
         return store.settle(id);
     }
-    let mut chunks = Vec::with_capacity(alloc, regions.chunk_count(id) as usize)?;
-    regions.list_chunks(id, &mut chunks);
+    let chunks = list_chunks(alloc, regions, id)?;
     store.gather(id, &chunks)
 }
 

@@ -28,22 +28,29 @@ ghost use Rattle.fol_core.specs.MayEnd.{MayEnd};
 ghost use Rattle.fol_core.specs.Stands.{Fits, Stands};
 ghost use Rattle.fol_core.specs.Ticks.{IsOut};
 ghost use Rattle.fol_core.specs.Bags.{Follow};
-ghost use Rattle.fol_core.specs.Released.{BringsBack, CanEnd, DropsHolds, EndsRegion, Loosens, MayRelease, Releases, opened_parts, part_bag, parted};
+ghost use Rattle.fol_core.specs.Released.{BringsBack, CanEnd, DropsHolds, EndsRegion, Loosens, MayRelease, Releases};
 ghost use Rattle.fol_core.specs.Same.{SameStock, SameThings};
 
 use crate::agenda::tidy;
 use crate::bags::join;
 use crate::catching_up::catch_up;
+use crate::parts::part;
 use crate::tables::Tables;
 use crate::wishes::accept_all;
 use fol_data::{RegionData, Tick};
 use fol_model::{Accept, ChunkPos, Event, Sequence, State, Task};
 use fol_regions::{Regions, Removed};
 use fol_store::Store;
+use std::alloc::Global;
 use std::collections::VecDeque;
 
 /// Ends a finished tick: its holds are dropped, its wishes accepted, and its region released. Returns the event.
-pub(crate) fn end_tick(tables: &mut Tables, tick: Tick, mut accepts: Vec<Accept>) -> Event
+pub(crate) fn end_tick(
+    alloc: Global,
+    tables: &mut Tables,
+    tick: Tick,
+    mut accepts: Vec<Accept>,
+) -> Event
     requires may { MayEnd tables.old tick }
     requires empty { accepts.items ≡ [] }
     requires room { length tick.log.wishes ≤ vec_capacity accepts }
@@ -69,7 +76,7 @@ pub(crate) fn end_tick(tables: &mut Tables, tick: Tick, mut accepts: Vec<Accept>
     let counter = body.tick;
     let wishes = VecDeque::from_vec(log.wishes.into_vec());
     accept_all(tables, &mut body.chunks, wishes, &mut accepts);
-    end_region(tables, region, chunks.into_vec(), body);
+    end_region(alloc, tables, region, chunks.into_vec(), body);
     Event::End {
         worker,
         region,
@@ -128,12 +135,18 @@ fn drop_hold(regions: &mut Regions, store: &mut Store, region: u64, chunk: Chunk
 }
 
 /// Releases a Ticking region, whose chunks and data come back.
-pub(crate) fn end_region(tables: &mut Tables, region: u64, chunks: Vec<ChunkPos>, body: RegionData)
+pub(crate) fn end_region(
+    alloc: Global,
+    tables: &mut Tables,
+    region: u64,
+    chunks: Vec<ChunkPos>,
+    body: RegionData,
+)
     requires { CanEnd tables.old region chunks.items body }
     ensures { EndsRegion tables.old tables.new region body }
 {
     bring_back(tables, region, chunks, body);
-    release_region(tables, region);
+    release_region(alloc, tables, region);
 }
 
 /// The chunks and the data of a Ticking region come back, and its bag follows the chunks that came and left meanwhile.
@@ -147,7 +160,7 @@ fn bring_back(tables: &mut Tables, region: u64, chunks: Vec<ChunkPos>, body: Reg
 }
 
 /// Releases a Ticking region whose chunks and data are back.
-fn release_region(tables: &mut Tables, region: u64)
+fn release_region(alloc: Global, tables: &mut Tables, region: u64)
     requires { MayRelease tables.old region }
     ensures { Releases tables.old tables.new region }
 {
@@ -156,7 +169,13 @@ fn release_region(tables: &mut Tables, region: u64)
     let change = tables.regions.last();
     join(&mut tables.store, change.merges());
     if is_over(&tables.regions, region) {
-        part(&mut tables.store, region, change.parts());
+        part(
+            alloc,
+            &tables.regions,
+            &mut tables.store,
+            region,
+            change.parts(),
+        );
         add_all(&mut tables.agenda, change.parts());
     } else {
         tables.agenda.push_reserved(region);
@@ -174,49 +193,6 @@ fn is_over(regions: &Regions, region: u64) -> bool
         Some(_) => false,
         None => unreachable!(),
     }
-}
-
-/// The region is over, and its parts begin with its numbers.
-fn part(store: &mut Store, region: u64, parts: &[u64])
-    requires here { (bag_of store.old region).here ≡ true }
-    requires follow { Follow (next_of store.old) parts.now }
-    requires slots { length parts.now ≤ store.old.slots }
-    ensures bags { bag_of store.new ≡ parted parts.now region (bag_of store.old) }
-    ensures things { SameThings store.old store.new }
-    ensures next { next_of store.new ≡ next_of store.old + length parts.now }
-{
-    let tick = store.tick(region);
-    let owed = store.owed(region);
-    store.close(region);
-    open_parts(store, parts, tick, owed);
-}
-
-/// The parts of a region get bags with its numbers, for which nothing was gathered.
-fn open_parts(store: &mut Store, parts: &[u64], tick: u64, owed: u32)
-    requires follow { Follow (next_of store.old) parts.now }
-    requires slots { length parts.now ≤ store.old.slots }
-    requires tick { tick ≤ 2 ^ 62 }
-    ensures bags { bag_of store.new ≡ opened_parts tick owed parts.now (bag_of store.old) }
-    ensures things { SameThings store.old store.new }
-    ensures next { next_of store.new ≡ next_of store.old + length parts.now }
-{
-    for id in parts {
-        open_part(store, *id, tick, owed);
-    }
-}
-
-/// A part of a region gets a bag.
-fn open_part(store: &mut Store, id: u64, tick: u64, owed: u32)
-    requires next { id ≡ next_of store.old }
-    requires slots { 1 ≤ store.old.slots }
-    requires tick { tick ≤ 2 ^ 62 }
-    ensures bags { bag_of store.new ≡ at_id (bag_of store.old) id (part_bag tick owed) }
-    ensures things { SameThings store.old store.new }
-    ensures next { next_of store.new ≡ next_of store.old + 1 }
-    ensures slots { store.old.slots ≤ store.new.slots + 1 }
-{
-    store.open(id, tick, owed);
-    store.unsettle(id);
 }
 
 /// Puts the regions on the stack.

@@ -22,6 +22,7 @@ mod ends;
 mod holds;
 mod machine;
 mod owners;
+mod parts;
 mod phase_steps;
 mod phases;
 mod posts;

@@ -38,7 +38,7 @@ impl Core {
             Ok(accepts) => {
                 let asked = tick.log.wishes.len() as u64;
                 let worker = tick.worker;
-                let event = end_tick(&mut self.tables, tick, accepts);
+                let event = end_tick(alloc, &mut self.tables, tick, accepts);
                 record(&mut self.history, &mut self.tables.course, worker, event);
                 self.tables.course.size += asked;
                 Ok(self.history.len() as u64)

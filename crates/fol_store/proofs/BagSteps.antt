@@ -197,3 +197,8 @@ module _ (s : Stock) (bags : List Slot) (spare slots : ℕ) where
       contents = same_flat s t (one_found h same);
       tasks = same_jobs s t (one_found h same);
     }
+
+-- a bag that is here is that of an id below the next one
+pub here_below : (s : Stock) (id : ℕ) → (bag_of s id).here ≡ true → id < next_of s
+unfolding bag_of next_of
+here_below s id h = here_range s.bags id h

@@ -34,3 +34,4 @@ pub mod Leaving
 pub mod Joining
 pub mod Relisting
 pub mod Compacting
+pub mod Parting

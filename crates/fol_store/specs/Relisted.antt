@@ -1,5 +1,5 @@
 -- What becomes of the bag of a region that has a chunk more or a chunk less, or that another region joins.
-use Rattle.std.specs.Prelude.{ℕ, ◌≡◌, ◌≢◌, Bool, true, false, not, ◌&&◌, ◌||◌, max, List}
+use Rattle.std.specs.Prelude.{ℕ, ◌≡◌, ◌≢◌, Bool, true, false, not, ◌&&◌, ◌||◌, max, List, []}
 use Rattle.std.specs.List.Sorted.{IsStrictlySortedBy}
 use Rattle.fol_model.specs.declared.places.ChunkPos.{ChunkPos}
 use Rattle.fol_model.specs.Geometry.{same_chunk}
@@ -50,3 +50,15 @@ pub record Joined («from» into : ℕ) (old new : ℕ → Bag) : Type 0 where
   pub own : Relisted (λ q. is_recorded (old into).chunks q || is_recorded (old «from»).chunks q) (old into) (new into)
   pub both : (new into).listed ≡ true → (old «from»).listed ≡ true
   pub others : (u : ℕ) → u ≢ «from» → u ≢ into → new u ≡ old u
+
+-- a bag that has none may be listed for these chunks, and all other bags stay
+pub record Receives (to : ℕ) (chunks : List ChunkPos) (old new : ℕ → Bag) : Type 0 where
+  pub own : Stays (old to) (new to)
+  pub listing : (new to).listed ≡ true → (new to).chunks ≡ chunks
+  pub others : (u : ℕ) → u ≢ to → new u ≡ old u
+
+-- of a part of a region that was just opened: it has no chunks, and has to be gathered
+pub record IsUngathered (b : Bag) : Type 0 where
+  pub here : b.here ≡ true
+  pub chunks : b.chunks ≡ []
+  pub listed : b.listed ≡ false

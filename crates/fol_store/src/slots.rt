@@ -34,6 +34,34 @@ pub struct Reopened {
     pub touched: Vec<ChunkPos>,
 }
 
+/// The lists of a bag that is listed, and into which what lies in the spots of its chunks has yet to go.
+#[derive(Drop)]
+pub struct Listing {
+    /// Its chunks.
+    pub chunks: Vec<ChunkPos>,
+    /// The same, to be handed out with it.
+    pub handed: Vec<ChunkPos>,
+    /// The same, in whose spots something may lie.
+    pub touched: Vec<ChunkPos>,
+}
+
+impl Listing {
+    /// The lists for these chunks.
+    pub fn new(alloc: Global, chunks: Vec<ChunkPos>) -> Result<Listing, AllocError>
+        ensures chunks { IfOk result (λ lists. lists.chunks.items ≡ chunks.items) }
+        ensures handed { IfOk result (λ lists. lists.handed.items ≡ chunks.items) }
+        ensures touched { IfOk result (λ lists. lists.touched.items ≡ chunks.items) }
+    {
+        let handed = Vec::from_slice(alloc, &chunks)?;
+        let touched = Vec::from_slice(alloc, &chunks)?;
+        Ok(Listing {
+            chunks,
+            handed,
+            touched,
+        })
+    }
+}
+
 /// Says that a bag has to be gathered anew.
 pub fn unlist(bags: &mut Vec<Slot>, id: usize)
     requires { id < vec_len bags.old }
@@ -126,6 +154,33 @@ pub fn finish(alloc: Global, bags: &mut Vec<Slot>, id: usize, handed: Vec<ChunkP
     slot.calm = true;
     slot.handed = Sequence::of(handed);
     slot.touched = Sequence::new(alloc);
+}
+
+/// Says that all that lies on these chunks lies in a bag or in their spots, and gives it the lists.
+pub fn list(bags: &mut Vec<Slot>, id: usize, lists: Listing)
+    requires { id < vec_len bags.old }
+    ensures slots { (u : ℕ) → slot_in bags.new.items u
+        ≡ (if nat_eq id u then record (slot_in bags.old.items id) {
+          listed = true;
+          calm = false;
+          chunks = lists.chunks.items;
+          handed = lists.handed.items;
+          touched = lists.touched.items;
+        } else slot_in bags.old.items u) }
+    ensures len { vec_len bags.new ≡ vec_len bags.old }
+    ensures capacity { vec_capacity bags.new ≡ vec_capacity bags.old }
+{
+    let Listing {
+        chunks,
+        handed,
+        touched,
+    } = lists;
+    let slot = &mut bags[id];
+    slot.listed = true;
+    slot.calm = false;
+    slot.chunks = Sequence::of(chunks);
+    slot.handed = Sequence::of(handed);
+    slot.touched = Sequence::of(touched);
 }
 
 /// A listed bag that the place names is calm no more.
@@ -652,6 +707,42 @@ fn put_body(bags: &mut Vec<Slot>, id: usize, body: RegionData)
 {
     let slot = &mut bags[id];
     slot.body = body;
+}
+
+/// Puts something into a bag, and takes out what lay in it.
+fn replace_body(bags: &mut Vec<Slot>, id: usize, body: RegionData) -> RegionData
+    requires { id < vec_len bags.old }
+    ensures body { result ≡ (slot_in bags.old.items id).body }
+    ensures slots { (u : ℕ) → slot_in bags.new.items u
+        ≡ (if nat_eq id u then record (slot_in bags.old.items id) { body = body }
+        else slot_in bags.old.items u) }
+    ensures len { vec_len bags.new ≡ vec_len bags.old }
+    ensures capacity { vec_capacity bags.new ≡ vec_capacity bags.old }
+{
+    let slot = &mut bags[id];
+    mem::replace(&mut slot.body, body)
+}
+
+/// Two bags change what lies in them. The first has to be gathered anew.
+pub fn swap_bodies(alloc: Global, bags: &mut Vec<Slot>, from: usize, to: usize)
+    requires from_there { from < vec_len bags.old }
+    requires to_there { to < vec_len bags.old }
+    requires others { from ≢ to }
+    ensures slots { (u : ℕ) → slot_in bags.new.items u
+        ≡ (if nat_eq from u
+        then record (slot_in bags.old.items from) {
+          body = (slot_in bags.old.items to).body;
+          listed = false;
+        }
+        else (if nat_eq to u
+        then record (slot_in bags.old.items to) { body = (slot_in bags.old.items from).body }
+        else slot_in bags.old.items u)) }
+    ensures len { vec_len bags.new ≡ vec_len bags.old }
+    ensures capacity { vec_capacity bags.new ≡ vec_capacity bags.old }
+{
+    let body = take_body(alloc, bags, from);
+    let left = replace_body(bags, to, body);
+    put_body(bags, from, left);
 }
 
 /// Moves what lies on the chunks from elsewhere into a bag. If memory runs out, nothing has moved.

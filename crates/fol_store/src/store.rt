@@ -23,6 +23,7 @@ mod chunks;
 mod draw;
 mod gather;
 mod lay;
+mod part;
 mod settle;
 mod unite;
 

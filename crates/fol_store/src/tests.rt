@@ -183,3 +183,33 @@ fn unites_two_regions(rt: HostRuntime) -> Result<(), Fail> {
     assert!(rt; rows.blocks.is_empty() && rows.entities.is_empty() && rows.tasks.is_empty());
     Ok(())
 }
+
+/// A region falls apart: one part is handed its chunk, another takes the region's place, and each has what lies on its chunk.
+#[test]
+fn parts_a_region(rt: HostRuntime) -> Result<(), Fail> {
+    let mut store = Store::new(rt.alloc(), &opening(rt.alloc())?)?;
+    store.reserve(3, 3)?;
+    store.open(1, 40, 2);
+    store.accept(task(2, CHUNKS[0]), 5);
+    store.accept(task(3, CHUNKS[1]), 7);
+    store.gather(1, &CHUNKS)?;
+    store.open(2, 40, 2);
+    store.unsettle(2);
+    store.open(3, 40, 2);
+    store.unsettle(3);
+    store.hand_over(1, 2, Vec::from_slice(rt.alloc(), &CHUNKS[..1])?);
+    store.succeed(1, 3, Vec::from_slice(rt.alloc(), &CHUNKS[1..])?);
+    store.accept(task(4, CHUNKS[0]), 9);
+    assert!(rt; store.is_listed(2));
+    assert!(rt; store.is_listed(3));
+    store.settle(2)?;
+    store.settle(3)?;
+    let first = store.take(2);
+    assert_eq!(rt; first.chunks.as_slice(), &CHUNKS[..1]);
+    assert_eq!(rt; first.body.chunks.get(BLOCKS[0].at), BLOCKS[0].id);
+    let rows = store.into_rows(rt.alloc())?;
+    assert_eq!(rt; rows.blocks.as_slice(), &BLOCKS[1..]);
+    assert_eq!(rt; rows.entities.as_slice(), &ENTITIES[..1]);
+    assert_eq!(rt; rests(rt.alloc(), &rows)?.as_slice(), [(3, 7)].as_slice());
+    Ok(())
+}

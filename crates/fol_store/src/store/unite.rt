@@ -149,7 +149,7 @@ impl Store {
     }
 
     /// The chunks of a bag.
-    fn chunks_of(&self, id: usize) -> &[ChunkPos]
+    pub(super) fn chunks_of(&self, id: usize) -> &[ChunkPos]
         requires { (bag_of self.now id).here ≡ true }
         ensures { result.now ≡ (bag_of self.now id).chunks }
     {

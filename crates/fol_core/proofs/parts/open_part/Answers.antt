@@ -4,7 +4,7 @@ use Rattle.fol_laws.proofs.FunctionsChanged.{at_here}
 use Rattle.fol_store.specs.Bag.{Bag, new_bag}
 use Rattle.fol_store.specs.Stock.{bag_of}
 use Rattle.fol_core.proofs.Loosened.{twice}
-use Rattle.fol_core.proofs.ends.open_part.Goals as goal
+use Rattle.fol_core.proofs.parts.open_part.Goals as goal
 
 pub returns-clause-bags : goal.returns-clause-bags
 returns-clause-bags c =

@@ -3,7 +3,7 @@ use Rattle.fol_store.specs.Stock.{bag_of, next_of}
 use Rattle.fol_core.specs.Bags.{Follow}
 use Rattle.fol_core.specs.Released.{opened_parts}
 use Rattle.fol_core.specs.Same.{SameThings}
-use Rattle.fol_core.proofs.ends.open_parts.Given as goal
+use Rattle.fol_core.proofs.parts.open_parts.Given as goal
 
 abbrev pub invariant-loop-id : goal.invariant-loop-id
 invariant-loop-id l =

@@ -1,0 +1,71 @@
+use Rattle.std.proofs.Common.{◌≡◌, ◌-◌, ◌<◌, true, false, List, length, refl, sym, ◌∙◌, ap, arith, vec_len}
+use Rattle.std.specs.Vec.{vec_capacity}
+use Rattle.fol_model.specs.declared.places.ChunkPos.{ChunkPos}
+use Rattle.fol_store.specs.contracts.store.Store.{the_view}
+use Rattle.fol_store.specs.declared.slot.Slot.{Slot}
+use Rattle.fol_store.specs.Places.{rehomed}
+use Rattle.fol_store.specs.Slots.{slot_in}
+use Rattle.fol_store.specs.Stock.{slot, place}
+use Rattle.fol_store.proofs.BagSteps.{here_range}
+use Rattle.fol_store.proofs.Drawing.{with_parts}
+use Rattle.fol_store.proofs.Parting.{Handed, Pair, a_pair, listed_over, same_numbers, shift_and_list, swap_gains, swap_loses}
+use Rattle.fol_store.proofs.store.Store.move_all.Goals as goal
+
+pub swap_bodies-requires-clause-from_there : goal.swap_bodies-requires-clause-from_there
+swap_bodies-requires-clause-from_there c =
+    let p = a_pair _ c.args.self.now c.args.from c.args.to c.self.view_is c.requires.here c.requires.unlisted c.requires.fresh c.requires.differ in
+    let l : c.args.from < length c.self.inside.bags.items = here_range c.self.inside.bags.items c.args.from p.here in
+    omega arith
+
+pub swap_bodies-requires-clause-to_there : goal.swap_bodies-requires-clause-to_there
+swap_bodies-requires-clause-to_there c =
+    let p = a_pair _ c.args.self.now c.args.from c.args.to c.self.view_is c.requires.here c.requires.unlisted c.requires.fresh c.requires.differ in
+    let l : c.args.to < length c.self.inside.bags.items = here_range c.self.inside.bags.items c.args.to p.id_here in
+    omega arith
+
+pub list-requires : goal.list-requires
+list-requires c =
+    let p = a_pair _ c.args.self.now c.args.from c.args.to c.self.view_is c.requires.here c.requires.unlisted c.requires.fresh c.requires.differ in
+    let l : c.args.to < length c.self.inside.bags.items = here_range c.self.inside.bags.items c.args.to p.id_here in
+    omega (arith, c.swap_bodies.ensures.len)
+
+moved : (c : goal.After-list) → Handed c.args.to c.args.lists.chunks.items (the_view c.self.inside) (with_parts (the_view c.self.inside) c.self.inside.spots.items c.list.new.bags.items c.rehome.new.self (vec_capacity c.self.inside.arrivals - vec_len c.self.inside.arrivals) (vec_capacity c.list.new.bags - vec_len c.list.new.bags))
+moved c =
+    let s = the_view c.self.inside in
+    let p = a_pair s c.args.self.now c.args.from c.args.to c.self.view_is c.requires.here c.requires.unlisted c.requires.fresh c.requires.differ in
+    let n = same_numbers s c.args.self.now c.args.from c.args.to c.self.view_is p c.requires.tick c.requires.owed in
+    let all = rw (← c.self.view_is) at c.requires.no_other in
+    listed_over s c.list.new.bags.items c.rehome.new.self _ _ c.args.from c.args.to c.args.lists.chunks.items c.args.lists.handed.items c.args.lists.touched.items
+    (slot s c.args.to).body (slot s c.args.from).body
+    (record {
+      pours = record {
+        each = shift_and_list s c.args.from c.args.to (let b : Slot = record (slot s c.args.from) { body = (slot s c.args.to).body; listed = false } in b) (let b : Slot = record (slot s c.args.to) { body = (slot s c.args.from).body } in b)
+            (slot_in c.swap_bodies.new.bags.items) (slot_in c.list.new.bags.items)
+            (λ (x : Slot). let b : Slot = record x { listed = true; calm = false; chunks = c.args.lists.chunks.items; handed = c.args.lists.handed.items; touched = c.args.lists.touched.items } in b)
+            c.requires.differ c.swap_bodies.ensures.slots c.list.ensures.slots;
+        loses = swap_loses s c.args.from c.args.to c.args.lists.chunks.items c.self.invariant p n all;
+        gains = swap_gains s c.args.from c.args.to c.args.lists.chunks.items c.self.invariant p n all;
+        homes = λ q. c.rehome.ensures q ∙ ap (λ (l : List ChunkPos). rehomed l c.args.from c.args.to q (place s q)) c.deref.ensures.value;
+        apart = c.requires.differ;
+        long = omega (arith, c.swap_bodies.ensures.len, c.list.ensures.len);
+        there = here_range c.self.inside.bags.items c.args.to p.id_here;
+        timely = c.self.invariant.bag_times c.args.to;
+        to_timely = c.self.invariant.bag_times c.args.from;
+      };
+      pair = p;
+      homes = rw (← c.self.view_is) at c.requires.homes;
+      handed_are = c.requires.handed;
+      touched_are = c.requires.touched;
+      more_spare = omega arith;
+      more_slots = omega (arith, c.swap_bodies.ensures.len, c.swap_bodies.ensures.capacity, c.list.ensures.len, c.list.ensures.capacity);
+    })
+    c.self.invariant
+
+pub invariant_of-self : goal.invariant_of-self
+invariant_of-self c = (moved c).sound
+
+pub returns-clause-received : goal.returns-clause-received
+returns-clause-received c = rw (← c.self.view_is) (moved c).received
+
+pub returns-clause-same : goal.returns-clause-same
+returns-clause-same c = rw (← c.self.view_is) (moved c).same
