@@ -12,8 +12,8 @@ use Rattle.fol_model.specs.Universe.{all_chunks}
 use Rattle.fol_laws.proofs.FunctionsChanged.{at_here, at_other}
 use Rattle.fol_regions.specs.Answers.{IsGiven}
 use Rattle.fol_store.specs.Bag.{Bag, no_bag}
-use Rattle.fol_store.specs.Relisted.{IsUngathered, Stays}
-use Rattle.fol_core.specs.Bags.{Alike, Follow}
+use Rattle.fol_store.specs.Relisted.{Stays}
+use Rattle.fol_core.specs.Bags.{Follow}
 use Rattle.fol_core.specs.Begun.{Gathered}
 use Rattle.fol_core.specs.Follows.{Settle}
 use Rattle.fol_core.specs.Released.{AreFresh, opened_parts, part_bag, parted}
@@ -28,7 +28,7 @@ follow_at n [] i d h l = absurd (omega arith)
 follow_at n (x ∷ xs) zero d h l = h.0 ∙ (omega arith)
 follow_at n (x ∷ xs) (suc i) d h l = follow_at (n + 1) xs i d h.1 (omega arith) ∙ (omega arith)
 
-pub among_above : (n : ℕ) (xs : List ℕ) (q : ℕ) → Follow n xs → among q xs ≡ true → n ≤ q
+among_above : (n : ℕ) (xs : List ℕ) (q : ℕ) → Follow n xs → among q xs ≡ true → n ≤ q
 among_above n [] q h m = absurd (true≢false (sym m))
 among_above n (x ∷ xs) q h m = elim (or_cases (nat_eq q x) (among q xs) m) [
   | inl e ↦ let f : q ≡ x = eqb-true q x e in let k : x ≡ n = h.0 in omega arith
@@ -36,20 +36,10 @@ among_above n (x ∷ xs) q h m = elim (or_cases (nat_eq q x) (among q xs) m) [
 ]
 
 -- an id below those that follow one another is none of them
-pub below_not_among : (n : ℕ) (xs : List ℕ) (q : ℕ) → Follow n xs → q < n → among q xs ≡ false
+below_not_among : (n : ℕ) (xs : List ℕ) (q : ℕ) → Follow n xs → q < n → among q xs ≡ false
 below_not_among n xs q h l = false_from_ne_true (among q xs) (λ m. let k = among_above n xs q h m in absurd (omega arith))
 
--- ---- a part of a region with the bag a
-pub part_is_ungathered : (a b : Bag) → b ≡ part_bag a.tick a.owed → IsUngathered b
-part_is_ungathered a b e = subst IsUngathered (sym e) (record { here = refl; chunks = refl; listed = refl })
-
-pub part_tick : (a b : Bag) → b ≡ part_bag a.tick a.owed → a.tick ≡ b.tick
-part_tick a b e = sym (ap (λ (x : Bag). x.tick) e)
-
-pub part_owed : (a b : Bag) → b ≡ part_bag a.tick a.owed → a.owed ≡ b.owed
-part_owed a b e = sym (ap (λ (x : Bag). x.owed) e)
-
--- its bag is listed for its loaded chunks, if for any
+-- the bag of a part is listed for its loaded chunks, if for any
 pub part_gathered : (g : GridState) (id tick owed : ℕ) (b c : Bag) (chunks : List ChunkPos) → b ≡ part_bag tick owed → Stays b c → (c.listed ≡ true → c.chunks ≡ chunks)
     → chunks ≡ filter (is_chunk_of g id) all_chunks → Gathered g id b c
 part_gathered g id tick owed b c chunks e s is all = gathered_alike g id b c (record {
@@ -69,10 +59,7 @@ pub record Shares (g : GridState) (r heir : ℕ) (ids : List ℕ) (i : ℕ) (f h
   pub later : (n : ℕ) → Follow n ids → r < n → (u : ℕ) → n + i ≤ u → h u ≡ f u
 
 module _ (g : GridState) (r heir : ℕ) (ids : List ℕ) (f : ℕ → Bag) where
-  pub shares_start : Shares g r heir ids 0 f f
-  shares_start = record { rest = refl; own = λ u d. gathered_self g u (f u); heirs = λ d. refl; later = λ n follow below u l. refl }
-
-  pub stays_trans : (a b c : Bag) → Stays a b → Stays b c → Stays a c
+  stays_trans : (a b c : Bag) → Stays a b → Stays b c → Stays a c
   stays_trans a b c x y = y ∙ ap (λ (z : Bag). let w : Bag = record z { listed = c.listed; calm = c.calm; chunks = c.chunks } in w) x
 
   -- the part at place i gets what is its
@@ -128,7 +115,7 @@ module _ (n : ℕ) (ids : List ℕ) (r : ℕ) (f : ℕ → Bag) (here : (f r).he
   }
 
   -- it is the same to close the region's bag before and after
-  pub closed_after : (q : ℕ) → at_id opened r no_bag q ≡ parted ids r f q
+  closed_after : (q : ℕ) → at_id opened r no_bag q ≡ parted ids r f q
   closed_after q = elim (cases_eq q r) [
     | inl e ↦
         let P : ℕ → Type 0 = λ v. at_id opened r no_bag v ≡ parted ids r f v in
@@ -143,7 +130,7 @@ module _ (n : ℕ) (ids : List ℕ) (r : ℕ) (f : ℕ → Bag) (here : (f r).he
   parted_settles g k s q = let P : Bag → Type 0 = λ b. Gathered g q b (k q) in subst P (closed_after q) (s q)
 
 -- ---- what a region needs to share out
-pub among_index : (xs : List ℕ) (q : ℕ) → among q xs ≡ true → (i : ℕ) × (i < length xs) × (get_or xs i 0 ≡ q)
+among_index : (xs : List ℕ) (q : ℕ) → among q xs ≡ true → (i : ℕ) × (i < length xs) × (get_or xs i 0 ≡ q)
 among_index [] q m = absurd (true≢false (sym m))
 among_index (x ∷ xs) q m = elim (cases_Bool (nat_eq q x)) [
   | inl e ↦ (0, omega arith, sym (eqb-true q x e))
@@ -161,9 +148,6 @@ module _ (g : GridState) (r heir : ℕ) (ids : List ℕ) (f : ℕ → Bag) (fres
   among_at i l = list_any_at (nat_eq (get_or ids i 0)) ids i 0 l (eq-eqb (get_or ids i 0) (get_or ids i 0) refl)
 
   module _ (i : ℕ) (h : ℕ → Bag) (s : Shares g r heir ids i f h) where
-    pub still_here : (h r).here ≡ true
-    still_here = ap (λ (b : Bag). b.here) s.rest ∙ fresh.here
-
     same_part : (b : Bag) → b ≡ part_bag (f r).tick (f r).owed → b ≡ part_bag (h r).tick (h r).owed
     same_part b e = e ∙ ap (λ n. part_bag n (f r).owed) (sym (ap (λ (b : Bag). b.tick) s.rest)) ∙ ap (part_bag (h r).tick) (sym (ap (λ (b : Bag). b.owed) s.rest))
 

@@ -22,13 +22,7 @@ use fol_store::Store;
 use std::alloc::Global;
 
 /// The region is over, and its parts begin with its numbers and with what lies on their chunks.
-pub(crate) fn part(
-    alloc: Global,
-    regions: &Regions,
-    store: &mut Store,
-    region: u64,
-    parts: &[u64],
-)
+pub(crate) fn part(alloc: Global, regions: &Regions, store: &mut Store, region: u64, parts: &[u64])
     requires given { All (IsGiven (grid_state regions.now)) parts.now }
     requires here { (bag_of store.old region).here ≡ true }
     requires follow { Follow (next_of store.old) parts.now }

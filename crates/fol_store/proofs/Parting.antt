@@ -1,8 +1,8 @@
 -- What lies in the bag of a region goes into the bag of a part of it.
-use Rattle.std.proofs.Common.{◌≡◌, ◌≢◌, ℕ, ◌≤◌, Bool, true, false, not, ◌||◌, ◌&&◌, List, [], refl, sym, ◌∙◌, ap, subst, inl, inr, Option, Some, None}
+use Rattle.std.proofs.Common.{◌≡◌, ◌≢◌, ℕ, ◌≤◌, true, false, not, List, [], refl, sym, ◌∙◌, ap, subst, inl, inr, Option, Some, None}
 use Rattle.std.specs.Prelude.{nat_eq, if◌then◌else◌}
 use Rattle.std.specs.Option.{option_or}
-use Rattle.std.proofs.lemmas.Bool.{cases_Bool, cases_eq, eqb-true, true≢false}
+use Rattle.std.proofs.lemmas.Bool.{cases_Bool, eqb-true, true≢false}
 use Rattle.fol_queues.specs.Waiting.{option_filter}
 use Rattle.fol_model.specs.declared.places.ChunkPos.{ChunkPos}
 use Rattle.fol_chunks.specs.Contents.{is_recorded}
@@ -20,7 +20,7 @@ use Rattle.fol_store.specs.Steps.{SameWorld}
 use Rattle.fol_store.proofs.Columns.{Moves, Stayed, filter_no, filter_yes, moves_back}
 use Rattle.fol_store.proofs.Totals.{where_cases, same_flat, same_jobs}
 use Rattle.fol_store.proofs.Resound.{kept_self, moved_unique, moved_found, moved_lies, moved_bag}
-use Rattle.fol_store.proofs.Drawing.{with_parts, Pours, at_source, at_target, at_other, apart_bags, moves_over, by_bag, home_keeps, home_moves, home_cases, comes_over, stays_over, spots_within, bags_within, times_over}
+use Rattle.fol_store.proofs.Drawing.{with_parts, Pours, at_target, apart_bags, moves_over, by_bag, home_keeps, home_moves, home_cases, comes_over, stays_over, spots_within, bags_within, times_over}
 use Rattle.fol_store.proofs.Stepping.{here_not_taken}
 
 pub record Handed (id : ℕ) (chunks : List ChunkPos) (s t : Stock) : Type 0 where
@@ -195,9 +195,9 @@ module _ (s : Stock) (bags : List Slot) (places : PlaceRows) (spare slots u id :
       near = λ o k w x q r. elim (moves_back where_cases (column s k) (column after k) (in_bag u) (in_bag id) (λ y. is_recorded chunks (chunk_at k y))
           (apart_bags s bags places spare slots u id chunks first_left second_listed d.pours)
           (moves_over s bags places spare slots u id chunks first_left second_listed d.pours k) w x q) [
-        | inl z ↦ subst (Near id second_listed (chunk_at k x)) (sym z.there) refl
-        | inr z ↦ lies_near k x w z r
-      ];
+            | inl z ↦ subst (Near id second_listed (chunk_at k x)) (sym z.there) refl
+            | inr z ↦ lies_near k x w z r
+          ];
       untouched = λ o p. never p;
       opened = λ o. rw d.pair.id_here refl;
       one = (h.bags id).one;

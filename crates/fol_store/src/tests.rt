@@ -197,8 +197,10 @@ fn parts_a_region(rt: HostRuntime) -> Result<(), Fail> {
     store.unsettle(2);
     store.open(3, 40, 2);
     store.unsettle(3);
-    store.hand_over(1, 2, Vec::from_slice(rt.alloc(), &CHUNKS[..1])?);
-    store.succeed(1, 3, Vec::from_slice(rt.alloc(), &CHUNKS[1..])?);
+    let west = Vec::from_slice(rt.alloc(), &CHUNKS[..1])?;
+    store.hand_over(1, 2, west);
+    let east = Vec::from_slice(rt.alloc(), &CHUNKS[1..])?;
+    store.succeed(1, 3, east);
     store.accept(task(4, CHUNKS[0]), 9);
     assert!(rt; store.is_listed(2));
     assert!(rt; store.is_listed(3));

@@ -1,4 +1,4 @@
-use Rattle.std.proofs.Common.{◌≡◌, ℕ, ◌≤◌, ap, arith, refl, slice_index_or, inl, inr}
+use Rattle.std.proofs.Common.{ap, arith, refl, slice_index_or, inl, inr}
 use Rattle.std.specs.Prelude.{nat_eq}
 use Rattle.std.proofs.lemmas.Bool.{cases_eq, eq-eqb}
 use Rattle.std.proofs.lemmas.Grind.{get_or_default_zero}
@@ -16,21 +16,21 @@ loop-id-preserved c =
     let id = slice_index_or ids i 0 in
     elim c.if-count-most.branch [
       | then-count-most w ↦ rw (w.largest-is, w.most-is) (record {
-          among = list_any_at (nat_eq id) ids i 0 c.loop-id-test.true (eq-eqb id id refl);
-          count = c.chunk_count-count.ensures.value;
-          most = λ k l. elim (cases_eq k i) [
-            | inl e ↦ let x = ap (λ n. chunk_count g (slice_index_or ids n 0)) e in omega (arith, x, c.chunk_count-count.ensures.value)
-            | inr d ↦ omega (arith, c.loop-id.invariant.most k (omega arith), w.if-count-most.true)
-          ];
-        })
+        among = list_any_at (nat_eq id) ids i 0 c.loop-id-test.true (eq-eqb id id refl);
+        count = c.chunk_count-count.ensures.value;
+        most = λ k l. elim (cases_eq k i) [
+          | inl e ↦ let x = ap (λ n. chunk_count g (slice_index_or ids n 0)) e in omega (arith, x, c.chunk_count-count.ensures.value)
+          | inr d ↦ omega (arith, c.loop-id.invariant.most k (omega arith), w.if-count-most.true)
+        ];
+      })
       | else-count-most w ↦ rw (w.largest-is, w.most-is) (record {
-          among = c.loop-id.invariant.among;
-          count = c.loop-id.invariant.count;
-          most = λ k l. elim (cases_eq k i) [
-            | inl e ↦ let x = ap (λ n. chunk_count g (slice_index_or ids n 0)) e in omega (arith, x, c.chunk_count-count.ensures.value, w.if-count-most.false)
-            | inr d ↦ c.loop-id.invariant.most k (omega arith)
-          ];
-        })
+        among = c.loop-id.invariant.among;
+        count = c.loop-id.invariant.count;
+        most = λ k l. elim (cases_eq k i) [
+          | inl e ↦ let x = ap (λ n. chunk_count g (slice_index_or ids n 0)) e in omega (arith, x, c.chunk_count-count.ensures.value, w.if-count-most.false)
+          | inr d ↦ c.loop-id.invariant.most k (omega arith)
+        ];
+      })
     ]
 
 pub returns-clause-most : goal.returns-clause-most

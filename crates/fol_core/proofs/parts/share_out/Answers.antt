@@ -1,7 +1,7 @@
 use Rattle.std.proofs.Common.{◌∙◌, slice_index_or}
 use Rattle.fol_regions.specs.Table.{grid_state}
 use Rattle.fol_store.specs.Stock.{bag_of}
-use Rattle.fol_core.proofs.PartedBags.{among_at, follow_at, given_among, heir_fresh, not_r, part_fresh, shares_end, shares_more, shares_past, shares_start, still_here}
+use Rattle.fol_core.proofs.PartedBags.{among_at, follow_at, given_among, heir_fresh, not_r, part_fresh, shares_end, shares_more, shares_past}
 use Rattle.fol_core.proofs.parts.share_out.Goals as goal
 use Rattle.fol_core.proofs.parts.share_out.Goals.{then-id-heir, else-id-heir}
 
@@ -23,20 +23,20 @@ loop-id-preserved c =
     let i = c.loop-id.id-index in
     elim c.if-id-heir.branch [
       | then-id-heir w ↦ rw w.store-is (record {
-          shares = shares_more g c.args.region c.args.heir c.args.parts.now f i (slice_index_or c.args.parts.now i 0) (bag_of c.loop-id.store) (bag_of w.hand_over.new.store) w.if-id-heir.true
-              (λ n follow. follow_at n c.args.parts.now i 0 follow c.loop-id-test.true)
-              w.hand_over.ensures.rest w.hand_over.ensures.own w.hand_over.ensures.others c.loop-id.invariant.shares;
-          things = record {
-            flat = w.hand_over.ensures.things.flat ∙ c.loop-id.invariant.things.flat;
-            jobs = w.hand_over.ensures.things.jobs ∙ c.loop-id.invariant.things.jobs;
-          };
-          next = w.hand_over.ensures.next ∙ c.loop-id.invariant.next;
-        })
+        shares = shares_more g c.args.region c.args.heir c.args.parts.now f i (slice_index_or c.args.parts.now i 0) (bag_of c.loop-id.store) (bag_of w.hand_over.new.store) w.if-id-heir.true
+            (λ n follow. follow_at n c.args.parts.now i 0 follow c.loop-id-test.true)
+            w.hand_over.ensures.rest w.hand_over.ensures.own w.hand_over.ensures.others c.loop-id.invariant.shares;
+        things = record {
+          flat = w.hand_over.ensures.things.flat ∙ c.loop-id.invariant.things.flat;
+          jobs = w.hand_over.ensures.things.jobs ∙ c.loop-id.invariant.things.jobs;
+        };
+        next = w.hand_over.ensures.next ∙ c.loop-id.invariant.next;
+      })
       | else-id-heir w ↦ rw w.store-is (record {
-          shares = shares_past g c.args.region c.args.heir c.args.parts.now f i (bag_of c.loop-id.store) c.loop-id.invariant.shares;
-          things = c.loop-id.invariant.things;
-          next = c.loop-id.invariant.next;
-        })
+        shares = shares_past g c.args.region c.args.heir c.args.parts.now f i (bag_of c.loop-id.store) c.loop-id.invariant.shares;
+        things = c.loop-id.invariant.things;
+        next = c.loop-id.invariant.next;
+      })
     ]
 
 pub succeed-requires-clause-given : goal.succeed-requires-clause-given

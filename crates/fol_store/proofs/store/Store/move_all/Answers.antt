@@ -1,4 +1,4 @@
-use Rattle.std.proofs.Common.{◌≡◌, ◌-◌, ◌<◌, true, false, List, length, refl, sym, ◌∙◌, ap, arith, vec_len}
+use Rattle.std.proofs.Common.{◌-◌, ◌<◌, true, false, List, length, ◌∙◌, ap, arith, vec_len}
 use Rattle.std.specs.Vec.{vec_capacity}
 use Rattle.fol_model.specs.declared.places.ChunkPos.{ChunkPos}
 use Rattle.fol_store.specs.contracts.store.Store.{the_view}
@@ -8,7 +8,7 @@ use Rattle.fol_store.specs.Slots.{slot_in}
 use Rattle.fol_store.specs.Stock.{slot, place}
 use Rattle.fol_store.proofs.BagSteps.{here_range}
 use Rattle.fol_store.proofs.Drawing.{with_parts}
-use Rattle.fol_store.proofs.Parting.{Handed, Pair, a_pair, listed_over, same_numbers, shift_and_list, swap_gains, swap_loses}
+use Rattle.fol_store.proofs.Parting.{Handed, a_pair, listed_over, same_numbers, shift_and_list, swap_gains, swap_loses}
 use Rattle.fol_store.proofs.store.Store.move_all.Goals as goal
 
 pub swap_bodies-requires-clause-from_there : goal.swap_bodies-requires-clause-from_there
