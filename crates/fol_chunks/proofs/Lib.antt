@@ -1,7 +1,10 @@
-pub mod BlockLists
 pub mod EntityLists
 pub mod Movement
 pub mod Flats
+pub mod Weighing
+pub mod CellSums
+pub mod CellSteps
+pub mod ChunkLists
 pub mod Wholes
-pub mod Settled
-pub mod Changes
+pub mod Laid
+pub mod Parts

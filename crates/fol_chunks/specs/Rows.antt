@@ -1,5 +1,5 @@
 -- The lists that hold the blocks and the entities.
-use Rattle.std.specs.Prelude.{◌<◌, List, All, if◌then◌else◌, ◌&&◌, filter, nat_lt}
+use Rattle.std.specs.Prelude.{◌<◌, List, All, if◌then◌else◌, ◌&&◌}
 use Rattle.std.specs.List.{IsDistinct}
 use Rattle.std.specs.Ordering.{nat_cmp}
 use Rattle.std.specs.List.Sorted.{IsStrictlySortedBy}
@@ -16,15 +16,6 @@ by_place a b = block_cmp a.at b.at
 
 abbrev pub by_id : Entity → Entity → Ordering
 by_id a b = nat_cmp a.id b.id
-
--- blocks in order of place, none with number 0
-pub record IsBlocks (xs : List BlockAt) : Type 0 where
-  pub order : IsStrictlySortedBy by_place xs
-  pub full : All (λ x. 0 < x.id) xs
-
--- the blocks that have a number
-abbrev pub filled : List BlockAt → List BlockAt
-filled xs = filter (λ x. nat_lt 0 x.id) xs
 
 -- blocks of which no two have one place, none with number 0, and entities in order of id
 pub record IsContents (blocks : List BlockAt) (entities : List Entity) : Type 0 where

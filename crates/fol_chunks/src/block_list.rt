@@ -1,23 +1,20 @@
 //! A list of blocks in order of place.
 
-ghost use Rattle.std.specs.Prelude.{◌≡◌, ◌+◌, ◌<◌, ◌≤◌, ◌++◌, not, length, vec_len, count_by, slice_index_or, slice_set, MatchResult, OnOk, nat_eq, nat_lt, ◌&&◌, if◌then◌else◌, IsTrue, ◌||◌};
+ghost use Rattle.std.specs.Prelude.{◌≡◌, ℕ, ◌+◌, ◌<◌, ◌≤◌, true, false, length, vec_len, sum_by, count_by, slice_index_or, MatchResult, IsTrue, OnOk, OnErr};
 ghost use Rattle.std.specs.Vec.{vec_capacity};
-ghost use Rattle.std.specs.List.{find, insert};
-ghost use Rattle.std.specs.Option.{option_map};
 ghost use Rattle.std.specs.List.Sorted.{IsStrictlySortedBy, IsPartitionPoint};
 ghost use Rattle.std.specs.declared.cmp.Ordering.TheVariants.{Less, Greater};
-ghost use Rattle.fol_model.specs.Geometry.{chunk_of as chunk_around, same_block};
 ghost use Rattle.fol_model.specs.Universe.{block_cmp};
 ghost use Rattle.fol_model.specs.World.{block_in};
-ghost use Rattle.fol_keyed.specs.Members.{is_listed};
-ghost use Rattle.fol_chunks.specs.Rows.{by_place, filled, IsBlocks};
+ghost use Rattle.fol_chunks.specs.Rows.{by_place};
+ghost use Rattle.fol_chunks.specs.Weights.{OneMore, Puts, Clears, stands_at};
 
-use fol_keyed::{ChunkList, compare_blocks};
-use fol_model::{BlockAt, BlockPos, chunk_of};
+use fol_keyed::compare_blocks;
+use fol_model::{BlockAt, BlockPos};
 use std::alloc::AllocError;
 
 /// Where the block stands in the list, or where it would stand.
-pub fn place_of(blocks: &[BlockAt], at: BlockPos) -> Result<usize, usize>
+fn place_of(blocks: &[BlockAt], at: BlockPos) -> Result<usize, usize>
     requires { IsStrictlySortedBy by_place blocks.now }
     ensures { MatchResult result (λ i. (i < length blocks.now)
         × ((d : BlockAt) → (slice_index_or blocks.now i d).at ≡ at)) (λ i. (i ≤ length blocks.now)
@@ -27,104 +24,127 @@ pub fn place_of(blocks: &[BlockAt], at: BlockPos) -> Result<usize, usize>
     blocks.binary_search_by(|block| compare_blocks(block.at, at))
 }
 
-/// The number of the block that stands at a place, where one does.
-pub fn number_in(blocks: &[BlockAt], at: BlockPos) -> Option<u16>
+/// The number of a block, and 0 where it has none.
+pub fn number_at(blocks: &[BlockAt], at: BlockPos) -> u16
     requires { IsStrictlySortedBy by_place blocks.now }
-    ensures { result ≡ option_map (λ x. x.id) (find (λ x. same_block x.at at) blocks.now) }
+    ensures { result ≡ block_in blocks.now at }
 {
     match place_of(blocks, at) {
-        Ok(i) => Some(blocks[i].id),
-        Err(_) => None,
+        Ok(i) => blocks[i].id,
+        Err(_) => 0,
     }
 }
 
-/// The number of a block of the list.
-pub fn number_of(blocks: &[BlockAt], i: usize) -> u16
-    requires { i < length blocks.now }
-    ensures { (d : BlockAt) → result ≡ (slice_index_or blocks.now i d).id }
-{
-    blocks[i].id
-}
-
-/// Puts a block in the place of one.
-pub fn replace(blocks: &mut Vec<BlockAt>, i: usize, block: BlockAt)
-    requires { i < vec_len blocks.old }
-    ensures items { blocks.new.items ≡ slice_set blocks.old.items i block }
+/// Gives a block that is there its number, and says whether it is.
+pub fn replace(blocks: &mut Vec<BlockAt>, block: BlockAt) -> bool
+    requires { IsStrictlySortedBy by_place blocks.old.items }
+    ensures order { IsStrictlySortedBy by_place blocks.new.items }
+    ensures put { result ≡ true → Puts blocks.old.items blocks.new.items block }
+    ensures absent { result ≡ false → count_by (stands_at block.at) blocks.old.items ≡ 0 }
+    ensures same { result ≡ false → blocks.new.items ≡ blocks.old.items }
+    ensures len { vec_len blocks.new ≡ vec_len blocks.old }
     ensures capacity { vec_capacity blocks.new ≡ vec_capacity blocks.old }
 {
-    blocks[i] = block;
+    match place_of(blocks, block.at) {
+        Ok(i) => {
+            blocks[i] = block;
+            true
+        }
+        Err(_) => false,
+    }
 }
 
-/// Puts a block between others.
-pub fn insert(blocks: &mut Vec<BlockAt>, i: usize, block: BlockAt)
+/// Gives a block its number where it is there or there is room for it, and says whether it did. Takes no memory.
+pub fn put(blocks: &mut Vec<BlockAt>, block: BlockAt) -> bool
+    requires { IsStrictlySortedBy by_place blocks.old.items }
+    ensures order { IsStrictlySortedBy by_place blocks.new.items }
+    ensures put { result ≡ true → Puts blocks.old.items blocks.new.items block }
+    ensures absent { result ≡ false → count_by (stands_at block.at) blocks.old.items ≡ 0 }
+    ensures same { result ≡ false → blocks.new.items ≡ blocks.old.items }
+    ensures room { vec_len blocks.old < vec_capacity blocks.old → result ≡ true }
+    ensures len { vec_len blocks.new ≤ vec_len blocks.old + 1 }
+    ensures capacity { vec_capacity blocks.new ≡ vec_capacity blocks.old }
+{
+    match place_of(blocks, block.at) {
+        Ok(i) => {
+            blocks[i] = block;
+            true
+        }
+        Err(i) => insert_within(blocks, i, block),
+    }
+}
+
+/// Gives a block its number where it is there or memory is found for it, and says whether it did.
+pub fn put_or_grow(blocks: &mut Vec<BlockAt>, block: BlockAt) -> bool
+    requires { IsStrictlySortedBy by_place blocks.old.items }
+    ensures order { IsStrictlySortedBy by_place blocks.new.items }
+    ensures put { result ≡ true → Puts blocks.old.items blocks.new.items block }
+    ensures absent { result ≡ false → count_by (stands_at block.at) blocks.old.items ≡ 0 }
+    ensures same { result ≡ false → blocks.new.items ≡ blocks.old.items }
+{
+    match place_of(blocks, block.at) {
+        Ok(i) => {
+            blocks[i] = block;
+            true
+        }
+        Err(i) => match blocks.insert(i, block) {
+            Ok(()) => true,
+            Err(_) => false,
+        },
+    }
+}
+
+/// Puts a block between others where there is room for it, and says whether there is. Takes no memory.
+fn insert_within(blocks: &mut Vec<BlockAt>, i: usize, block: BlockAt) -> bool
+    requires order { IsStrictlySortedBy by_place blocks.old.items }
     requires place { i ≤ vec_len blocks.old }
-    requires room { vec_len blocks.old < vec_capacity blocks.old }
-    ensures items { blocks.new.items ≡ insert blocks.old.items i block }
+    requires absent { IsPartitionPoint (λ x. block_cmp x.at block.at ≡ Less) (λ x.
+        block_cmp x.at block.at ≡ Greater) blocks.old.items i }
+    ensures order { IsStrictlySortedBy by_place blocks.new.items }
+    ensures put { result ≡ true → OneMore blocks.old.items blocks.new.items block }
+    ensures same { result ≡ false → blocks.new.items ≡ blocks.old.items }
+    ensures room { vec_len blocks.old < vec_capacity blocks.old → result ≡ true }
+    ensures len { vec_len blocks.new ≤ vec_len blocks.old + 1 }
     ensures capacity { vec_capacity blocks.new ≡ vec_capacity blocks.old }
 {
+    if blocks.len() == blocks.capacity() {
+        return false;
+    }
     match blocks.insert(i, block) {
-        Ok(()) => {}
+        Ok(()) => true,
         Err(_) => unreachable!(),
     }
 }
 
-/// Lets go of the blocks with number 0.
-pub fn keep_filled(blocks: &mut Vec<BlockAt>)
-    ensures items { blocks.new.items ≡ filled blocks.old.items }
+/// Adds a block that is not there. The blocks stay where this fails.
+pub fn add(blocks: &mut Vec<BlockAt>, block: BlockAt) -> Result<(), AllocError>
+    requires order { IsStrictlySortedBy by_place blocks.old.items }
+    requires absent { count_by (stands_at block.at) blocks.old.items ≡ 0 }
+    ensures order { IsStrictlySortedBy by_place blocks.new.items }
+    ensures ok { OnOk result (OneMore blocks.old.items blocks.new.items block) }
+    ensures err { OnErr result (blocks.new.items ≡ blocks.old.items) }
+{
+    match place_of(blocks, block.at) {
+        Ok(_) => unreachable!(),
+        Err(i) => match blocks.insert(i, block) {
+            Ok(()) => Ok(()),
+            Err(_) => Err(AllocError),
+        },
+    }
+}
+
+/// Takes a block out, where it is there.
+pub fn clear(blocks: &mut Vec<BlockAt>, at: BlockPos)
+    requires { IsStrictlySortedBy by_place blocks.old.items }
+    ensures order { IsStrictlySortedBy by_place blocks.new.items }
+    ensures cleared { Clears blocks.old.items blocks.new.items at }
+    ensures len { vec_len blocks.new ≤ vec_len blocks.old }
     ensures capacity { vec_capacity blocks.new ≡ vec_capacity blocks.old }
 {
-    blocks.retain(|block| block.id > 0);
-}
-
-/// How many of the blocks with a number lie in the chunks of the list.
-pub fn count_listed(blocks: &[BlockAt], list: &ChunkList) -> usize
-    ensures { result ≡ count_by (λ (b : BlockAt).
-        nat_lt 0 b.id && is_listed list.now.chunks.now (chunk_around b.at)) blocks.now }
-{
-    blocks
-        .iter()
-        .filter(|block| block.id > 0 && list.has(chunk_of(block.at)))
-        .count()
-}
-
-/// Adds the blocks with a number to a list.
-pub fn add_filled(blocks: &[BlockAt], list: &mut Vec<BlockAt>) -> Result<(), AllocError>
-    ensures { OnOk result (list.new.items ≡ list.old.items ++ filled blocks.now) }
-{
-    for block in blocks {
-        if block.id > 0 {
-            list.push(*block)?;
+    match place_of(blocks, at) {
+        Ok(i) => {
+            let _ = blocks.remove(i);
         }
+        Err(_) => {}
     }
-    Ok(())
-}
-
-/// Moves the blocks that lie in the chunks of the list into another list.
-pub fn move_listed(blocks: &mut Vec<BlockAt>, list: &ChunkList, into: &mut Vec<BlockAt>)
-    requires kept { IsBlocks blocks.old.items }
-    requires into_kept { IsBlocks into.old.items }
-    requires apart { (b : BlockPos)
-        → IsTrue (nat_eq (block_in into.old.items b) 0
-        || nat_eq (if is_listed list.now.chunks.now (chunk_around b)
-        then block_in blocks.old.items b else 0) 0) }
-    requires room { vec_len into.old + count_by (λ (b : BlockAt).
-        is_listed list.now.chunks.now (chunk_around b.at)) blocks.old.items
-        ≤ vec_capacity into.old }
-    ensures left { block_in blocks.new.items ≡ λ b.
-        if not (is_listed list.now.chunks.now (chunk_around b)) then block_in blocks.old.items b
-        else 0 }
-    ensures moved { block_in into.new.items ≡ λ b. if nat_eq (block_in into.old.items b) 0
-        then (if is_listed list.now.chunks.now (chunk_around b) then block_in blocks.old.items b
-        else 0) else block_in into.old.items b }
-    ensures kept { IsBlocks blocks.new.items }
-    ensures into_kept { IsBlocks into.new.items }
-    ensures len { vec_len blocks.new + count_by (λ (b : BlockAt).
-        is_listed list.now.chunks.now (chunk_around b.at)) blocks.old.items ≡ vec_len blocks.old }
-    ensures into_len { vec_len into.new ≡ vec_len into.old
-        + count_by (λ (b : BlockAt). is_listed list.now.chunks.now (chunk_around b.at))
-        blocks.old.items }
-    ensures capacity { vec_capacity blocks.old ≤ vec_capacity blocks.new }
-    ensures into_capacity { vec_capacity into.old ≤ vec_capacity into.new }
-{
-    fol_keyed::move_listed(blocks, list, into);
 }

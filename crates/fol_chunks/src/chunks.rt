@@ -1,6 +1,6 @@
 //! The blocks and entities of a region.
 
-ghost use Rattle.std.specs.Prelude.{◌≡◌, ◌+◌, ◌≤◌, ◌<◌, ℕ, ◌++◌, ◌↔◌, IsTrue, IsNone, OnOk, All};
+ghost use Rattle.std.specs.Prelude.{◌≡◌, ◌+◌, ◌<◌, ◌≤◌, ℕ, ◌++◌, ◌↔◌, IsTrue, IsNone, OnOk, All};
 ghost use Rattle.std.specs.Option.{option_map, option_len};
 ghost use Rattle.std.specs.List.{IsDistinct};
 ghost use Rattle.std.specs.List.Sorted.{IsStrictlySortedBy};
@@ -11,32 +11,26 @@ ghost use Rattle.fol_model.specs.World.{standing_in};
 ghost use Rattle.fol_keyed.specs.Order.{chunk_cmp};
 ghost use Rattle.fol_chunks.specs.Rows.{by_id};
 
-use crate::blocks::Blocks;
-use crate::{entities, steps};
-use fol_keyed::{ChunkList, count_listed};
+use crate::held::Held;
 use fol_model::{BlockAt, BlockPos, ChunkPos, Entity};
 use std::alloc::{AllocError, Global};
 use std::marker::Model;
 
-/// Blocks and entities. Contracts see them as a map of blocks and the entities that stand, and how many more it can take.
+/// Blocks and entities. Contracts see them as a map of blocks and the entities that stand, and how many more it can take. What it holds
+/// lies behind a pointer, so that a region's data are moved at little cost; with nothing in it, and no room, it has no memory.
 #[derive(Drop)]
 pub struct Chunks {
-    blocks: Blocks,
-    entities: Vec<Entity>,
+    alloc: Global,
+    held: Option<Box<Held>>,
 }
 
 impl Model for Chunks {
-    ghost use Rattle.std.specs.Prelude.{◌-◌, min, vec_len};
-    ghost use Rattle.std.specs.Vec.{vec_capacity};
     ghost use Rattle.fol_chunks.specs.Contents.{Contents};
-    ghost use Rattle.fol_chunks.specs.Kept.{blocks_of, room_of};
-    ghost use Rattle.fol_chunks.specs.Held.{IsHeld};
+    ghost use Rattle.fol_chunks.specs.Boxed.{contents_in};
 
     ghost Value = { Contents };
 
-    ghost view = { λ c. record { blocks = blocks_of c.blocks; entities = c.entities.items; spare = min (room_of c.blocks) (vec_capacity c.entities - vec_len c.entities) } };
-
-    ghost invariant = { λ c. IsHeld c.blocks c.entities.items };
+    ghost view = { λ c. contents_in c.held };
 }
 
 impl Chunks {
@@ -47,10 +41,7 @@ impl Chunks {
         ensures nothing { flat_of result ≡ nothing }
         ensures empty { size_of result ≡ 0 }
     {
-        Chunks {
-            blocks: Blocks::new(alloc),
-            entities: Vec::new(alloc),
-        }
+        Chunks { alloc, held: None }
     }
 
     /// Whether no block has a number and no entity stands.
@@ -58,7 +49,10 @@ impl Chunks {
         ensures size { IsTrue result ↔ (size_of self.now ≡ 0) }
         ensures nothing { IsTrue result → flat_of self.now ≡ nothing }
     {
-        self.blocks.is_empty() && self.entities.is_empty()
+        match &self.held {
+            Some(held) => held.is_empty(),
+            None => true,
+        }
     }
 
     /// Makes `spare` at least `n`. The contents stay either way.
@@ -68,15 +62,23 @@ impl Chunks {
         ensures ok { OnOk result (n ≤ self.new.spare) }
         ensures spare { self.old.spare ≤ self.new.spare }
     {
-        self.blocks.reserve(n as usize)?;
-        self.entities.reserve(n as usize)
+        if self.held.is_none() && n > 0 {
+            self.held = Some(Box::new(self.alloc, Held::new(self.alloc))?);
+        }
+        match &mut self.held {
+            Some(held) => held.reserve(n),
+            None => Ok(()),
+        }
     }
 
     /// The number of a block, and 0 where it has none.
     pub fn get(&self, at: BlockPos) -> u16
         ensures { result ≡ (flat_of self.now).blocks at }
     {
-        self.blocks.number_at(at)
+        match &self.held {
+            Some(held) => held.get(at),
+            None => 0,
+        }
     }
 
     /// Adds all blocks with a number above 0 to a list, in no stated order. Fails only when out of memory.
@@ -85,7 +87,10 @@ impl Chunks {
         ensures differ { IsDistinct (λ a b. same_block a.at b.at) self.now.blocks }
         ensures none_empty { All (λ x. 0 < x.id) self.now.blocks }
     {
-        self.blocks.add_to(list)
+        match &self.held {
+            Some(held) => held.add_blocks_to(list),
+            None => Ok(()),
+        }
     }
 
     /// The entities, by id.
@@ -94,7 +99,10 @@ impl Chunks {
         ensures standing { standing_in result.now ≡ (flat_of self.now).standing }
         ensures order { IsStrictlySortedBy by_id result.now }
     {
-        &self.entities
+        match &self.held {
+            Some(held) => held.entity_list(),
+            None => &[],
+        }
     }
 
     /// Gives a block a number; 0 takes its number away. Takes no memory.
@@ -105,14 +113,20 @@ impl Chunks {
         ensures size { size_of self.new ≤ size_of self.old + 1 }
         ensures spare { self.old.spare ≤ self.new.spare + 1 }
     {
-        self.blocks.set(BlockAt { at, id });
+        match &mut self.held {
+            Some(held) => held.set(at, id),
+            None => unreachable!(),
+        }
     }
 
     /// The block at which the entity stands.
     pub fn find(&self, id: u32) -> Option<BlockPos>
         ensures { result ≡ option_map (λ s. s.at) ((flat_of self.now).standing id) }
     {
-        entities::find(&self.entities, id)
+        match &self.held {
+            Some(held) => held.find(id),
+            None => None,
+        }
     }
 
     /// Takes the entity out, where it is there.
@@ -123,7 +137,10 @@ impl Chunks {
         ensures size { size_of self.new + option_len result ≡ size_of self.old }
         ensures spare { self.old.spare ≤ self.new.spare }
     {
-        entities::take(&mut self.entities, id)
+        match &mut self.held {
+            Some(held) => held.take_entity(id),
+            None => None,
+        }
     }
 
     /// Puts an entity in that is not there. Takes no memory.
@@ -138,7 +155,10 @@ impl Chunks {
         ensures size { size_of self.new ≡ size_of self.old + 1 }
         ensures spare { self.old.spare ≤ self.new.spare + 1 }
     {
-        entities::put(&mut self.entities, e);
+        match &mut self.held {
+            Some(held) => held.put_entity(e),
+            None => unreachable!(),
+        }
     }
 
     /// Moves the entities that stand in recorded chunks by their speeds, where they stay in recorded chunks. Takes no memory.
@@ -149,7 +169,10 @@ impl Chunks {
         ensures size { size_of self.new ≡ size_of self.old }
         ensures spare { self.old.spare ≤ self.new.spare }
     {
-        steps::step_all(&mut self.entities, chunks);
+        match &mut self.held {
+            Some(held) => held.step_entities(chunks),
+            None => {}
+        }
     }
 
     /// How many blocks and entities lie in the chunks, which stand by z, and then by x.
@@ -157,8 +180,10 @@ impl Chunks {
         requires { IsStrictlySortedBy chunk_cmp chunks.now }
         ensures { result ≡ size_within (is_listed chunks.now) self.now }
     {
-        let list = ChunkList::of(chunks);
-        (self.blocks.count_listed(&list) + count_listed(&self.entities, &list)) as u64
+        match &self.held {
+            Some(held) => held.size_listed(chunks),
+            None => 0,
+        }
     }
 
     /// Moves what lies in the chunks, which stand by z, and then by x. Takes no memory.
@@ -178,8 +203,11 @@ impl Chunks {
         ensures into_spare { into.old.spare
             ≤ into.new.spare + size_within (is_listed chunks.now) self.old }
     {
-        let list = ChunkList::of(chunks);
-        self.blocks.move_listed(&list, &mut into.blocks);
-        entities::move_listed(&mut self.entities, &list, &mut into.entities);
+        if let Some(held) = &mut self.held {
+            match &mut into.held {
+                Some(other) => held.move_listed(chunks, other),
+                None => held.move_listed(chunks, &mut Held::new(self.alloc)),
+            }
+        }
     }
 }

@@ -10,8 +10,11 @@
 
 mod block_list;
 mod blocks;
+mod cells;
 mod chunks;
 mod entities;
+mod held;
+mod moves;
 mod steps;
 #[cfg(test)]
 mod tests;

@@ -1,7 +1,8 @@
 //! What only a run can show.
 
-ghost use Rattle.std.specs.Prelude.{◌≡◌, ◌≤◌, None, IfOk};
-ghost use Rattle.fol_chunks.specs.Contents.{flat_of};
+ghost use Rattle.std.specs.Prelude.{◌≡◌, ◌<◌, ◌≤◌, pos, None, IfOk};
+ghost use Rattle.fol_model.specs.ActionStep.{at_block};
+ghost use Rattle.fol_chunks.specs.Contents.{flat_of, size_of};
 
 use crate::Chunks;
 use fol_model::{BlockPos, ChunkPos, Entity};
@@ -10,7 +11,9 @@ use std::test::Fail;
 
 const CHUNKS: [ChunkPos; 2] = [ChunkPos { x: 0, z: 0 }, ChunkPos { x: 1, z: 0 }];
 
-fn block(x: i32, z: i32) -> BlockPos {
+fn block(x: i32, z: i32) -> BlockPos
+    ensures { result ≡ record { x = x; y = pos 64; z = z } }
+{
     BlockPos { x, y: 64, z }
 }
 
@@ -104,13 +107,22 @@ fn count_blocks(alloc: Global, chunks: &Chunks) -> Result<usize, AllocError> {
     Ok(listed.len())
 }
 
-/// Gives 3,000 blocks in a row the number 9, here and there, so that some stand apart, and are settled more than once on the way.
+/// Gives 3,000 blocks of 12 chunks the number 9, here and there, two at a time.
 fn set_many(chunks: &mut Chunks) -> Result<(), AllocError> {
-    for i in 0..3000_u32 {
-        chunks.reserve(1)?;
-        chunks.set(block((i * 37 % 3001) as i32, 0), 9);
+    for i in 0..1500_u32 {
+        chunks.reserve(2)?;
+        chunks.set(scattered(2 * i), 9);
+        chunks.set(scattered(2 * i + 1), 9);
     }
     Ok(())
+}
+
+/// One of 3,001 blocks of 12 chunks.
+fn scattered(i: u32) -> BlockPos
+    requires { i < 3000 }
+{
+    let n = i * 37 % 3001;
+    block((n % 192) as i32, (n / 192) as i32)
 }
 
 /// Many blocks keep their numbers, also where one loses its own and gets another.
@@ -120,7 +132,7 @@ fn many_blocks_are_kept(rt: HostRuntime) -> Result<(), Fail> {
     set_many(&mut chunks)?;
     assert_eq!(rt; count_blocks(rt.alloc(), &chunks)?, 3000);
     assert_eq!(rt; chunks.get(block(5, 0)), 9);
-    assert_eq!(rt; chunks.get(block(2964, 0)), 0);
+    assert_eq!(rt; chunks.get(block(84, 15)), 0);
     chunks.reserve(2)?;
     chunks.set(block(5, 0), 0);
     assert_eq!(rt; chunks.get(block(5, 0)), 0);
@@ -130,13 +142,14 @@ fn many_blocks_are_kept(rt: HostRuntime) -> Result<(), Fail> {
     Ok(())
 }
 
-/// One block, and no entity.
+/// One block that lies with its chunk, and no entity.
 fn with_block(alloc: Global, at: BlockPos, id: u16) -> Result<Chunks, AllocError>
     ensures { IfOk result (λ c. (flat_of c).standing ≡ λ k. None) }
 {
     let mut chunks = Chunks::new(alloc);
     chunks.reserve(1)?;
     chunks.set(at, id);
+    chunks.reserve(1)?;
     Ok(chunks)
 }
 
@@ -160,5 +173,38 @@ fn a_list_moves_with_its_chunks(rt: HostRuntime) -> Result<(), Fail> {
     assert_eq!(rt; count_blocks(rt.alloc(), &chunks)?, 0);
     assert_eq!(rt; into.get(block(20, 0)), 9);
     assert_eq!(rt; into.entity_list().len(), 1);
+    Ok(())
+}
+
+/// Two blocks, of which the first lies with its chunk and the second is fresh if it lies in another chunk.
+fn with_pair(alloc: Global, first: BlockPos, second: BlockPos) -> Result<Chunks, AllocError>
+    ensures blocks { IfOk result (λ c.
+        (flat_of c).blocks ≡ at_block (at_block (λ b. 0) first 9) second 9) }
+    ensures standing { IfOk result (λ c. (flat_of c).standing ≡ λ k. None) }
+    ensures size { IfOk result (λ c. size_of c ≤ 2) }
+    ensures spare { IfOk result (λ c. 2 ≤ c.spare) }
+{
+    let mut chunks = Chunks::new(alloc);
+    chunks.reserve(1)?;
+    chunks.set(first, 9);
+    chunks.reserve(3)?;
+    chunks.set(second, 9);
+    Ok(chunks)
+}
+
+/// Blocks of one chunk that come from two regions are all there, those of the list of the chunk and fresh ones.
+#[test]
+fn blocks_meet_in_their_chunks(rt: HostRuntime) -> Result<(), Fail> {
+    let mut chunks = with_pair(rt.alloc(), block(20, 0), block(5, 0))?;
+    let mut into = with_pair(rt.alloc(), block(22, 0), block(6, 0))?;
+    chunks.move_listed(&CHUNKS, &mut into);
+    assert_eq!(rt; count_blocks(rt.alloc(), &chunks)?, 0);
+    assert_eq!(rt; count_blocks(rt.alloc(), &into)?, 4);
+    into.reserve(1)?;
+    assert_eq!(rt; count_blocks(rt.alloc(), &into)?, 4);
+    assert_eq!(rt; into.get(block(5, 0)), 9);
+    assert_eq!(rt; into.get(block(6, 0)), 9);
+    assert_eq!(rt; into.get(block(20, 0)), 9);
+    assert_eq!(rt; into.get(block(22, 0)), 9);
     Ok(())
 }

@@ -1,67 +1,124 @@
-use Rattle.std.proofs.Common.{◌≡◌, ℕ, ◌+◌, ◌≤◌, sym, ◌∙◌, ap, not, cond, length, arith, vec_len}
-use Rattle.std.specs.Prelude.{if◌then◌else◌}
-use Rattle.std.specs.Vec.{vec_capacity}
+use Rattle.std.proofs.Common.{◌≡◌, ℕ, ◌+◌, ◌-◌, ◌≤◌, ◌++◌, arith, vec_len}
+use Rattle.std.specs.Prelude.{sum_by}
 use Rattle.std.specs.List.{count_by}
-use Rattle.std.proofs.lemmas.List.Sorted.{sum_by-IsPermutation}
+use Rattle.std.proofs.lemmas.List.Sums.{sum_by-append}
 use Rattle.fol_model.specs.declared.openings.BlockAt.{BlockAt}
-use Rattle.fol_model.specs.declared.places.BlockPos.{BlockPos}
-use Rattle.fol_model.specs.Geometry.{chunk_of}
-use Rattle.fol_model.specs.World.{block_in}
-use Rattle.fol_keyed.specs.Members.{is_listed}
+use Rattle.fol_chunks.specs.Cells.{blocks_in}
 use Rattle.fol_chunks.specs.Kept.{blocks_of}
-use Rattle.fol_chunks.proofs.Wholes.{joined_same}
-use Rattle.fol_chunks.proofs.Settled.{all_settled, settled_kept}
+use Rattle.fol_chunks.specs.Weights.{only, lies_in, lies_outside, one_at}
+use Rattle.fol_chunks.specs.declared.blocks.Blocks.{Blocks}
+use Rattle.fol_chunks.proofs.Laid.{laid_more, laid_some}
+use Rattle.fol_chunks.proofs.Weighing.{count_append, count_is, count_split, length_sum, only_less}
 use Rattle.fol_chunks.proofs.blocks.Blocks.move_listed.Goals as goal
 
-pub move_listed-requires-clause-apart : goal.move_listed-requires-clause-apart
-move_listed-requires-clause-apart c =
-    let mine : block_in c.settle.new.self.settled.items ≡ block_in (blocks_of c.args.self.now) = sym (ap block_in c.settle.ensures.all) ∙ c.settle.ensures.numbers in
-    let theirs : block_in c.settle-2.new.self.settled.items ≡ block_in (blocks_of c.args.into.now) = sym (ap block_in c.settle-2.ensures.all) ∙ c.settle-2.ensures.numbers in
-    λ b. rw (ap (λ (f : BlockPos → ℕ). f b) mine, ap (λ (f : BlockPos → ℕ). f b) theirs) (c.requires.apart b)
+pub move_fresh-requires-clause-apart : goal.move_fresh-requires-clause-apart
+move_fresh-requires-clause-apart c = λ at.
+    omega (
+      arith,
+      c.requires.apart at,
+      sum_by-append (one_at at) (blocks_in c.args.into.now.cells.entries) c.args.into.now.fresh.items,
+      sum_by-append (only (lies_in c.args.chunks.now) (one_at at)) (blocks_in c.args.self.now.cells.entries) c.args.self.now.fresh.items,
+    )
 
-pub move_listed-requires-clause-room : goal.move_listed-requires-clause-room
-move_listed-requires-clause-room c =
-    let moving : count_by (λ (b : BlockAt). is_listed c.args.list.now.chunks.now (chunk_of b.at)) c.settle.new.self.settled.items ≡ count_by (λ (b : BlockAt). is_listed c.args.list.now.chunks.now (chunk_of b.at)) (blocks_of c.args.self.now) =
-    sum_by-IsPermutation (λ (b : BlockAt). cond (is_listed c.args.list.now.chunks.now (chunk_of b.at)) 1 0) (blocks_of c.args.self.now) c.settle.new.self.settled.items c.settle.ensures.same in
-    let fits : vec_len c.settle-2.new.self.settled + count_by (λ (b : BlockAt). is_listed c.args.list.now.chunks.now (chunk_of b.at)) c.settle.new.self.settled.items ≤ vec_capacity c.settle-2.new.self.settled = omega (arith, moving, c.requires.room, c.settle-2.new.self.settled.ok.1, ap length c.settle.ensures.all, ap length c.settle-2.ensures.all, c.settle.ensures.len, c.settle-2.ensures.len, c.settle.ensures.room, c.settle-2.ensures.room, c.settle.new.self.settled.ok.0, c.settle-2.new.self.settled.ok.0, ap length c.settle.ensures.fresh, ap length c.settle-2.ensures.fresh, c.settle-2.new.self.fresh.ok.0, c.settle.new.self.fresh.ok.0) in
-    fits
+pub move_cells-requires-clause-apart : goal.move_cells-requires-clause-apart
+move_cells-requires-clause-apart c = λ at.
+    omega (
+      arith,
+      c.requires.apart at,
+      c.move_fresh.ensures.moved (one_at at),
+      sum_by-append (one_at at) (blocks_in c.args.into.now.cells.entries) c.args.into.now.fresh.items,
+      sum_by-append (only (lies_in c.args.chunks.now) (one_at at)) (blocks_in c.args.self.now.cells.entries) c.args.self.now.fresh.items,
+    )
 
-pub returns-clause-kept : goal.returns-clause-kept
-returns-clause-kept c = settled_kept (record { settled = c.move_listed.new.blocks; fresh = c.settle.new.self.fresh; empty = c.settle.new.self.empty }) c.move_listed.ensures.kept c.settle.ensures.fresh c.settle.ensures.empty c.move_listed.new.blocks.ok.1
+pub move_cells-requires-clause-room : goal.move_cells-requires-clause-room
+move_cells-requires-clause-room c =
+    omega (
+      arith,
+      c.requires.room,
+      c.move_fresh.ensures.moved (λ x. 1),
+      c.move_fresh.ensures.into_capacity,
+      length_sum c.move_fresh.new.into.items,
+      length_sum c.args.into.now.fresh.items,
+      count_is (lies_in c.args.chunks.now) c.args.self.now.fresh.items,
+      count_append (lies_in c.args.chunks.now) (blocks_in c.args.self.now.cells.entries) c.args.self.now.fresh.items,
+      c.args.into.now.fresh.ok,
+      c.move_fresh.new.into.ok,
+    )
 
-pub returns-clause-into_kept : goal.returns-clause-into_kept
-returns-clause-into_kept c = settled_kept (record { settled = c.move_listed.new.into; fresh = c.settle-2.new.self.fresh; empty = c.settle-2.new.self.empty }) c.move_listed.ensures.into_kept c.settle-2.ensures.fresh c.settle-2.ensures.empty c.move_listed.new.into.ok.1
+left : (c : goal.After-into-1) (f : BlockAt → ℕ) → sum_by f (blocks_in c.move_cells.new.cells.entries ++ c.move_fresh.new.fresh.items) ≡ sum_by (only (lies_outside c.args.chunks.now) f) (blocks_of c.args.self.now)
+left c f =
+    omega (
+      arith,
+      c.move_fresh.ensures.left f,
+      c.move_cells.ensures.left f,
+      sum_by-append f (blocks_in c.move_cells.new.cells.entries) c.move_fresh.new.fresh.items,
+      sum_by-append (only (lies_outside c.args.chunks.now) f) (blocks_in c.args.self.now.cells.entries) c.args.self.now.fresh.items,
+    )
+
+moved : (c : goal.After-into-1) (f : BlockAt → ℕ) → sum_by f (blocks_in c.move_cells.new.into.entries ++ c.move_cells.new.fresh.items) ≡ sum_by f (blocks_of c.args.into.now) + sum_by (only (lies_in c.args.chunks.now) f) (blocks_of c.args.self.now)
+moved c f =
+    omega (
+      arith,
+      c.move_fresh.ensures.moved f,
+      c.move_cells.ensures.moved f,
+      sum_by-append f (blocks_in c.move_cells.new.into.entries) c.move_cells.new.fresh.items,
+      sum_by-append f (blocks_in c.args.into.now.cells.entries) c.args.into.now.fresh.items,
+      sum_by-append (only (lies_in c.args.chunks.now) f) (blocks_in c.args.self.now.cells.entries) c.args.self.now.fresh.items,
+    )
+
+count : (c : goal.After-into-1) → c.move_fresh.result + c.move_cells.result ≡ count_by (lies_in c.args.chunks.now) (blocks_of c.args.self.now)
+count c = omega (arith, c.move_fresh.ensures.count, c.move_cells.ensures.count, count_append (lies_in c.args.chunks.now) (blocks_in c.args.self.now.cells.entries) c.args.self.now.fresh.items)
 
 pub returns-clause-left : goal.returns-clause-left
-returns-clause-left c =
-    let mine : block_in c.settle.new.self.settled.items ≡ block_in (blocks_of c.args.self.now) = sym (ap block_in c.settle.ensures.all) ∙ c.settle.ensures.numbers in
-    ap block_in (all_settled (record { settled = c.move_listed.new.blocks; fresh = c.settle.new.self.fresh; empty = c.settle.new.self.empty }) c.move_listed.ensures.kept c.settle.ensures.fresh)
-    ∙ c.move_listed.ensures.left
-    ∙ ap (λ (f : BlockPos → ℕ). λ (b : BlockPos). if not (is_listed c.args.list.now.chunks.now (chunk_of b)) then f b else 0) mine
+returns-clause-left c = left c
 
 pub returns-clause-moved : goal.returns-clause-moved
-returns-clause-moved c =
-    let mine : block_in c.settle.new.self.settled.items ≡ block_in (blocks_of c.args.self.now) = sym (ap block_in c.settle.ensures.all) ∙ c.settle.ensures.numbers in
-    let theirs : block_in c.settle-2.new.self.settled.items ≡ block_in (blocks_of c.args.into.now) = sym (ap block_in c.settle-2.ensures.all) ∙ c.settle-2.ensures.numbers in
-    ap block_in (all_settled (record { settled = c.move_listed.new.into; fresh = c.settle-2.new.self.fresh; empty = c.settle-2.new.self.empty }) c.move_listed.ensures.into_kept c.settle-2.ensures.fresh)
-    ∙ c.move_listed.ensures.moved
-    ∙ joined_same (block_in c.settle-2.new.self.settled.items) (block_in (blocks_of c.args.into.now)) (λ b. if is_listed c.args.list.now.chunks.now (chunk_of b) then block_in c.settle.new.self.settled.items b else 0)
-    (λ b. if is_listed c.args.list.now.chunks.now (chunk_of b) then block_in (blocks_of c.args.self.now) b else 0) theirs (ap (λ (f : BlockPos → ℕ). λ (b : BlockPos). if is_listed c.args.list.now.chunks.now (chunk_of b) then f b else 0) mine)
+returns-clause-moved c = moved c
 
-pub returns-clause-len : goal.returns-clause-len
-returns-clause-len c =
-    let moving : count_by (λ (b : BlockAt). is_listed c.args.list.now.chunks.now (chunk_of b.at)) c.settle.new.self.settled.items ≡ count_by (λ (b : BlockAt). is_listed c.args.list.now.chunks.now (chunk_of b.at)) (blocks_of c.args.self.now) =
-    sum_by-IsPermutation (λ (b : BlockAt). cond (is_listed c.args.list.now.chunks.now (chunk_of b.at)) 1 0) (blocks_of c.args.self.now) c.settle.new.self.settled.items c.settle.ensures.same in
-    omega (arith, moving, ap length (all_settled (record { settled = c.move_listed.new.blocks; fresh = c.settle.new.self.fresh; empty = c.settle.new.self.empty }) c.move_listed.ensures.kept c.settle.ensures.fresh), c.move_listed.ensures.len, c.move_listed.new.blocks.ok.0, ap length c.settle.ensures.all, ap length c.settle-2.ensures.all, c.settle.ensures.len, c.settle-2.ensures.len, c.settle.ensures.room, c.settle-2.ensures.room, c.settle.new.self.settled.ok.0, c.settle-2.new.self.settled.ok.0, ap length c.settle.ensures.fresh, ap length c.settle-2.ensures.fresh, c.settle-2.new.self.fresh.ok.0, c.settle.new.self.fresh.ok.0)
+pub returns-clause-kept : goal.returns-clause-kept
+returns-clause-kept c =
+    let after : Blocks = record { cells = c.move_cells.new.cells; fresh = c.move_fresh.new.fresh; len = c.args.self.now.len - (c.move_fresh.result + c.move_cells.result) } in
+    record {
+      laid = laid_some c.args.self.now after (lies_outside c.args.chunks.now) c.requires.kept.laid c.move_cells.ensures.cells c.move_fresh.ensures.order (left c);
+      len = omega (arith, left c (λ x. 1), length_sum (blocks_of after), count c, count_split (lies_in c.args.chunks.now) (blocks_of c.args.self.now), c.requires.kept.len);
+      few = omega (arith, c.requires.kept.few);
+    }
 
-pub returns-clause-into_len : goal.returns-clause-into_len
-returns-clause-into_len c =
-    let moving : count_by (λ (b : BlockAt). is_listed c.args.list.now.chunks.now (chunk_of b.at)) c.settle.new.self.settled.items ≡ count_by (λ (b : BlockAt). is_listed c.args.list.now.chunks.now (chunk_of b.at)) (blocks_of c.args.self.now) =
-    sum_by-IsPermutation (λ (b : BlockAt). cond (is_listed c.args.list.now.chunks.now (chunk_of b.at)) 1 0) (blocks_of c.args.self.now) c.settle.new.self.settled.items c.settle.ensures.same in
-    omega (arith, moving, ap length (all_settled (record { settled = c.move_listed.new.into; fresh = c.settle-2.new.self.fresh; empty = c.settle-2.new.self.empty }) c.move_listed.ensures.into_kept c.settle-2.ensures.fresh), c.move_listed.ensures.into_len, c.move_listed.new.into.ok.0, ap length c.settle.ensures.all, ap length c.settle-2.ensures.all, c.settle.ensures.len, c.settle-2.ensures.len, c.settle.ensures.room, c.settle-2.ensures.room, c.settle.new.self.settled.ok.0, c.settle-2.new.self.settled.ok.0, ap length c.settle.ensures.fresh, ap length c.settle-2.ensures.fresh, c.settle-2.new.self.fresh.ok.0, c.settle.new.self.fresh.ok.0)
+pub returns-clause-into_kept : goal.returns-clause-into_kept
+returns-clause-into_kept c =
+    let after : Blocks = record { cells = c.move_cells.new.into; fresh = c.move_cells.new.fresh; len = c.args.into.now.len + (c.move_fresh.result + c.move_cells.result) } in
+    record {
+      laid = laid_more c.args.into.now c.args.self.now after (lies_in c.args.chunks.now) c.requires.into_kept.laid c.requires.kept.laid c.move_cells.ensures.into_cells c.move_cells.ensures.order c.requires.apart (moved c);
+      len = omega (arith, moved c (λ x. 1), length_sum (blocks_of after), length_sum (blocks_of c.args.into.now), count c, count_is (lies_in c.args.chunks.now) (blocks_of c.args.self.now), c.requires.into_kept.len);
+      few = omega (arith, c.requires.into_kept.few, c.requires.room, count c);
+    }
+
+pub returns-clause-room : goal.returns-clause-room
+returns-clause-room c =
+    let shorter : vec_len c.move_fresh.new.fresh ≤ vec_len c.args.self.now.fresh =
+    omega (
+      arith,
+      c.move_fresh.ensures.left (λ x. 1),
+      only_less (lies_outside c.args.chunks.now) (λ x. 1) c.args.self.now.fresh.items,
+      length_sum c.move_fresh.new.fresh.items,
+      length_sum c.args.self.now.fresh.items,
+      c.args.self.now.fresh.ok,
+      c.move_fresh.new.fresh.ok,
+    ) in
+    omega (arith, shorter, c.move_fresh.ensures.capacity)
 
 pub returns-clause-into_room : goal.returns-clause-into_room
 returns-clause-into_room c =
-    let moving : count_by (λ (b : BlockAt). is_listed c.args.list.now.chunks.now (chunk_of b.at)) c.settle.new.self.settled.items ≡ count_by (λ (b : BlockAt). is_listed c.args.list.now.chunks.now (chunk_of b.at)) (blocks_of c.args.self.now) =
-    sum_by-IsPermutation (λ (b : BlockAt). cond (is_listed c.args.list.now.chunks.now (chunk_of b.at)) 1 0) (blocks_of c.args.self.now) c.settle.new.self.settled.items c.settle.ensures.same in
-    omega (arith, moving, c.move_listed.ensures.into_len, c.move_listed.ensures.into_capacity, ap length c.settle.ensures.all, ap length c.settle-2.ensures.all, c.settle.ensures.len, c.settle-2.ensures.len, c.settle.ensures.room, c.settle-2.ensures.room, c.settle.new.self.settled.ok.0, c.settle-2.new.self.settled.ok.0, ap length c.settle.ensures.fresh, ap length c.settle-2.ensures.fresh, c.settle-2.new.self.fresh.ok.0, c.settle.new.self.fresh.ok.0)
+    let longer : vec_len c.move_cells.new.fresh ≤ vec_len c.args.into.now.fresh + (c.move_fresh.result + c.move_cells.result) =
+    omega (
+      arith,
+      c.move_fresh.ensures.moved (λ x. 1),
+      c.move_cells.ensures.len,
+      c.move_fresh.ensures.count,
+      length_sum c.move_fresh.new.into.items,
+      length_sum c.args.into.now.fresh.items,
+      count_is (lies_in c.args.chunks.now) c.args.self.now.fresh.items,
+      c.args.into.now.fresh.ok,
+      c.move_fresh.new.into.ok,
+    ) in
+    omega (arith, longer, count c, c.move_fresh.ensures.into_capacity, c.move_cells.ensures.capacity)

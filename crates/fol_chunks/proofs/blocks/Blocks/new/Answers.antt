@@ -1,6 +1,17 @@
 use Rattle.std.proofs.Common.{refl, arith}
-use Rattle.fol_chunks.proofs.Settled.{no_blocks, settled_kept}
+use Rattle.std.specs.List.Sorted.{IsStrictlySortedBy}
+use Rattle.fol_chunks.proofs.CellSums.{no_cells}
 use Rattle.fol_chunks.proofs.blocks.Blocks.new.Goals as goal
 
 pub returns-clause-kept : goal.returns-clause-kept
-returns-clause-kept c = settled_kept (record { settled = c.new.result; fresh = c.new-2.result; empty = 0 }) (rw c.new.ensures.items no_blocks) c.new-2.ensures.items refl (omega arith)
+unfolding IsStrictlySortedBy
+returns-clause-kept c = record {
+  laid = record {
+    cells = rw c.new.ensures.empty no_cells;
+    fresh_order = rw c.new-2.ensures.items tt;
+    once = λ at. rw (c.new.ensures.empty, c.new-2.ensures.items) (omega arith);
+    full = rw (c.new.ensures.empty, c.new-2.ensures.items) refl;
+  };
+  len = rw (c.new.ensures.empty, c.new-2.ensures.items) refl;
+  few = omega arith;
+}

@@ -1,9 +1,6 @@
-use Rattle.fol_chunks.specs.Kept.{rows_of}
-use Rattle.fol_chunks.proofs.Wholes.{filled_once, filled_full}
+use Rattle.std.specs.List.{IsDistinct}
 use Rattle.fol_chunks.proofs.chunks.Chunks.add_blocks_to.Goals as goal
 
-pub returns-clause-differ : goal.returns-clause-differ
-returns-clause-differ c = rw (← c.self.view_is) (filled_once (rows_of c.self.inside.blocks) c.self.invariant.blocks.differ)
-
-pub returns-clause-none_empty : goal.returns-clause-none_empty
-returns-clause-none_empty c = rw (← c.self.view_is) (filled_full (rows_of c.self.inside.blocks))
+pub returns-in-None-clause-differ : goal.returns-in-None-clause-differ
+unfolding IsDistinct
+returns-in-None-clause-differ c = rw (← c.self.view_is, c.in-None.is) tt

@@ -1,0 +1,11 @@
+use Rattle.std.proofs.Common.{arith}
+use Rattle.fol_chunks.proofs.CellSteps.{cells_less, taken}
+use Rattle.fol_chunks.proofs.cells.clear.Goals as goal
+
+pub returns-then-take_out-clause-cells : goal.returns-then-take_out-clause-cells
+returns-then-take_out-clause-cells c = cells_less c.take_out.new.cells.entries _ c.args.key c.take_out.ensures.cells c.remove.ensures.unique c.remove.ensures.updates.0
+
+pub returns-then-take_out-clause-cleared : goal.returns-then-take_out-clause-cleared
+returns-then-take_out-clause-cleared c = λ f.
+    let less = rw (c.take_out.ensures.empty c.if-take_out.true) at (taken c.take_out.new.cells.entries _ c.args.key c.remove.ensures.entries f) in
+    omega (arith, less, c.take_out.ensures.cleared f)

@@ -1,0 +1,14 @@
+use Rattle.std.proofs.Common.{sym, ◌∙◌, ap}
+use Rattle.std.specs.Prelude.{sum_by}
+use Rattle.fol_chunks.specs.Cells.{blocks_in}
+use Rattle.fol_chunks.specs.Weights.{one_at}
+use Rattle.fol_chunks.proofs.CellSums.{items_none, place_count}
+use Rattle.fol_chunks.proofs.Weighing.{puts_more}
+use Rattle.fol_chunks.proofs.cells.put_first.Goals as goal
+
+pub returns-in-Ok-clause-put : goal.returns-in-Ok-clause-put
+returns-in-Ok-clause-put c = λ t.
+    puts_more (blocks_in c.args.cells.now.entries) (blocks_in c.open.new.cells.entries) c.args.block
+    (place_count c.args.cells.now.entries c.requires.cells c.args.key c.args.block.at c.requires.key
+    ∙ ap (sum_by (one_at c.args.block.at)) (items_none c.args.cells.now.entries c.args.key c.requires.none))
+    c.in-Ok.ensures.ok

@@ -1,0 +1,30 @@
+use Rattle.std.proofs.Common.{◌≡◌, sym, ◌∙◌, ap, Some}
+use Rattle.std.specs.Prelude.{is_some, sum_by}
+use Rattle.fol_chunks.specs.Cells.{blocks_in, cell_at}
+use Rattle.fol_chunks.specs.Weights.{one_at}
+use Rattle.fol_chunks.proofs.CellSums.{cell_clear, items_none, place_count}
+use Rattle.fol_chunks.proofs.CellSteps.{cells_written, clears_written}
+use Rattle.fol_chunks.proofs.Weighing.{clears_absent}
+use Rattle.fol_chunks.proofs.cells.take_out.Goals as goal
+
+pub clear-requires : goal.clear-requires
+clear-requires c = (c.requires.cells.cells c.args.key c.in-Some.cell.now (sym c.in-Some.ensures.value)).order
+
+pub returns-in-Some-clause-cells : goal.returns-in-Some-clause-cells
+returns-in-Some-clause-cells c =
+    let there : cell_at c.args.cells.now.entries c.args.key ≡ Some c.in-Some.cell.now = sym c.in-Some.ensures.value in
+    let w = c.get_mut.follows.holds c.clear.new.blocks in
+    let kept = cell_clear c.args.key c.in-Some.cell.now.items (c.requires.cells.cells c.args.key c.in-Some.cell.now there) c.clear.new.blocks.items c.args.at c.clear.ensures.order c.clear.ensures.cleared in
+    cells_written c.args.cells.now.entries _ c.args.key c.requires.cells c.clear.new.blocks kept w.4 (w.3 (ap is_some there)).0
+
+pub returns-in-Some-clause-cleared : goal.returns-in-Some-clause-cleared
+returns-in-Some-clause-cleared c =
+    let there : cell_at c.args.cells.now.entries c.args.key ≡ Some c.in-Some.cell.now = sym c.in-Some.ensures.value in
+    clears_written c.args.cells.now.entries _ c.args.key c.in-Some.cell.now c.clear.new.blocks there (c.get_mut.follows.holds c.clear.new.blocks).0 c.requires.cells c.args.at c.requires.key c.clear.ensures.cleared
+
+pub returns-in-None-clause-cleared : goal.returns-in-None-clause-cleared
+returns-in-None-clause-cleared c =
+    let none : sum_by (one_at c.args.at) (blocks_in c.args.cells.now.entries) ≡ 0 =
+    place_count c.args.cells.now.entries c.requires.cells c.args.key c.args.at c.requires.key
+    ∙ ap (sum_by (one_at c.args.at)) (items_none c.args.cells.now.entries c.args.key (sym c.in-None.ensures.value)) in
+    rw c.get_mut.follows.holds-at-none (clears_absent (blocks_in c.args.cells.now.entries) c.args.at none)

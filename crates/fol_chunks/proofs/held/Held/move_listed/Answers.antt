@@ -1,0 +1,55 @@
+use Rattle.std.proofs.Common.{arith}
+use Rattle.fol_chunks.specs.Kept.{blocks_of}
+use Rattle.fol_chunks.specs.Weights.{lies_in}
+use Rattle.fol_chunks.proofs.Flats.{flat_is}
+use Rattle.fol_chunks.proofs.Parts.{numbers_joined, numbers_left, ones_apart}
+use Rattle.fol_chunks.proofs.Weighing.{count_is, count_split, length_sum}
+use Rattle.fol_chunks.proofs.held.Held.move_listed.Goals as goal
+
+pub move_listed-requires-clause-apart : goal.move_listed-requires-clause-apart
+move_listed-requires-clause-apart c =
+    let apart = rw (← c.self.view_is, ← c.into.view_is) at c.requires.apart in
+    ones_apart c.args.chunks.now (blocks_of c.into.inside.blocks) (blocks_of c.self.inside.blocks) c.into.invariant.blocks.laid.once c.self.invariant.blocks.laid.once apart.blocks c.into.invariant.blocks.laid.full c.self.invariant.blocks.laid.full
+
+pub returns-clause-stayed : goal.returns-clause-stayed
+returns-clause-stayed c =
+    rw (← c.self.view_is)
+    (flat_is _ _ (numbers_left c.args.chunks.now (blocks_of c.self.inside.blocks) (blocks_of c.move_listed.new.self) c.self.invariant.blocks.laid.once c.move_listed.ensures.kept.laid.once c.move_listed.ensures.left)
+    (rw c.of.ensures at c.move_listed-2.ensures.left))
+
+pub returns-clause-moved : goal.returns-clause-moved
+returns-clause-moved c =
+    let apart = rw (← c.self.view_is, ← c.into.view_is) at c.requires.apart in
+    rw (← c.self.view_is, ← c.into.view_is)
+    (flat_is _ _
+    (numbers_joined c.args.chunks.now (blocks_of c.into.inside.blocks) (blocks_of c.self.inside.blocks) c.into.invariant.blocks.laid.once c.self.invariant.blocks.laid.once apart.blocks (blocks_of c.move_listed.new.into) c.move_listed.ensures.into_kept.laid.once c.move_listed.ensures.moved)
+    (rw c.of.ensures at c.move_listed-2.ensures.moved))
+
+pub returns-clause-size : goal.returns-clause-size
+returns-clause-size c =
+    let entities = rw c.of.ensures at c.move_listed-2.ensures.len in
+    rw (← c.self.view_is)
+    (omega (
+      arith,
+      entities,
+      c.move_listed.ensures.left (λ x. 1),
+      length_sum (blocks_of c.move_listed.new.self),
+      count_split (lies_in c.args.chunks.now) (blocks_of c.self.inside.blocks),
+      c.self.inside.entities.ok,
+      c.move_listed-2.new.entities.ok,
+    ))
+
+pub returns-clause-into_size : goal.returns-clause-into_size
+returns-clause-into_size c =
+    let entities = rw c.of.ensures at c.move_listed-2.ensures.into_len in
+    rw (← c.self.view_is, ← c.into.view_is)
+    (omega (
+      arith,
+      entities,
+      c.move_listed.ensures.moved (λ x. 1),
+      length_sum (blocks_of c.move_listed.new.into),
+      length_sum (blocks_of c.into.inside.blocks),
+      count_is (lies_in c.args.chunks.now) (blocks_of c.self.inside.blocks),
+      c.into.inside.entities.ok,
+      c.move_listed-2.new.into.ok,
+    ))

@@ -1,0 +1,188 @@
+//! Blocks and entities that a region holds.
+
+ghost use Rattle.std.specs.Prelude.{◌≡◌, ◌+◌, ◌≤◌, ◌<◌, ℕ, ◌++◌, ◌↔◌, IsTrue, IsNone, OnOk, All};
+ghost use Rattle.std.specs.Option.{option_map, option_len};
+ghost use Rattle.std.specs.List.{IsDistinct};
+ghost use Rattle.std.specs.List.Sorted.{IsStrictlySortedBy};
+ghost use Rattle.fol_model.specs.Geometry.{is_chunk, same_block};
+ghost use Rattle.fol_model.specs.ActionStep.{Flat, at_block, at_id, standing_of};
+ghost use Rattle.fol_model.specs.FlatTick.{moved};
+ghost use Rattle.fol_model.specs.World.{standing_in};
+ghost use Rattle.fol_keyed.specs.Order.{chunk_cmp};
+ghost use Rattle.fol_chunks.specs.Rows.{by_id};
+
+use crate::blocks::Blocks;
+use crate::{entities, steps};
+use fol_keyed::{ChunkList, count_listed};
+use fol_model::{BlockAt, BlockPos, ChunkPos, Entity};
+use std::alloc::{AllocError, Global};
+use std::marker::Model;
+
+/// Blocks and entities, side by side.
+#[derive(Drop)]
+pub struct Held {
+    blocks: Blocks,
+    entities: Vec<Entity>,
+}
+
+impl Model for Held {
+    ghost use Rattle.std.specs.Prelude.{◌-◌, min, vec_len};
+    ghost use Rattle.std.specs.Vec.{vec_capacity};
+    ghost use Rattle.fol_chunks.specs.Contents.{Contents};
+    ghost use Rattle.fol_chunks.specs.Kept.{blocks_of, room_of};
+    ghost use Rattle.fol_chunks.specs.Held.{IsHeld};
+
+    ghost Value = { Contents };
+
+    ghost view = { λ c. record { blocks = blocks_of c.blocks; entities = c.entities.items; spare = min (room_of c.blocks) (vec_capacity c.entities - vec_len c.entities) } };
+
+    ghost invariant = { λ c. IsHeld c.blocks c.entities.items };
+}
+
+impl Held {
+    ghost use Rattle.fol_chunks.specs.Contents.{Contents, flat_of, nothing, size_of, within, outside, joined, Apart, is_recorded, is_listed, size_within, entity_of};
+
+    /// Nothing. Takes no memory.
+    pub fn new(alloc: Global) -> Held
+        ensures nothing { flat_of result ≡ nothing }
+        ensures empty { size_of result ≡ 0 }
+    {
+        Held {
+            blocks: Blocks::new(alloc),
+            entities: Vec::new(alloc),
+        }
+    }
+
+    /// Whether no block has a number and no entity stands.
+    pub fn is_empty(&self) -> bool
+        ensures size { IsTrue result ↔ (size_of self.now ≡ 0) }
+        ensures nothing { IsTrue result → flat_of self.now ≡ nothing }
+    {
+        self.blocks.is_empty() && self.entities.is_empty()
+    }
+
+    /// Makes `spare` at least `n`. The contents stay either way.
+    pub fn reserve(&mut self, n: u64) -> Result<(), AllocError>
+        ensures same { flat_of self.new ≡ flat_of self.old }
+        ensures size { size_of self.new ≡ size_of self.old }
+        ensures ok { OnOk result (n ≤ self.new.spare) }
+        ensures spare { self.old.spare ≤ self.new.spare }
+    {
+        self.blocks.reserve(n as usize)?;
+        self.entities.reserve(n as usize)
+    }
+
+    /// The number of a block, and 0 where it has none.
+    pub fn get(&self, at: BlockPos) -> u16
+        ensures { result ≡ (flat_of self.now).blocks at }
+    {
+        self.blocks.number_at(at)
+    }
+
+    /// Adds all blocks with a number above 0 to a list, in no stated order. Fails only when out of memory.
+    pub fn add_blocks_to(&self, list: &mut Vec<BlockAt>) -> Result<(), AllocError>
+        ensures blocks { OnOk result (list.new.items ≡ list.old.items ++ self.now.blocks) }
+        ensures differ { IsDistinct (λ a b. same_block a.at b.at) self.now.blocks }
+        ensures none_empty { All (λ x. 0 < x.id) self.now.blocks }
+    {
+        self.blocks.add_to(list)
+    }
+
+    /// The entities, by id.
+    pub fn entity_list(&self) -> &[Entity]
+        ensures items { result.now ≡ self.now.entities }
+        ensures standing { standing_in result.now ≡ (flat_of self.now).standing }
+        ensures order { IsStrictlySortedBy by_id result.now }
+    {
+        &self.entities
+    }
+
+    /// Gives a block a number; 0 takes its number away. Takes no memory.
+    pub fn set(&mut self, at: BlockPos, id: u16)
+        requires { 1 ≤ self.old.spare }
+        ensures blocks { flat_of self.new
+            ≡ record (flat_of self.old) { blocks = at_block (flat_of self.old).blocks at id } }
+        ensures size { size_of self.new ≤ size_of self.old + 1 }
+        ensures spare { self.old.spare ≤ self.new.spare + 1 }
+    {
+        self.blocks.set(BlockAt { at, id });
+    }
+
+    /// The block at which the entity stands.
+    pub fn find(&self, id: u32) -> Option<BlockPos>
+        ensures { result ≡ option_map (λ s. s.at) ((flat_of self.now).standing id) }
+    {
+        entities::find(&self.entities, id)
+    }
+
+    /// Takes the entity out, where it is there.
+    pub fn take_entity(&mut self, id: u32) -> Option<Entity>
+        ensures entity { result ≡ option_map (entity_of id) ((flat_of self.old).standing id) }
+        ensures left { flat_of self.new
+            ≡ record (flat_of self.old) { standing = at_id (flat_of self.old).standing id None } }
+        ensures size { size_of self.new + option_len result ≡ size_of self.old }
+        ensures spare { self.old.spare ≤ self.new.spare }
+    {
+        entities::take(&mut self.entities, id)
+    }
+
+    /// Puts an entity in that is not there. Takes no memory.
+    pub fn put_entity(&mut self, e: Entity)
+        requires spare { 1 ≤ self.old.spare }
+        requires fresh { IsNone ((flat_of self.old).standing e.id) }
+        ensures entity { flat_of self.new
+            ≡ record (flat_of self.old) {
+              standing = at_id (flat_of self.old).standing e.id
+                  (Some (standing_of e));
+            } }
+        ensures size { size_of self.new ≡ size_of self.old + 1 }
+        ensures spare { self.old.spare ≤ self.new.spare + 1 }
+    {
+        entities::put(&mut self.entities, e);
+    }
+
+    /// Moves the entities that stand in recorded chunks by their speeds, where they stay in recorded chunks. Takes no memory.
+    pub fn step_entities(&mut self, chunks: &[ChunkPos])
+        requires order { IsStrictlySortedBy chunk_cmp chunks.now }
+        requires places { All (λ c. IsTrue (is_chunk c)) chunks.now }
+        ensures moved { flat_of self.new ≡ moved (is_recorded chunks.now) (flat_of self.old) }
+        ensures size { size_of self.new ≡ size_of self.old }
+        ensures spare { self.old.spare ≤ self.new.spare }
+    {
+        steps::step_all(&mut self.entities, chunks);
+    }
+
+    /// How many blocks and entities lie in the chunks, which stand by z, and then by x.
+    pub fn size_listed(&self, chunks: &[ChunkPos]) -> u64
+        requires { IsStrictlySortedBy chunk_cmp chunks.now }
+        ensures { result ≡ size_within (is_listed chunks.now) self.now }
+    {
+        let entities = count_listed(&self.entities, &ChunkList::of(chunks));
+        (self.blocks.count_listed(chunks) + entities) as u64
+    }
+
+    /// Moves what lies in the chunks, which stand by z, and then by x. Takes no memory.
+    pub fn move_listed(&mut self, chunks: &[ChunkPos], into: &mut Held)
+        requires order { IsStrictlySortedBy chunk_cmp chunks.now }
+        requires apart { Apart (flat_of into.old)
+            (within (is_listed chunks.now) (flat_of self.old)) }
+        requires room { size_within (is_listed chunks.now) self.old ≤ into.old.spare }
+        ensures stayed { flat_of self.new ≡ outside (is_listed chunks.now) (flat_of self.old) }
+        ensures moved { flat_of into.new
+            ≡ joined (flat_of into.old) (within (is_listed chunks.now) (flat_of self.old)) }
+        ensures size { size_of self.new + size_within (is_listed chunks.now) self.old
+            ≡ size_of self.old }
+        ensures into_size { size_of into.new
+            ≡ size_of into.old + size_within (is_listed chunks.now) self.old }
+        ensures spare { self.old.spare ≤ self.new.spare }
+        ensures into_spare { into.old.spare
+            ≤ into.new.spare + size_within (is_listed chunks.now) self.old }
+    {
+        self.blocks.move_listed(chunks, &mut into.blocks);
+        entities::move_listed(
+            &mut self.entities,
+            &ChunkList::of(chunks),
+            &mut into.entities,
+        );
+    }
+}
