@@ -1,9 +1,8 @@
 //! The end of a tick.
 
-ghost use Rattle.std.specs.Prelude.{◌≡◌, ℕ, Option, ◌+◌, ◌≤◌, ◌<◌, ◌^◌, ◌||◌, ◌++◌, true, List, [], length, IsTrue, vec_len, vec_capacity};
+ghost use Rattle.std.specs.Prelude.{◌≡◌, ℕ, Option, ◌+◌, ◌≤◌, ◌<◌, ◌||◌, ◌++◌, true, List, [], length, IsTrue, vec_len, vec_capacity};
 ghost use Rattle.std.specs.Option.{is_none, option_or, ForSome};
 ghost use Rattle.fol_model.specs.declared.regions.State.TheVariants.{Ticking};
-ghost use Rattle.fol_model.specs.ActionStep.{at_id};
 ghost use Rattle.fol_model.specs.Drop.{drop_hold as drop};
 ghost use Rattle.fol_model.specs.GridState.{is_dead};
 ghost use Rattle.fol_model.specs.Release.{release};
@@ -27,7 +26,6 @@ ghost use Rattle.fol_core.specs.Hands.{since};
 ghost use Rattle.fol_core.specs.MayEnd.{MayEnd};
 ghost use Rattle.fol_core.specs.Stands.{Fits, Stands};
 ghost use Rattle.fol_core.specs.Ticks.{IsOut};
-ghost use Rattle.fol_core.specs.Bags.{Follow};
 ghost use Rattle.fol_core.specs.Released.{BringsBack, CanEnd, DropsHolds, EndsRegion, Loosens, MayRelease, Releases};
 ghost use Rattle.fol_core.specs.Same.{SameStock, SameThings};
 

@@ -1,10 +1,9 @@
 //! A region is over, and its parts begin.
 
-ghost use Rattle.std.specs.Prelude.{◌≡◌, ◌≢◌, ℕ, ◌+◌, ◌≤◌, ◌^◌, nat_eq, true, filter, length, All, IfOk, IfSome, IfNone, []};
+ghost use Rattle.std.specs.Prelude.{◌≡◌, ◌≢◌, ℕ, ◌+◌, ◌≤◌, ◌^◌, nat_eq, true, length, All, IfSome, IfNone, []};
 ghost use Rattle.std.specs.List.{list_any};
-ghost use Rattle.fol_model.specs.Universe.{all_chunks};
 ghost use Rattle.fol_model.specs.ActionStep.{at_id};
-ghost use Rattle.fol_model.specs.Outputs.{is_chunk_of, chunk_count};
+ghost use Rattle.fol_model.specs.Outputs.{chunk_count};
 ghost use Rattle.fol_regions.specs.Table.{grid_state};
 ghost use Rattle.fol_regions.specs.Answers.{IsGiven};
 ghost use Rattle.fol_store.specs.Bag.{no_bag};
