@@ -105,7 +105,7 @@ impl Chunks {
         }
     }
 
-    /// Gives a block a number; 0 takes its number away. Takes no memory.
+    /// Gives a block a number; 0 takes its number away. Needs no memory; takes some where there is.
     pub fn set(&mut self, at: BlockPos, id: u16)
         requires { 1 ≤ self.old.spare }
         ensures blocks { flat_of self.new
