@@ -1,6 +1,3 @@
-pub mod Rows
-pub mod Parts
-pub mod Reports
 pub mod Holds
 pub mod Counts
 pub mod Layouts

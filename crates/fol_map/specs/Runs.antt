@@ -10,7 +10,7 @@ use Rattle.fol_io.specs.Counts.{Rose}
 use Rattle.fol_io.specs.Shelf.{IsHeld, IsTooLong}
 use Rattle.fol_io.specs.Sink.{Received, ReceivedInPieces}
 use Rattle.fol_map.specs.Pictures.{IsPicture}
-use Rattle.fol_map.specs.Reports.{IsBadLine}
+use Rattle.fol_report_reader.specs.Reports.{IsBadLine}
 use Rattle.fol_map.specs.declared.endings.Ending.{Ending}
 use Rattle.fol_map.specs.declared.endings.Ending.TheVariants.{Written, Words, World, ReadFault, WriteFault, NoMemory, TooLong, Report}
 

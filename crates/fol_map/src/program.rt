@@ -7,11 +7,10 @@ ghost use Rattle.fol_map.specs.Pictures.{IsPicture};
 ghost use Rattle.fol_map.specs.Runs.{FileEnds, FilesEnd, Outcome, PutEnds, ReportEnds, TextsEnd, is_name, names_in};
 
 use crate::endings::{Ending, complain};
-use crate::parts::Fault;
 use crate::pictures::picture;
-use crate::reading::read_report;
 use fol_io::{Bytes, Put, Read, Shelf, Sink, put_in_pieces};
 use fol_model::{Closing, Opening};
+use fol_report_reader::{Fault, read_report};
 use fol_script::{ReadError, read_world};
 use std::alloc::Global;
 

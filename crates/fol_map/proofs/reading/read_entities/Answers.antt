@@ -1,5 +1,0 @@
-use Rattle.fol_map.proofs.Lines.{entity_line}
-use Rattle.fol_map.proofs.reading.read_entities.Goals as goal
-
-pub read_part-requires-clause-one_line : goal.read_part-requires-clause-one_line
-read_part-requires-clause-one_line c = entity_line

@@ -1,5 +1,0 @@
-use Rattle.fol_map.proofs.Lines.{task_line}
-use Rattle.fol_map.proofs.reading.read_tasks.Goals as goal
-
-pub read_part-requires-clause-one_line : goal.read_part-requires-clause-one_line
-read_part-requires-clause-one_line c = task_line

@@ -1,0 +1,5 @@
+use Rattle.fol_report_reader.proofs.Lines.{block_line}
+use Rattle.fol_report_reader.proofs.reading.read_blocks.Goals as goal
+
+pub read_part-requires-clause-one_line : goal.read_part-requires-clause-one_line
+read_part-requires-clause-one_line c = block_line
