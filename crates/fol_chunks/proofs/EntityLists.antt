@@ -103,7 +103,7 @@ module _ (es : List Entity) where
   pub order_filtered : (p : Entity → Bool) → InOrder es → InOrder (filter p es)
   order_filtered p s = IsStrictlySortedBy-filter by_id p es s
 
-module _ (es fs gs : List Entity) where
+module _ (es fs : List Entity) where
   no_entity_in_both : InOrder es → InOrder fs → ((id : ℕ) → (is_none (standing_in es id) || is_none (standing_in fs id)) ≡ true) → (x y : Entity) → Contains es x → Contains fs y → x.id ≡ y.id → ⊥
   no_entity_in_both s t none = no_shared_key nat_eq eqb-true nat_self (λ (e : Entity). e.id) es fs (differ es s) (differ fs t) found_none
     where
@@ -114,12 +114,17 @@ module _ (es fs gs : List Entity) where
       found_none : (id : ℕ) → (is_none (find (λ (e : Entity). nat_eq e.id id) es) || is_none (find (λ (e : Entity). nat_eq e.id id) fs)) ≡ true
       found_none id = rw (standing_found es id, standing_found fs id, same_none (find (λ (e : Entity). nat_eq e.id id) es), same_none (find (λ (e : Entity). nat_eq e.id id) fs)) at (none id)
 
-  joined_differ : InOrder es → InOrder fs → ((id : ℕ) → (is_none (standing_in es id) || is_none (standing_in fs id)) ≡ true) → Differ nat_eq eqb-true nat_self (λ (e : Entity). e.id) (es ++ fs)
+  -- the entities of both
+  pub joined_differ : InOrder es → InOrder fs → ((id : ℕ) → (is_none (standing_in es id) || is_none (standing_in fs id)) ≡ true) → Differ nat_eq eqb-true nat_self (λ (e : Entity). e.id) (es ++ fs)
   joined_differ s t none = differ_append nat_eq eqb-true nat_self (λ (e : Entity). e.id) es fs (differ es s) (differ fs t) (no_entity_in_both s t none)
 
+  -- the two lists in order have no entity in common
+  pub entities_untied : InOrder es → InOrder fs → ((id : ℕ) → (is_none (standing_in es id) || is_none (standing_in fs id)) ≡ true) → Untied by_id es fs
+  entities_untied s t none = λ x y m n e. no_entity_in_both s t none x y m n (nat_cmp_tells x.id y.id e)
+
   -- the entities of both, in whatever order
-  pub standing_joined : InOrder es → InOrder fs → ((id : ℕ) → (is_none (standing_in es id) || is_none (standing_in fs id)) ≡ true) → IsPermutation (es ++ fs) gs → standing_in gs ≡ λ id. option_or (standing_in es id) (standing_in fs id)
-  standing_joined s t none m =
+  pub standing_joined : (gs : List Entity) → InOrder es → InOrder fs → ((id : ℕ) → (is_none (standing_in es id) || is_none (standing_in fs id)) ≡ true) → IsPermutation (es ++ fs) gs → standing_in gs ≡ λ id. option_or (standing_in es id) (standing_in fs id)
+  standing_joined gs s t none m =
       fun_ext (λ id.
       standing_found gs id
       ∙ ap (λ o. option_map standing_of o) (find_permuted nat_eq eqb-true nat_self (λ (e : Entity). e.id) (es ++ fs) gs (joined_differ s t none) m id)
@@ -131,10 +136,6 @@ module _ (es fs gs : List Entity) where
       swap : (o r : Option Entity) → option_map standing_of (option_or o r) ≡ option_or (option_map standing_of o) (option_map standing_of r)
       swap None r = refl
       swap (Some e) r = refl
-
-  -- the two lists in order have no entity in common
-  pub entities_untied : InOrder es → InOrder fs → ((id : ℕ) → (is_none (standing_in es id) || is_none (standing_in fs id)) ≡ true) → Untied by_id es fs
-  entities_untied s t none = λ x y m n e. no_entity_in_both s t none x y m n (nat_cmp_tells x.id y.id e)
 
 -- none is in a list and in what passes of another
 pub none_passes : (p : Standing → Bool) (es fs : List Entity) → InOrder fs → ((id : ℕ) → (is_none (standing_in es id) || is_none (option_filter p (standing_in fs id))) ≡ true)

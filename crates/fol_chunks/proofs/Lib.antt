@@ -1,5 +1,6 @@
 pub mod EntityLists
 pub mod Movement
+pub mod EitherList
 pub mod Flats
 pub mod Weighing
 pub mod CellSums

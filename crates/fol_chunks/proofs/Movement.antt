@@ -1,12 +1,14 @@
 -- The movement of entities.
-use Rattle.std.proofs.Common.{◌≡◌, ℕ, ◌<◌, ◌≤◌, true, false, ◌&&◌, List, [], ◌∷◌, get_or, refl, sym, ◌∙◌, ap, inl, inr, arith, IsTrue, rules, div-add-mod', mod-lt}
+use Rattle.std.proofs.Common.{◌≡◌, ℕ, ◌<◌, ◌≤◌, true, false, ◌&&◌, List, [], ◌∷◌, get_or, refl, sym, ◌∙◌, ap, inl, inr, arith, IsTrue, IsNone, Option, Some, None, rules, div-add-mod', mod-lt}
 use Rattle.std.specs.Prelude.{ℤ, pos, negsuc, ◌+ℤ◌, nat_abs, nat_le, nat_eq, if◌then◌else◌, All, map, FitsSigned}
 use Rattle.std.specs.Int.{int_div_euclid, w32}
 use Rattle.std.specs.List.{AllByRecursion}
 use Rattle.std.specs.List.Sorted.{IsStrictlySortedBy}
-use Rattle.std.specs.Ordering.{nat_cmp}
+use Rattle.std.specs.Option.{is_none}
+use Rattle.std.specs.Ordering.{int_eq, nat_cmp}
 use Rattle.std.specs.declared.cmp.Ordering.TheVariants.{Less}
 use Rattle.std.proofs.lemmas.Bool.{cases_Bool, and_parts, leb-true}
+use Rattle.std.proofs.lemmas.Bool.Decides.{Decides-int_eq}
 use Rattle.std.proofs.lemmas.List.Folds.{list_any_none}
 use Rattle.std.proofs.Math.IntN.{+ℤ_idr}
 use Rattle.std.proofs.Math.Path.{fun_ext}
@@ -14,10 +16,12 @@ use Rattle.fol_model.specs.declared.places.ChunkPos.{ChunkPos}
 use Rattle.fol_model.specs.declared.places.BlockPos.{BlockPos}
 use Rattle.fol_model.specs.declared.entities.Entity.{Entity}
 use Rattle.fol_model.specs.Geometry.{same_chunk, chunk_of, is_chunk}
-use Rattle.fol_model.specs.ActionStep.{Recorded}
+use Rattle.fol_model.specs.ActionStep.{Recorded, Standing}
 use Rattle.fol_model.specs.FlatTick.{ahead, walked}
 use Rattle.fol_model.specs.World.{standing_in}
 use Rattle.fol_chunks.specs.Contents.{is_recorded}
+use Rattle.fol_keyed.specs.Options.{option_filter}
+use Rattle.fol_chunks.specs.Crowds.{is_still, walks}
 use Rattle.fol_chunks.specs.Rows.{stepped, by_id}
 use Rattle.fol_keyed.proofs.Places.{same_chunk-true}
 
@@ -54,8 +58,35 @@ pub step_moves : (rec : Recorded) (e r : Entity) (x z : ℤ) → x ≡ e.at.x +�
     → r ≡ (if rec (chunk_of e.at) && rec (chunk_of (record { x = x; y = e.at.y; z = z })) then record e { at = record { x = x; y = e.at.y; z = z } } else e) → r ≡ stepped rec e
 step_moves rec e r x z p q h = rw (p, q) at h
 
-pub step_stands : (rec : Recorded) (e : Entity) → e.vx ≡ pos 0 → e.vz ≡ pos 0 → e ≡ stepped rec e
-step_stands rec e p q = rw (p, q, +ℤ_idr e.at.x, +ℤ_idr e.at.z) (elim (cases_Bool (rec (chunk_of e.at))) [ inl t ↦ rw t refl | inr t ↦ rw t refl ])
+-- ---- what the movement makes of a look-up
+module _ (rec : Recorded) where
+  pub walked_none : (o : Option Standing) → is_none (walked rec o) ≡ is_none o
+  walked_none None = refl
+  walked_none (Some s) = elim (cases_Bool (rec (chunk_of s.at) && rec (chunk_of (ahead s.vx s.vz s.at)))) [ inl t ↦ rw t refl | inr t ↦ rw t refl ]
+
+  -- the speed stays
+  pub walked_kept : (o : Option Standing) → IsNone (option_filter is_still o) → IsNone (option_filter is_still (walked rec o))
+  walked_kept None h = refl
+  walked_kept (Some s) h =
+      elim (cases_Bool (is_still s)) [
+        | inl e ↦ let w : true ≡ false = rw e at h in absurd cc
+        | inr e ↦ elim (cases_Bool (rec (chunk_of s.at) && rec (chunk_of (ahead s.vx s.vz s.at)))) [ inl t ↦ rw (t, e) refl | inr t ↦ rw (t, e) refl ]
+      ]
+
+  -- what has no speed stays
+  pub walked_still : (o : Option Standing) → IsNone (option_filter walks o) → o ≡ walked rec o
+  walked_still None h = refl
+  walked_still (Some s) h =
+      elim (cases_Bool (is_still s)) [
+        | inl t ↦
+            let p = and_parts (int_eq s.vx (pos 0)) (int_eq s.vz (pos 0)) t in
+            stands s ((Decides-int_eq s.vx (pos 0)).0 p.0) ((Decides-int_eq s.vz (pos 0)).0 p.1)
+        | inr t ↦ let w : true ≡ false = rw t at h in absurd cc
+      ]
+    where
+      stands : (s : Standing) → s.vx ≡ pos 0 → s.vz ≡ pos 0 → Some s ≡ walked rec (Some s)
+      stands s p q =
+          rw (p, q, +ℤ_idr s.at.x, +ℤ_idr s.at.z) (elim (cases_Bool (rec (chunk_of s.at))) [ inl t ↦ rw t refl | inr t ↦ rw t refl ])
 
 stepped_id : (rec : Recorded) (e : Entity) → (stepped rec e).id ≡ e.id
 stepped_id rec e = elim (cases_Bool (rec (chunk_of e.at) && rec (chunk_of (ahead e.vx e.vz e.at)))) [ inl t ↦ rw t refl | inr t ↦ rw t refl ]

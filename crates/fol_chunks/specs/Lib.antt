@@ -5,4 +5,4 @@ pub mod Rows
 pub mod Weights
 pub mod Cells
 pub mod Kept
-pub mod Held
+pub mod Crowds

@@ -1,8 +1,7 @@
 -- The lists that hold the blocks and the entities.
-use Rattle.std.specs.Prelude.{◌<◌, List, All, if◌then◌else◌, ◌&&◌}
+use Rattle.std.specs.Prelude.{◌<◌, nat_eq, List, All, if◌then◌else◌, ◌&&◌}
 use Rattle.std.specs.List.{IsDistinct}
 use Rattle.std.specs.Ordering.{nat_cmp}
-use Rattle.std.specs.List.Sorted.{IsStrictlySortedBy}
 use Rattle.std.specs.declared.cmp.Ordering.{Ordering}
 use Rattle.fol_model.specs.declared.openings.BlockAt.{BlockAt}
 use Rattle.fol_model.specs.declared.entities.Entity.{Entity}
@@ -17,11 +16,11 @@ by_place a b = block_cmp a.at b.at
 abbrev pub by_id : Entity → Entity → Ordering
 by_id a b = nat_cmp a.id b.id
 
--- blocks of which no two have one place, none with number 0, and entities in order of id
+-- blocks of which no two have one place, none with number 0, and entities of which no two have one id
 pub record IsContents (blocks : List BlockAt) (entities : List Entity) : Type 0 where
   pub blocks_differ : IsDistinct (λ a b. same_block a.at b.at) blocks
   pub blocks_full : All (λ x. 0 < x.id) blocks
-  pub entities_order : IsStrictlySortedBy by_id entities
+  pub entities_differ : IsDistinct (λ a b. nat_eq a.id b.id) entities
 
 -- an entity goes ahead where it is and stays in chunks that pass
 abbrev pub stepped : Recorded → Entity → Entity

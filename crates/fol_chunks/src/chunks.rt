@@ -1,6 +1,6 @@
 //! The blocks and entities of a region.
 
-ghost use Rattle.std.specs.Prelude.{◌≡◌, ◌+◌, ◌<◌, ◌≤◌, ℕ, ◌++◌, ◌↔◌, IsTrue, IsNone, OnOk, All};
+ghost use Rattle.std.specs.Prelude.{◌≡◌, ◌+◌, ◌<◌, ◌≤◌, ℕ, ◌++◌, ◌↔◌, nat_eq, IsTrue, IsNone, IfOk, OnOk, All};
 ghost use Rattle.std.specs.Option.{option_map, option_len};
 ghost use Rattle.std.specs.List.{IsDistinct};
 ghost use Rattle.std.specs.List.Sorted.{IsStrictlySortedBy};
@@ -93,15 +93,27 @@ impl Chunks {
         }
     }
 
-    /// The entities, by id.
-    pub fn entity_list(&self) -> &[Entity]
-        ensures items { result.now ≡ self.now.entities }
-        ensures standing { standing_in result.now ≡ (flat_of self.now).standing }
-        ensures order { IsStrictlySortedBy by_id result.now }
+    /// Adds all entities to a list, in no stated order. Fails only when out of memory.
+    pub fn add_entities_to(&self, list: &mut Vec<Entity>) -> Result<(), AllocError>
+        ensures entities { OnOk result (list.new.items ≡ list.old.items ++ self.now.entities) }
+        ensures standing { standing_in self.now.entities ≡ (flat_of self.now).standing }
+        ensures differ { IsDistinct (λ a b. nat_eq a.id b.id) self.now.entities }
     {
         match &self.held {
-            Some(held) => held.entity_list(),
-            None => &[],
+            Some(held) => held.add_entities_to(list),
+            None => Ok(()),
+        }
+    }
+
+    /// A list of all entities, by id. Fails only when out of memory.
+    pub fn entities_by_id(&self, alloc: Global) -> Result<Vec<Entity>, AllocError>
+        ensures standing { IfOk result (λ list.
+            standing_in list.items ≡ (flat_of self.now).standing) }
+        ensures order { IfOk result (λ list. IsStrictlySortedBy by_id list.items) }
+    {
+        match &self.held {
+            Some(held) => held.entities_by_id(alloc),
+            None => Ok(Vec::new(alloc)),
         }
     }
 

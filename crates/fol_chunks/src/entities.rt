@@ -1,107 +1,191 @@
-//! A list of entities in order of id.
+//! The entities of a region: those that have a speed by themselves, so that a movement costs only these.
 
-ghost use Rattle.std.specs.Prelude.{◌≡◌, ℕ, ◌+◌, ◌<◌, ◌≤◌, not, length, vec_len, count_by, slice_index_or, MatchResult, IsNone, IsTrue, ◌||◌};
+ghost use Rattle.std.specs.Prelude.{◌≡◌, ℕ, ◌+◌, ◌≤◌, ◌<◌, ◌^◌, ◌++◌, ◌↔◌, ◌||◌, not, [], nat_eq, length, count_by, IsTrue, IsNone, IfOk, OnOk, All};
 ghost use Rattle.std.specs.Option.{option_map, option_len, option_or, is_none};
-ghost use Rattle.std.specs.Vec.{vec_capacity};
-ghost use Rattle.std.specs.List.Sorted.{IsStrictlySortedBy, IsPartitionPoint};
-ghost use Rattle.std.specs.Ordering.{nat_cmp};
-ghost use Rattle.std.specs.declared.cmp.Ordering.TheVariants.{Less, Greater};
-ghost use Rattle.fol_model.specs.Geometry.{chunk_of as chunk_around};
+ghost use Rattle.std.specs.List.{IsDistinct};
+ghost use Rattle.std.specs.List.Sorted.{IsStrictlySortedBy};
+ghost use Rattle.fol_model.specs.Geometry.{is_chunk, chunk_of as chunk_around};
 ghost use Rattle.fol_model.specs.ActionStep.{at_id, standing_of};
+ghost use Rattle.fol_model.specs.FlatTick.{walked};
 ghost use Rattle.fol_model.specs.World.{standing_in};
+ghost use Rattle.fol_keyed.specs.Order.{chunk_cmp};
 ghost use Rattle.fol_keyed.specs.Members.{is_listed};
 ghost use Rattle.fol_keyed.specs.Options.{option_filter};
-ghost use Rattle.fol_chunks.specs.Contents.{entity_of};
+ghost use Rattle.fol_chunks.specs.Contents.{entity_of, is_recorded};
 ghost use Rattle.fol_chunks.specs.Rows.{by_id};
+ghost use Rattle.fol_chunks.specs.Crowds.{is_still};
 
-use fol_keyed::ChunkList;
-use fol_model::{BlockPos, Entity};
+use crate::{entity_list, steps};
+use fol_keyed::{ChunkList, count_listed, join};
+use fol_model::{BlockPos, ChunkPos, Entity};
+use std::alloc::{AllocError, Global};
+use std::marker::Model;
 
-/// Where the entity stands in the list, or where it would stand.
-fn place_of(entities: &[Entity], id: u32) -> Result<usize, usize>
-    requires { IsStrictlySortedBy by_id entities.now }
-    ensures { MatchResult result (λ i. (i < length entities.now)
-        × ((d : Entity) → (slice_index_or entities.now i d).id ≡ id)) (λ i.
-        (i ≤ length entities.now) × IsPartitionPoint (λ x. nat_cmp x.id id ≡ Less) (λ x.
-        nat_cmp x.id id ≡ Greater) entities.now i) }
-{
-    entities.binary_search_by(|entity| entity.id.cmp(&id))
+/// Entities of which no two have one id. Contracts see them as one list, and how many more there is room for.
+#[derive(Drop)]
+pub struct Entities {
+    /// Those that have a speed, by id.
+    walking: Vec<Entity>,
+    /// Those that have none, by id.
+    still: Vec<Entity>,
 }
 
-/// The block at which the entity stands.
-pub fn find(entities: &[Entity], id: u32) -> Option<BlockPos>
-    requires { IsStrictlySortedBy by_id entities.now }
-    ensures { result ≡ option_map (λ s. s.at) (standing_in entities.now id) }
-{
-    match place_of(entities, id) {
-        Ok(i) => Some(entities[i].at),
-        Err(_) => None,
+impl Model for Entities {
+    ghost use Rattle.std.specs.Prelude.{◌-◌, ◌++◌, min, vec_len};
+    ghost use Rattle.std.specs.Vec.{vec_capacity};
+    ghost use Rattle.fol_chunks.specs.Crowds.{Crowd, AreParted};
+
+    ghost Value = { Crowd };
+
+    ghost view = { λ e. record { members = e.walking.items ++ e.still.items; spare = min (vec_capacity e.walking - vec_len e.walking) (vec_capacity e.still - vec_len e.still) } };
+
+    ghost invariant = { λ e. AreParted e.walking.items e.still.items };
+}
+
+impl Entities {
+    /// None. Takes no memory.
+    pub fn new(alloc: Global) -> Entities
+        ensures { result.members ≡ [] }
+    {
+        Entities {
+            walking: Vec::new(alloc),
+            still: Vec::new(alloc),
+        }
+    }
+
+    /// Whether there is no entity.
+    pub fn is_empty(&self) -> bool
+        ensures { IsTrue result ↔ (length self.now.members ≡ 0) }
+    {
+        self.walking.is_empty() && self.still.is_empty()
+    }
+
+    /// Makes `spare` at least `n`, in both lists, since an entity may have a speed or none. The entities stay either way.
+    pub fn reserve(&mut self, n: usize) -> Result<(), AllocError>
+        ensures same { self.new.members ≡ self.old.members }
+        ensures ok { OnOk result (n ≤ self.new.spare) }
+        ensures spare { self.old.spare ≤ self.new.spare }
+    {
+        self.walking.reserve(n)?;
+        self.still.reserve(n)
+    }
+
+    /// The block at which the entity stands.
+    pub fn find(&self, id: u32) -> Option<BlockPos>
+        ensures { result ≡ option_map (λ s. s.at) (standing_in self.now.members id) }
+    {
+        match entity_list::find(&self.walking, id) {
+            Some(at) => Some(at),
+            None => entity_list::find(&self.still, id),
+        }
+    }
+
+    /// Takes the entity out, where it is there.
+    pub fn take(&mut self, id: u32) -> Option<Entity>
+        ensures entity { result ≡ option_map (entity_of id) (standing_in self.old.members id) }
+        ensures left { standing_in self.new.members
+            ≡ at_id (standing_in self.old.members) id None }
+        ensures len { length self.new.members + option_len result ≡ length self.old.members }
+        ensures spare { self.old.spare ≤ self.new.spare }
+    {
+        match entity_list::take(&mut self.walking, id) {
+            Some(entity) => Some(entity),
+            None => entity_list::take(&mut self.still, id),
+        }
+    }
+
+    /// Puts an entity in that is not there. Takes no memory.
+    pub fn put(&mut self, entity: Entity)
+        requires spare { 1 ≤ self.old.spare }
+        requires fresh { IsNone (standing_in self.old.members entity.id) }
+        ensures entity { standing_in self.new.members
+            ≡ at_id (standing_in self.old.members) entity.id (Some (standing_of entity)) }
+        ensures len { length self.new.members ≡ length self.old.members + 1 }
+        ensures spare { self.old.spare ≤ self.new.spare + 1 }
+    {
+        if stands_still(entity) {
+            entity_list::put(&mut self.still, entity);
+        } else {
+            entity_list::put(&mut self.walking, entity);
+        }
+    }
+
+    /// Moves the entities that stand in recorded chunks by their speeds, where they stay in recorded chunks. Costs only those that have a
+    /// speed. Takes no memory.
+    pub fn step(&mut self, chunks: &[ChunkPos])
+        requires order { IsStrictlySortedBy chunk_cmp chunks.now }
+        requires places { All (λ c. IsTrue (is_chunk c)) chunks.now }
+        ensures moved { standing_in self.new.members
+            ≡ λ id. walked (is_recorded chunks.now) (standing_in self.old.members id) }
+        ensures len { length self.new.members ≡ length self.old.members }
+        ensures spare { self.old.spare ≤ self.new.spare }
+    {
+        steps::step_all(&mut self.walking, chunks);
+    }
+
+    /// Adds all entities to a list, in no stated order.
+    pub fn add_to(&self, list: &mut Vec<Entity>) -> Result<(), AllocError>
+        ensures members { OnOk result (list.new.items ≡ list.old.items ++ self.now.members) }
+        ensures differ { IsDistinct (λ a b. nat_eq a.id b.id) self.now.members }
+    {
+        list.extend_from_slice(&self.walking)?;
+        list.extend_from_slice(&self.still)
+    }
+
+    /// A list of all entities, by id.
+    pub fn by_id(&self, alloc: Global) -> Result<Vec<Entity>, AllocError>
+        ensures standing { IfOk result (λ list.
+            standing_in list.items ≡ standing_in self.now.members) }
+        ensures order { IfOk result (λ list. IsStrictlySortedBy by_id list.items) }
+    {
+        let mut list = Vec::with_capacity(alloc, self.walking.len() + self.still.len())?;
+        list.extend_from_slice(&self.walking)?;
+        join(&mut list, &self.still);
+        Ok(list)
+    }
+
+    /// How many entities lie in the chunks of the list.
+    pub fn count_listed(&self, list: &ChunkList) -> usize
+        ensures count { result ≡ count_by (λ (e : Entity).
+            is_listed list.now.chunks.now (chunk_around e.at)) self.now.members }
+        ensures few { result < 2 ^ 63 }
+    {
+        count_listed(&self.walking, list) + count_listed(&self.still, list)
+    }
+
+    /// Moves the entities that lie in the chunks of the list. Takes no memory.
+    pub fn move_listed(&mut self, list: &ChunkList, into: &mut Entities)
+        requires apart { (id : ℕ)
+            → IsTrue (is_none (standing_in into.old.members id)
+            || is_none (option_filter (λ s. is_listed list.now.chunks.now (chunk_around s.at))
+            (standing_in self.old.members id))) }
+        requires room { count_by (λ (e : Entity).
+            is_listed list.now.chunks.now (chunk_around e.at)) self.old.members ≤ into.old.spare }
+        ensures left { standing_in self.new.members ≡ λ id.
+            option_filter (λ s. not (is_listed list.now.chunks.now (chunk_around s.at)))
+            (standing_in self.old.members id) }
+        ensures moved { standing_in into.new.members ≡ λ id.
+            option_or (standing_in into.old.members id)
+            (option_filter (λ s. is_listed list.now.chunks.now (chunk_around s.at))
+            (standing_in self.old.members id)) }
+        ensures len { length self.new.members + count_by (λ (e : Entity).
+            is_listed list.now.chunks.now (chunk_around e.at)) self.old.members
+            ≡ length self.old.members }
+        ensures into_len { length into.new.members ≡ length into.old.members
+            + count_by (λ (e : Entity). is_listed list.now.chunks.now (chunk_around e.at))
+            self.old.members }
+        ensures spare { self.old.spare ≤ self.new.spare }
+        ensures into_spare { into.old.spare ≤ into.new.spare + count_by (λ (e : Entity).
+            is_listed list.now.chunks.now (chunk_around e.at)) self.old.members }
+    {
+        entity_list::move_listed(&mut self.walking, list, &mut into.walking);
+        entity_list::move_listed(&mut self.still, list, &mut into.still);
     }
 }
 
-/// Takes the entity out.
-pub fn take(entities: &mut Vec<Entity>, id: u32) -> Option<Entity>
-    requires { IsStrictlySortedBy by_id entities.old.items }
-    ensures entity { result ≡ option_map (entity_of id) (standing_in entities.old.items id) }
-    ensures left { standing_in entities.new.items ≡ at_id (standing_in entities.old.items) id None }
-    ensures order { IsStrictlySortedBy by_id entities.new.items }
-    ensures len { vec_len entities.new + option_len result ≡ vec_len entities.old }
-    ensures capacity { vec_capacity entities.new ≡ vec_capacity entities.old }
+/// Whether the entity has no speed.
+fn stands_still(entity: Entity) -> bool
+    ensures { result ≡ is_still (standing_of entity) }
 {
-    match place_of(entities, id) {
-        Ok(i) => Some(entities.remove(i)),
-        Err(_) => None,
-    }
-}
-
-/// Puts an entity in that is not there.
-pub fn put(entities: &mut Vec<Entity>, entity: Entity)
-    requires order { IsStrictlySortedBy by_id entities.old.items }
-    requires room { vec_len entities.old < vec_capacity entities.old }
-    requires fresh { IsNone (standing_in entities.old.items entity.id) }
-    ensures entity { standing_in entities.new.items
-        ≡ at_id (standing_in entities.old.items) entity.id (Some (standing_of entity)) }
-    ensures order { IsStrictlySortedBy by_id entities.new.items }
-    ensures len { vec_len entities.new ≡ vec_len entities.old + 1 }
-    ensures capacity { vec_capacity entities.old ≤ vec_capacity entities.new }
-{
-    match place_of(entities, entity.id) {
-        Ok(_) => unreachable!(),
-        Err(i) => match entities.insert(i, entity) {
-            Ok(()) => {}
-            Err(_) => unreachable!(),
-        },
-    }
-}
-
-/// Moves the entities that lie in the chunks of the list into another list.
-pub fn move_listed(entities: &mut Vec<Entity>, list: &ChunkList, into: &mut Vec<Entity>)
-    requires order { IsStrictlySortedBy by_id entities.old.items }
-    requires into_order { IsStrictlySortedBy by_id into.old.items }
-    requires apart { (id : ℕ)
-        → IsTrue (is_none (standing_in into.old.items id)
-        || is_none (option_filter (λ s. is_listed list.now.chunks.now (chunk_around s.at))
-        (standing_in entities.old.items id))) }
-    requires room { vec_len into.old + count_by (λ (e : Entity).
-        is_listed list.now.chunks.now (chunk_around e.at)) entities.old.items
-        ≤ vec_capacity into.old }
-    ensures left { standing_in entities.new.items ≡ λ id.
-        option_filter (λ s. not (is_listed list.now.chunks.now (chunk_around s.at)))
-        (standing_in entities.old.items id) }
-    ensures moved { standing_in into.new.items ≡ λ id.
-        option_or (standing_in into.old.items id)
-        (option_filter (λ s. is_listed list.now.chunks.now (chunk_around s.at))
-        (standing_in entities.old.items id)) }
-    ensures order { IsStrictlySortedBy by_id entities.new.items }
-    ensures into_order { IsStrictlySortedBy by_id into.new.items }
-    ensures len { vec_len entities.new + count_by (λ (e : Entity).
-        is_listed list.now.chunks.now (chunk_around e.at)) entities.old.items
-        ≡ vec_len entities.old }
-    ensures into_len { vec_len into.new ≡ vec_len into.old
-        + count_by (λ (e : Entity). is_listed list.now.chunks.now (chunk_around e.at))
-        entities.old.items }
-    ensures capacity { vec_capacity entities.old ≤ vec_capacity entities.new }
-    ensures into_capacity { vec_capacity into.old ≤ vec_capacity into.new }
-{
-    fol_keyed::move_listed(entities, list, into);
+    entity.vx == 0 && entity.vz == 0
 }

@@ -1,6 +1,6 @@
 //! Blocks and entities that a region holds.
 
-ghost use Rattle.std.specs.Prelude.{◌≡◌, ◌+◌, ◌≤◌, ◌<◌, ℕ, ◌++◌, ◌↔◌, IsTrue, IsNone, OnOk, All};
+ghost use Rattle.std.specs.Prelude.{◌≡◌, ◌+◌, ◌≤◌, ◌<◌, ℕ, ◌++◌, ◌↔◌, nat_eq, IsTrue, IsNone, IfOk, OnOk, All};
 ghost use Rattle.std.specs.Option.{option_map, option_len};
 ghost use Rattle.std.specs.List.{IsDistinct};
 ghost use Rattle.std.specs.List.Sorted.{IsStrictlySortedBy};
@@ -12,8 +12,8 @@ ghost use Rattle.fol_keyed.specs.Order.{chunk_cmp};
 ghost use Rattle.fol_chunks.specs.Rows.{by_id};
 
 use crate::blocks::Blocks;
-use crate::{entities, steps};
-use fol_keyed::{ChunkList, count_listed};
+use crate::entities::Entities;
+use fol_keyed::ChunkList;
 use fol_model::{BlockAt, BlockPos, ChunkPos, Entity};
 use std::alloc::{AllocError, Global};
 use std::marker::Model;
@@ -22,21 +22,19 @@ use std::marker::Model;
 #[derive(Drop)]
 pub struct Held {
     blocks: Blocks,
-    entities: Vec<Entity>,
+    entities: Entities,
 }
 
 impl Model for Held {
-    ghost use Rattle.std.specs.Prelude.{◌-◌, min, vec_len};
-    ghost use Rattle.std.specs.Vec.{vec_capacity};
+    ghost use Rattle.std.specs.Prelude.{min};
     ghost use Rattle.fol_chunks.specs.Contents.{Contents};
-    ghost use Rattle.fol_chunks.specs.Kept.{blocks_of, room_of};
-    ghost use Rattle.fol_chunks.specs.Held.{IsHeld};
+    ghost use Rattle.fol_chunks.specs.Kept.{blocks_of, room_of, IsKept};
 
     ghost Value = { Contents };
 
-    ghost view = { λ c. record { blocks = blocks_of c.blocks; entities = c.entities.items; spare = min (room_of c.blocks) (vec_capacity c.entities - vec_len c.entities) } };
+    ghost view = { λ c. record { blocks = blocks_of c.blocks; entities = c.entities.members; spare = min (room_of c.blocks) c.entities.spare } };
 
-    ghost invariant = { λ c. IsHeld c.blocks c.entities.items };
+    ghost invariant = { λ c. IsKept c.blocks };
 }
 
 impl Held {
@@ -49,7 +47,7 @@ impl Held {
     {
         Held {
             blocks: Blocks::new(alloc),
-            entities: Vec::new(alloc),
+            entities: Entities::new(alloc),
         }
     }
 
@@ -88,13 +86,22 @@ impl Held {
         self.blocks.add_to(list)
     }
 
-    /// The entities, by id.
-    pub fn entity_list(&self) -> &[Entity]
-        ensures items { result.now ≡ self.now.entities }
-        ensures standing { standing_in result.now ≡ (flat_of self.now).standing }
-        ensures order { IsStrictlySortedBy by_id result.now }
+    /// Adds all entities to a list, in no stated order. Fails only when out of memory.
+    pub fn add_entities_to(&self, list: &mut Vec<Entity>) -> Result<(), AllocError>
+        ensures entities { OnOk result (list.new.items ≡ list.old.items ++ self.now.entities) }
+        ensures standing { standing_in self.now.entities ≡ (flat_of self.now).standing }
+        ensures differ { IsDistinct (λ a b. nat_eq a.id b.id) self.now.entities }
     {
-        &self.entities
+        self.entities.add_to(list)
+    }
+
+    /// A list of all entities, by id. Fails only when out of memory.
+    pub fn entities_by_id(&self, alloc: Global) -> Result<Vec<Entity>, AllocError>
+        ensures standing { IfOk result (λ list.
+            standing_in list.items ≡ (flat_of self.now).standing) }
+        ensures order { IfOk result (λ list. IsStrictlySortedBy by_id list.items) }
+    {
+        self.entities.by_id(alloc)
     }
 
     /// Gives a block a number; 0 takes its number away. Needs no memory; takes some where there is.
@@ -112,7 +119,7 @@ impl Held {
     pub fn find(&self, id: u32) -> Option<BlockPos>
         ensures { result ≡ option_map (λ s. s.at) ((flat_of self.now).standing id) }
     {
-        entities::find(&self.entities, id)
+        self.entities.find(id)
     }
 
     /// Takes the entity out, where it is there.
@@ -123,7 +130,7 @@ impl Held {
         ensures size { size_of self.new + option_len result ≡ size_of self.old }
         ensures spare { self.old.spare ≤ self.new.spare }
     {
-        entities::take(&mut self.entities, id)
+        self.entities.take(id)
     }
 
     /// Puts an entity in that is not there. Takes no memory.
@@ -138,7 +145,7 @@ impl Held {
         ensures size { size_of self.new ≡ size_of self.old + 1 }
         ensures spare { self.old.spare ≤ self.new.spare + 1 }
     {
-        entities::put(&mut self.entities, e);
+        self.entities.put(e);
     }
 
     /// Moves the entities that stand in recorded chunks by their speeds, where they stay in recorded chunks. Takes no memory.
@@ -149,7 +156,7 @@ impl Held {
         ensures size { size_of self.new ≡ size_of self.old }
         ensures spare { self.old.spare ≤ self.new.spare }
     {
-        steps::step_all(&mut self.entities, chunks);
+        self.entities.step(chunks);
     }
 
     /// How many blocks and entities lie in the chunks, which stand by z, and then by x.
@@ -157,7 +164,7 @@ impl Held {
         requires { IsStrictlySortedBy chunk_cmp chunks.now }
         ensures { result ≡ size_within (is_listed chunks.now) self.now }
     {
-        let entities = count_listed(&self.entities, &ChunkList::of(chunks));
+        let entities = self.entities.count_listed(&ChunkList::of(chunks));
         (self.blocks.count_listed(chunks) + entities) as u64
     }
 
@@ -179,10 +186,7 @@ impl Held {
             ≤ into.new.spare + size_within (is_listed chunks.now) self.old }
     {
         self.blocks.move_listed(chunks, &mut into.blocks);
-        entities::move_listed(
-            &mut self.entities,
-            &ChunkList::of(chunks),
-            &mut into.entities,
-        );
+        self.entities
+            .move_listed(&ChunkList::of(chunks), &mut into.entities);
     }
 }

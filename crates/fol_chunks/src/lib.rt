@@ -5,7 +5,7 @@
 //!
 //! The crate promises that `get`, `set`, `find`, `take_entity` and `put_entity` read and change just what they name, that
 //! `step_entities` is the movement at the end of a tick, and that what is moved to another value is exactly what lies in the chunks of
-//! a list. Only `reserve` and `add_blocks_to` need memory; `set` takes some where there is. It serves the data of a region.
+//! a list. Only `reserve` and what lists blocks or entities need memory; `set` takes some where there is. It serves the data of a region.
 #![tactic(auto)]
 
 mod block_list;
@@ -13,6 +13,7 @@ mod blocks;
 mod cells;
 mod chunks;
 mod entities;
+mod entity_list;
 mod held;
 mod moves;
 mod steps;

@@ -15,9 +15,6 @@ fn step<S: ChunkSet>(entity: Entity, recorded: &S) -> Entity
     requires { All (λ c. IsTrue (is_chunk c)) (S.listed recorded.now) }
     ensures { result ≡ stepped (is_recorded (S.listed recorded.now)) entity }
 {
-    if entity.vx == 0 && entity.vz == 0 {
-        return entity;
-    }
     match (
         entity.at.x.checked_add(entity.vx),
         entity.at.z.checked_add(entity.vz),
@@ -61,7 +58,7 @@ fn has_both<S: ChunkSet>(recorded: &S, here: ChunkPos, there: ChunkPos) -> bool
     recorded.contains(here) && (here == there || recorded.contains(there))
 }
 
-/// Moves every entity, by a look-up in the recorded chunks.
+/// Moves every entity of a list, by a look-up in the recorded chunks.
 fn step_within<S: ChunkSet>(entities: &mut [Entity], recorded: &S)
     requires { All (λ c. IsTrue (is_chunk c)) (S.listed recorded.now) }
     ensures { entities.new ≡ map (stepped (is_recorded (S.listed recorded.now))) entities.old }
@@ -81,7 +78,7 @@ fn rectangle_for(entities: usize, chunks: &[ChunkPos]) -> Option<Rectangle>
     Rectangle::of(chunks)
 }
 
-/// Moves every entity.
+/// Moves every entity of a list.
 pub fn step_all(entities: &mut [Entity], chunks: &[ChunkPos])
     requires order { IsStrictlySortedBy chunk_cmp chunks.now }
     requires places { All (λ c. IsTrue (is_chunk c)) chunks.now }

@@ -45,7 +45,25 @@ fn entities_walk_within_recorded_chunks(rt: HostRuntime) -> Result<(), Fail> {
     assert_eq!(rt; chunks.find(1), Some(block(31, 0)));
     assert_eq!(rt; chunks.take_entity(1), Some(walker(1, 31, 16)));
     assert_eq!(rt; chunks.take_entity(1), None);
-    assert_eq!(rt; chunks.entity_list().len(), 0);
+    assert_eq!(rt; count_entities(rt.alloc(), &chunks)?, 0);
+    Ok(())
+}
+
+/// An entity without a speed stays while another one walks, and both are listed by id.
+#[test]
+fn entities_without_a_speed_stay(rt: HostRuntime) -> Result<(), Fail> {
+    let mut chunks = Chunks::new(rt.alloc());
+    chunks.reserve(2)?;
+    assert_eq!(rt; chunks.take_entity(2), None);
+    chunks.put_entity(walker(2, 15, 16));
+    assert_eq!(rt; chunks.take_entity(1), None);
+    chunks.put_entity(walker(1, 5, 0));
+    step(&mut chunks);
+    let list = chunks.entities_by_id(rt.alloc())?;
+    assert_eq!(rt;
+        list.as_slice(),
+        [walker(1, 5, 0), walker(2, 31, 16)].as_slice()
+    );
     Ok(())
 }
 
@@ -104,6 +122,13 @@ fn blocks_are_set_and_listed(rt: HostRuntime) -> Result<(), Fail> {
 fn count_blocks(alloc: Global, chunks: &Chunks) -> Result<usize, AllocError> {
     let mut listed = Vec::new(alloc);
     chunks.add_blocks_to(&mut listed)?;
+    Ok(listed.len())
+}
+
+/// How many entities stand.
+fn count_entities(alloc: Global, chunks: &Chunks) -> Result<usize, AllocError> {
+    let mut listed = Vec::new(alloc);
+    chunks.add_entities_to(&mut listed)?;
     Ok(listed.len())
 }
 
@@ -172,7 +197,7 @@ fn a_list_moves_with_its_chunks(rt: HostRuntime) -> Result<(), Fail> {
     chunks.move_listed(&CHUNKS, &mut into);
     assert_eq!(rt; count_blocks(rt.alloc(), &chunks)?, 0);
     assert_eq!(rt; into.get(block(20, 0)), 9);
-    assert_eq!(rt; into.entity_list().len(), 1);
+    assert_eq!(rt; count_entities(rt.alloc(), &into)?, 1);
     Ok(())
 }
 

@@ -1,4 +1,4 @@
-use Rattle.std.proofs.Common.{sym, ◌∙◌, ap}
+use Rattle.std.proofs.Common.{◌∙◌, ap}
 use Rattle.std.specs.Prelude.{sum_by}
 use Rattle.fol_chunks.specs.Cells.{blocks_in}
 use Rattle.fol_chunks.specs.Weights.{one_at}

@@ -1,17 +1,10 @@
-use Rattle.std.proofs.Common.{◌≡◌, sym, ◌∙◌, ap, rules, to_z, w32}
+use Rattle.std.proofs.Common.{◌≡◌, rules, w32}
 use Rattle.std.specs.Prelude.{◌+ℤ◌, FitsSigned}
 use Rattle.std.proofs.lemmas.Int.{to_z-of_z}
 use Rattle.fol_model.specs.FlatTick.{ahead}
 use Rattle.fol_chunks.specs.Contents.{is_recorded}
-use Rattle.fol_chunks.proofs.Movement.{step_moves, step_stands, step_stays, misfit_stays}
+use Rattle.fol_chunks.proofs.Movement.{step_moves, step_stays, misfit_stays}
 use Rattle.fol_chunks.proofs.steps.step.Goals as goal
-
-pub returns-then-entity-eq0-2 : goal.returns-then-entity-eq0-2
-returns-then-entity-eq0-2 g c =
-    let vx : FitsSigned w32 c.args.entity.vx = search rules in
-    let vz : FitsSigned w32 c.args.entity.vz = search rules in
-    step_stands (is_recorded (g.S.ChunkSet.listed c.args.recorded.now)) c.args.entity
-    (sym (to_z-of_z w32 c.args.entity.vx vx) ∙ ap (to_z w32) c.if-entity-eq0.true) (sym (to_z-of_z w32 c.args.entity.vz vz) ∙ ap (to_z w32) c.if-entity-eq0-2.true)
 
 pub returns-in-Some-Some : goal.returns-in-Some-Some
 returns-in-Some-Some g c =

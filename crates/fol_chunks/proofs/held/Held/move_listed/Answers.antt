@@ -9,12 +9,12 @@ use Rattle.fol_chunks.proofs.held.Held.move_listed.Goals as goal
 pub move_listed-requires-clause-apart : goal.move_listed-requires-clause-apart
 move_listed-requires-clause-apart c =
     let apart = rw (← c.self.view_is, ← c.into.view_is) at c.requires.apart in
-    ones_apart c.args.chunks.now (blocks_of c.into.inside.blocks) (blocks_of c.self.inside.blocks) c.into.invariant.blocks.laid.once c.self.invariant.blocks.laid.once apart.blocks c.into.invariant.blocks.laid.full c.self.invariant.blocks.laid.full
+    ones_apart c.args.chunks.now (blocks_of c.into.inside.blocks) (blocks_of c.self.inside.blocks) c.into.invariant.laid.once c.self.invariant.laid.once apart.blocks c.into.invariant.laid.full c.self.invariant.laid.full
 
 pub returns-clause-stayed : goal.returns-clause-stayed
 returns-clause-stayed c =
     rw (← c.self.view_is)
-    (flat_is _ _ (numbers_left c.args.chunks.now (blocks_of c.self.inside.blocks) (blocks_of c.move_listed.new.self) c.self.invariant.blocks.laid.once c.move_listed.ensures.kept.laid.once c.move_listed.ensures.left)
+    (flat_is _ _ (numbers_left c.args.chunks.now (blocks_of c.self.inside.blocks) (blocks_of c.move_listed.new.self) c.self.invariant.laid.once c.move_listed.ensures.kept.laid.once c.move_listed.ensures.left)
     (rw c.of.ensures at c.move_listed-2.ensures.left))
 
 pub returns-clause-moved : goal.returns-clause-moved
@@ -22,7 +22,7 @@ returns-clause-moved c =
     let apart = rw (← c.self.view_is, ← c.into.view_is) at c.requires.apart in
     rw (← c.self.view_is, ← c.into.view_is)
     (flat_is _ _
-    (numbers_joined c.args.chunks.now (blocks_of c.into.inside.blocks) (blocks_of c.self.inside.blocks) c.into.invariant.blocks.laid.once c.self.invariant.blocks.laid.once apart.blocks (blocks_of c.move_listed.new.into) c.move_listed.ensures.into_kept.laid.once c.move_listed.ensures.moved)
+    (numbers_joined c.args.chunks.now (blocks_of c.into.inside.blocks) (blocks_of c.self.inside.blocks) c.into.invariant.laid.once c.self.invariant.laid.once apart.blocks (blocks_of c.move_listed.new.into) c.move_listed.ensures.into_kept.laid.once c.move_listed.ensures.moved)
     (rw c.of.ensures at c.move_listed-2.ensures.moved))
 
 pub returns-clause-size : goal.returns-clause-size
@@ -35,8 +35,6 @@ returns-clause-size c =
       c.move_listed.ensures.left (λ x. 1),
       length_sum (blocks_of c.move_listed.new.self),
       count_split (lies_in c.args.chunks.now) (blocks_of c.self.inside.blocks),
-      c.self.inside.entities.ok,
-      c.move_listed-2.new.entities.ok,
     ))
 
 pub returns-clause-into_size : goal.returns-clause-into_size
@@ -50,6 +48,4 @@ returns-clause-into_size c =
       length_sum (blocks_of c.move_listed.new.into),
       length_sum (blocks_of c.into.inside.blocks),
       count_is (lies_in c.args.chunks.now) (blocks_of c.self.inside.blocks),
-      c.into.inside.entities.ok,
-      c.move_listed-2.new.into.ok,
     ))

@@ -10,11 +10,11 @@ use Rattle.fol_model.specs.World.{standing_in}
 use Rattle.fol_model.specs.declared.entities.Entity.{Entity}
 use Rattle.fol_keyed.specs.Members.{is_listed}
 use Rattle.fol_chunks.proofs.EntityLists.{standing_filtered, order_filtered, standing_joined, entities_untied, none_passes}
-use Rattle.fol_chunks.proofs.entities.move_listed.Goals as goal
+use Rattle.fol_chunks.proofs.entity_list.move_listed.Goals as goal
 
 pub move_listed-requires-clause-apart : goal.move_listed-requires-clause-apart
 move_listed-requires-clause-apart c =
-    entities_untied c.args.into.now.items _ c.args.into.now.items c.requires.into_order (order_filtered c.args.entities.now.items (λ e. is_listed c.args.list.now.chunks.now (chunk_of e.at)) c.requires.order)
+    entities_untied c.args.into.now.items _ c.requires.into_order (order_filtered c.args.entities.now.items (λ e. is_listed c.args.list.now.chunks.now (chunk_of e.at)) c.requires.order)
     (none_passes (λ s. is_listed c.args.list.now.chunks.now (chunk_of s.at)) c.args.into.now.items c.args.entities.now.items c.requires.order c.requires.apart)
 
 pub returns-clause-left : goal.returns-clause-left

@@ -5,7 +5,7 @@ use Rattle.std.specs.Cmp.{nat_cmp_total}
 use Rattle.fol_model.specs.declared.entities.Entity.{Entity}
 use Rattle.fol_keyed.proofs.Sorted.{searched_by}
 use Rattle.fol_keyed.proofs.Places.{nat_cmp_tells}
-use Rattle.fol_chunks.proofs.entities.place_of.Goals as goal
+use Rattle.fol_chunks.proofs.entity_list.place_of.Goals as goal
 
 pub returns : goal.returns
 returns c =

@@ -1,7 +1,7 @@
 use Rattle.std.proofs.Common.{refl}
 use Rattle.std.specs.Prelude.{pos}
 use Rattle.fol_chunks.proofs.EntityLists.{standing_at, none_stands}
-use Rattle.fol_chunks.proofs.entities.find.Goals as goal
+use Rattle.fol_chunks.proofs.entity_list.find.Goals as goal
 
 pub returns-in-Ok : goal.returns-in-Ok
 returns-in-Ok c =

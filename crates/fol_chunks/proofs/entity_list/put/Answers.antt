@@ -4,7 +4,7 @@ use Rattle.std.specs.Ordering.{nat_cmp}
 use Rattle.std.specs.declared.cmp.Ordering.TheVariants.{Less, Greater}
 use Rattle.fol_model.specs.declared.entities.Entity.{Entity}
 use Rattle.fol_chunks.proofs.EntityLists.{standing_at, standing_inserted, order_inserted}
-use Rattle.fol_chunks.proofs.entities.put.Goals as goal
+use Rattle.fol_chunks.proofs.entity_list.put.Goals as goal
 
 pub unreachable-requires : goal.unreachable-requires
 unreachable-requires c =

@@ -4,7 +4,7 @@ use Rattle.std.specs.Ordering.{nat_cmp}
 use Rattle.std.specs.declared.cmp.Ordering.TheVariants.{Less, Greater}
 use Rattle.fol_model.specs.declared.entities.Entity.{Entity}
 use Rattle.fol_chunks.proofs.EntityLists.{standing_at, none_stands, standing_removed, standing_stays, order_removed, entity_back}
-use Rattle.fol_chunks.proofs.entities.take.Goals as goal
+use Rattle.fol_chunks.proofs.entity_list.take.Goals as goal
 
 pub returns-in-Ok-clause-entity : goal.returns-in-Ok-clause-entity
 returns-in-Ok-clause-entity c =
