@@ -2,7 +2,7 @@
 use Rattle.std.proofs.Common.{◌≡◌, ℕ, ◌<◌, false, zero, suc, List, [], ◌∷◌, get_or, map, refl, ◌∙◌, ap, inl, inr, arith}
 use Rattle.std.specs.Prelude.{All, Contains, nat_eq}
 use Rattle.std.specs.List.{IsDistinct, AllByRecursion}
-use Rattle.std.specs.List.Sorted.{IsPermutation, IsStrictlySortedBy}
+use Rattle.std.specs.List.Sorted.{IsPermutation}
 use Rattle.std.specs.Option.{option_map, unwrap_or}
 use Rattle.std.proofs.lemmas.Bool.{cases_Bool, eqb-true}
 use Rattle.std.proofs.lemmas.List.Elements.{All-head, All-tail, All-nil, All-contains, Contains-get_or}
@@ -17,7 +17,7 @@ use Rattle.fol_model.specs.World.{block_in, standing_in}
 use Rattle.fol_model.specs.ActionStep.{standing_of}
 use Rattle.fol_keyed.proofs.Keyed.{Differ}
 use Rattle.fol_keyed.proofs.Places.{same_block-true, same_block-self}
-use Rattle.fol_chunks.proofs.EntityLists.{differ as entities_differ, standing_found}
+use Rattle.fol_chunks.proofs.EntityLists.{standing_found}
 use Rattle.fol_queues.proofs.Numbers.{nat_self}
 use Rattle.fol_queues.specs.Distinct.{Distinct}
 use Rattle.fol_queues.specs.Waiting.{dated_in, job_of}
@@ -39,8 +39,8 @@ at_any P (x ∷ xs) d p h (suc i) = at_any P xs d p (All-tail P x xs h) i
 
 -- nothing is listed
 nothing_listed : IsListed no_data
-unfolding IsDistinct IsStrictlySortedBy
-nothing_listed = record { contents = record { blocks_differ = tt; blocks_full = All-nil (λ (x : BlockAt). 0 < x.id); entities_order = tt }; tasks = tt }
+unfolding IsDistinct
+nothing_listed = record { contents = record { blocks_differ = tt; blocks_full = All-nil (λ (x : BlockAt). 0 < x.id); entities_differ = tt }; tasks = tt }
 
 abbrev pub block_key : BlockAt → BlockPos
 block_key x = x.at
@@ -114,8 +114,8 @@ module _ (s : Stock) (sound : IsSound s) (spots : All IsListed s.spots) (bags : 
   entities_each : (w : Where) → Differ nat_eq eqb-true nat_self entity_key (list_at s [] entities_of refl w)
   unfolding IsDistinct
   entities_each arriving = tt
-  entities_each (in_spot i) = entities_differ (entities_of (spot s i)) (spot_listed i).contents.entities_order
-  entities_each (in_bag id) = entities_differ (entities_of (slot s id).body) (bag_listed id).contents.entities_order
+  entities_each (in_spot i) = (spot_listed i).contents.entities_differ
+  entities_each (in_bag id) = (bag_listed id).contents.entities_differ
 
   entity_columns : (id : ℕ) (w : Where) → column s (of_entity id) w ≡ look nat_eq eqb-true nat_self entity_key standing_of (list_at s [] entities_of refl w) id
   entity_columns id arriving = refl

@@ -127,7 +127,7 @@ fn add_body(rows: &mut Rows, body: RegionData) -> Result<(), AllocError>
         chunks,
     } = body;
     chunks.add_blocks_to(&mut rows.blocks)?;
-    rows.entities.extend_from_slice(chunks.entity_list())?;
+    chunks.add_entities_to(&mut rows.entities)?;
     add_tasks(&mut rows.tasks, tick, queues.into_tasks())
 }
 

@@ -208,7 +208,9 @@ fn every_plain_action(rt: HostRuntime) -> Result<(), Fail> {
     assert_eq!(rt; body.chunks.get(FOREIGN), 0);
     let mut blocks = Vec::new(alloc);
     body.chunks.add_blocks_to(&mut blocks)?;
-    assert_eq!(rt; (blocks.len(), body.chunks.entity_list().len()), (2, 1));
+    let mut entities = Vec::new(alloc);
+    body.chunks.add_entities_to(&mut entities)?;
+    assert_eq!(rt; (blocks.len(), entities.len()), (2, 1));
     assert_eq!(rt; body.chunks.find(1), None);
     assert_eq!(rt; body.chunks.find(2), Some(BlockPos { x: 31, y: 64, z: 1 }));
     let wishes = tick.log.wishes.as_slice();
