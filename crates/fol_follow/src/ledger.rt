@@ -116,9 +116,8 @@ impl Ledger {
             return Ok(Visiting::Again);
         }
         reserve_entry(&mut self.history)?;
-        let here = self
-            .asks
-            .known_among(alloc, tick.body.chunks.entity_list())?;
+        let standing = tick.body.chunks.entities_by_id(alloc)?;
+        let here = self.asks.known_among(alloc, standing.as_slice())?;
         let made = self.asks.due(alloc, &here)?;
         let visits = Vec::from_slice(alloc, &made)?;
         self.made.insert((region, begun))?;

@@ -27,28 +27,28 @@ returns-then-contains-clause-recorded c =
 pub due-requires-clause-order : goal.due-requires-clause-order
 due-requires-clause-order c =
     let has : ℕ → Bool = λ id. is_some (visits_in c.self.inside.asks.counts id) in
-    rw c.deref.ensures.value (known_here c.self.inside.opening.value has c.self.invariant.0.known c.entity_list.result.now c.in_ok-here.here.items c.in_ok-here.ensures c.entity_list.ensures.order).order
+    rw c.deref.ensures.value (known_here c.self.inside.opening.value has c.self.invariant.0.known c.as_slice.result.now c.in_ok-here.here.items c.in_ok-here.ensures (rw c.as_slice.ensures.value c.in_ok-standing.ensures.order)).order
 
 -- src/ledger.rt:123:9
 pub lower-requires-clause-order : goal.lower-requires-clause-order
 lower-requires-clause-order c =
     let has : ℕ → Bool = λ id. is_some (visits_in c.self.inside.asks.counts id) in
-    rw c.deref-3.ensures.value (known_here c.self.inside.opening.value has c.self.invariant.0.known c.entity_list.result.now c.in_ok-here.here.items c.in_ok-here.ensures c.entity_list.ensures.order).order
+    rw c.deref-3.ensures.value (known_here c.self.inside.opening.value has c.self.invariant.0.known c.as_slice.result.now c.in_ok-here.here.items c.in_ok-here.ensures (rw c.as_slice.ensures.value c.in_ok-standing.ensures.order)).order
 
 -- src/ledger.rt:123:9
 pub lower-requires-clause-known : goal.lower-requires-clause-known
 lower-requires-clause-known c =
     let has : ℕ → Bool = λ id. is_some (visits_in c.self.inside.asks.counts id) in
-    let known = known_here c.self.inside.opening.value has c.self.invariant.0.known c.entity_list.result.now c.in_ok-here.here.items c.in_ok-here.ensures c.entity_list.ensures.order in
+    let known = known_here c.self.inside.opening.value has c.self.invariant.0.known c.as_slice.result.now c.in_ok-here.here.items c.in_ok-here.ensures (rw c.as_slice.ensures.value c.in_ok-standing.ensures.order) in
     rw c.deref-3.ensures.value (λ k d l. c.self.invariant.0.known (get_or c.in_ok-here.here.items k d).id ∙ known.known k d l)
 
 -- the history and the tables after the visit
-kept : (c : goal.After-of-3) → Keeps c.self.inside.opening.value c.push_reserved.new.self.items c.lower.new.self c.insert.new.self
+kept : (c : goal.After-drop-standing-2) → Keeps c.self.inside.opening.value c.push_reserved.new.self.items c.lower.new.self c.insert.new.self
 kept c =
     let h : List BookEntry = c.self.inside.history.items in
     let e : BookEntry = entry c.args.by (Visit c.args.tick.now.region c.args.tick.now.begun c.of.result c.of-2.result) in
     let has : ℕ → Bool = λ id. is_some (visits_in c.self.inside.asks.counts id) in
-    let known = known_here c.self.inside.opening.value has c.self.invariant.0.known c.entity_list.result.now c.of.result (c.of.ensures ∙ c.in_ok-here.ensures) c.entity_list.ensures.order in
+    let known = known_here c.self.inside.opening.value has c.self.invariant.0.known c.as_slice.result.now c.of.result (c.of.ensures ∙ c.in_ok-here.ensures) (rw c.as_slice.ensures.value c.in_ok-standing.ensures.order) in
     let few : length h < 2 ^ 50 = omega (arith, c.in_ok-reserve_entry.ensures.few, c.reserve_entry.new.history.ok.0, ap length c.reserve_entry.ensures.same) in
     let D : List EntityAt → Type 0 = λ xs. AreVisits (pending c.self.inside.asks) xs c.in_ok-made.made.items in
     let E : List rows.Visit → Type 0 = λ vs. AreVisits (pending c.self.inside.asks) c.of.result vs in
@@ -80,7 +80,7 @@ returns-clause-recorded c =
     let has : ℕ → Bool = λ id. is_some (visits_in c.self.inside.asks.counts id) in
     let fresh : has_visit h c.args.tick.now.region c.args.tick.now.begun ≡ false =
     sym (visited_is c.self.inside.opening.value h c.self.inside.asks c.self.inside.made c.self.invariant.0 c.args.tick.now.region c.args.tick.now.begun) ∙ sym c.contains.ensures ∙ c.if-contains.false in
-    let here = are_here c.self.inside.opening.value has c.self.invariant.0.known c.args.tick.now c.entity_list.result.now c.of.result (c.of.ensures ∙ c.in_ok-here.ensures) c.entity_list.ensures.order c.entity_list.ensures.standing in
+    let here = are_here c.self.inside.opening.value has c.self.invariant.0.known c.args.tick.now c.as_slice.result.now c.of.result (c.of.ensures ∙ c.in_ok-here.ensures) (rw c.as_slice.ensures.value c.in_ok-standing.ensures.order) (rw c.as_slice.ensures.value c.in_ok-standing.ensures.standing) in
     let same : c.of-2.result ≡ c.of-3.result = c.of-2.ensures ∙ c.in_ok-visits.ensures.items ∙ c.deref-2.ensures.value ∙ sym c.of-3.ensures in
     let grown : c.push_reserved.new.self.items ≡ h ++ entry c.args.by (Visit c.args.tick.now.region c.args.tick.now.begun c.of.result c.of-3.result) ∷ [] =
     c.push_reserved.ensures.items
