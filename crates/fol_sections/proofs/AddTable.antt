@@ -12,6 +12,7 @@ use Rattle.fol_model.specs.Universe.{all_sections, count_sections, section_cmp, 
 use Rattle.fol_laws.proofs.Distances.{self_distance}
 use Rattle.fol_laws.proofs.FloorDivision.{around_in_limits}
 use Rattle.fol_laws.proofs.SectionOrder.{section_rows_are, section_members, square_members, square_sorted}
+use Rattle.fol_pages.proofs.PagePlaces.{page_near}
 use Rattle.fol_sections.specs.declared.answers.Added.TheVariants.{Counted, Filled, Full}
 use Rattle.fol_sections.specs.Pages.{InNine, counts_at, is_here, page_of}
 use Rattle.fol_sections.specs.declared.pages.Counts.{Counts}
@@ -19,7 +20,6 @@ use Rattle.fol_sections.specs.declared.pages.Page.{Page}
 use Rattle.fol_sections.specs.Table.{added, is_full_for, is_missing, missing_count, present_count}
 use Rattle.fol_sections.specs.Kept.{IsKept}
 use Rattle.fol_sections.proofs.Margins.{section_near}
-use Rattle.fol_sections.proofs.PageSteps.{page_near}
 use Rattle.fol_sections.proofs.SquareRows.{rising_distinct}
 use Rattle.fol_sections.proofs.Tables.{table, table-presence}
 

@@ -10,7 +10,7 @@ use Rattle.fol_sections.specs.Pages.{chunks_at}
 use Rattle.fol_sections.specs.Rows.{chunk_at, rows_of}
 use Rattle.fol_sections.specs.declared.pages.Page.{Page}
 use Rattle.fol_sections.proofs.Lengths.{length-rows}
-use Rattle.fol_sections.proofs.Quotients.{area_few, side_some}
+use Rattle.fol_sections.proofs.Products.{area_few, side_some}
 use Rattle.fol_sections.proofs.SectionChunks.{section_chunks}
 
 pub chunks_few : (grid : Grid) (holds : List ((ℤ × ℤ) × ℕ)) (pages : List ((ℤ × ℤ) × Page)) (count : ℕ) (s : SectionPos) → IsKept grid holds pages count → chunks_at pages s ≤ 1024

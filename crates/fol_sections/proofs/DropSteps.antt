@@ -13,6 +13,7 @@ use Rattle.fol_model.specs.Geometry.{is_among, same_section}
 use Rattle.fol_laws.proofs.Coordinates.{count_by-append}
 use Rattle.fol_laws.proofs.ListCounts.{count_by-cons}
 use Rattle.fol_laws.proofs.SamePlaces.{same_section-true, same_section-self}
+use Rattle.fol_pages.proofs.PagePlaces.{place_few, place_tells, same_self}
 use Rattle.fol_sections.specs.Pages.{HasSection, IsOnPage, counts_at, counts_on, near_at, near_on, no_counts, page_at, page_of, place_of}
 use Rattle.fol_sections.specs.Places.{is_same}
 use Rattle.fol_sections.specs.declared.pages.Counts.{Counts}
@@ -21,7 +22,7 @@ use Rattle.fol_sections.proofs.Margins.{count-like}
 use Rattle.fol_sections.proofs.NumberSteps.{all_among}
 use Rattle.fol_sections.proofs.PageRuns.{after_off, after_on, before_near, before_on, off_page, on_page}
 use Rattle.fol_sections.proofs.PageStretches.{filter_stretch, near_nowhere}
-use Rattle.fol_sections.proofs.PageSteps.{nobody_in, place_few, place_tells, same_self}
+use Rattle.fol_sections.proofs.PageSteps.{nobody_in}
 use Rattle.fol_sections.proofs.UsedPages.{used-busy}
 
 -- ---- what is kept of a section that may leave

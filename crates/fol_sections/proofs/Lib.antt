@@ -9,7 +9,7 @@ pub mod Bounds
 pub mod AddTable
 pub mod DeadSteps
 pub mod Rows
-pub mod Quotients
+pub mod Products
 pub mod SectionChunks
 pub mod PageSteps
 pub mod SquareRows

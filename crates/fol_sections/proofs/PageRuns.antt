@@ -6,10 +6,12 @@ use Rattle.std.specs.List.{count_by, filter}
 use Rattle.std.specs.Option.{option_and_then, unwrap_or}
 use Rattle.std.proofs.lemmas.Bool.{cases_Bool, cases_eq, cases_lt, true≢false}
 use Rattle.std.proofs.lemmas.List.{get_or-set_same, get_or-set_other}
-use borrow.Author.Differences.{ints}
 use Rattle.fol_model.specs.declared.places.SectionPos.{SectionPos}
 use Rattle.fol_model.specs.Geometry.{same_section}
 use Rattle.fol_laws.proofs.SamePlaces.{same_section-true, same_section-self}
+use Rattle.fol_pages.proofs.PageChanges.{pages-same}
+use Rattle.fol_pages.proofs.PagePlaces.{place_few, place_tells, same_place, same_self}
+use Rattle.fol_pages.proofs.PageRuns.{run_end, run_page}
 use Rattle.fol_sections.specs.Pages.{AllUsed, IsOnPage, KeepsOthers, chunks_at, counts_at, counts_on, has_page, is_here, near_at, near_on, no_counts, page_at, page_of, place_of}
 use Rattle.fol_sections.specs.Places.{is_same}
 use Rattle.fol_sections.specs.Rows.{row_of, section_at}
@@ -17,26 +19,13 @@ use Rattle.fol_sections.specs.Turns.{fall, rise}
 use Rattle.fol_sections.specs.declared.pages.Counts.{Counts}
 use Rattle.fol_sections.specs.declared.pages.Page.{Page}
 use Rattle.fol_sections.specs.declared.turns.Turn.{Turn}
-use Rattle.fol_sections.proofs.PageSteps.{here-page, in_page, pages-same, place_few, place_tells, same_place, same_self}
-use Rattle.fol_sections.proofs.Quotients.{quotient_of_row}
+use Rattle.fol_sections.proofs.PageSteps.{here-page}
 use Rattle.fol_sections.proofs.Rows.{count_more, filter_no, filter_yes, row-none}
 use Rattle.fol_sections.proofs.TurnSteps.{fall_none, rise_none}
 
--- a section of the run lies in the page, at the next place
-module _ (s : SectionPos) (len : ℕ) (run : nat_abs (int_rem_euclid s.x (pos 8)) + len ≤ 8) (i : ℕ) (l : i < len) where
-  pub run_page : page_of (s.x +ℤ pos i) ≡ page_of s.x
-  run_page = let a = in_page s.x in quotient_of_row (s.x +ℤ pos i) (page_of s.x) 8 (nat_abs (int_rem_euclid s.x (pos 8)) + i) (omega arith) (omega (arith, ints, a.0))
-
-  pub run_place : place_of (section_at (s.x +ℤ pos i) s.z) ≡ place_of s + i
-  unfolding place_of
-  run_place =
-      let a = in_page s.x in
-      let b = rw run_page at (in_page (s.x +ℤ pos i)).0 in
-      let r : nat_abs (int_rem_euclid (s.x +ℤ pos i) (pos 8)) ≡ nat_abs (int_rem_euclid s.x (pos 8)) + i = omega (arith, ints, a.0, b) in
-      omega (arith, r)
-
-  pub run_few : place_of s + i < 64
-  run_few = let a = place_few (section_at (s.x +ℤ pos i) s.z) in omega (arith, run_place, a)
+-- a section of the run has a place in the page
+pub run_few : (s : SectionPos) (len : ℕ) → nat_abs (int_rem_euclid s.x (pos 8)) + len ≤ 8 → (i : ℕ) → i < len → place_of s + i < 64
+run_few s len run i l = omega (arith, run_end s len run, l)
 
 -- tests that agree on a row keep the same of it
 pub filter_row : (p q : SectionPos → Bool) (x z : ℤ) (n : ℕ) → ((i : ℕ) → i < n → p (section_at (x +ℤ pos i) z) ≡ q (section_at (x +ℤ pos i) z))

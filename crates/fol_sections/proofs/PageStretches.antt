@@ -1,17 +1,34 @@
 -- Stretches of a list of sections that lie in one page.
-use Rattle.std.proofs.Common.{◌≡◌, ℕ, ◌+◌, ◌≤◌, sym, ◌∙◌, ap, refl, arith, Bool, false, not, List, ◌++◌, length, append_assoc, length-append}
-use Rattle.std.specs.Prelude.{ℤ, Some, None, is_some}
+use Rattle.std.proofs.Common.{◌≡◌, ℕ, ◌+◌, ◌<◌, ◌≤◌, sym, ◌∙◌, ap, refl, arith, Bool, true, false, not, List, ◌++◌, length, get_or, take, append_assoc, length-append}
+use Rattle.std.specs.Prelude.{ℤ, pos, Some, None, is_some}
 use Rattle.std.specs.List.{All, filter}
 use Rattle.std.specs.Option.{option_and_then, unwrap_or}
 use Rattle.std.proofs.lemmas.List.Elements.{filter-append}
 use Rattle.std.proofs.lemmas.List.Filters.{length-filter_both}
+use Rattle.std.proofs.lemmas.List.Folds.{list_any_at}
 use Rattle.fol_model.specs.declared.places.SectionPos.{SectionPos}
+use Rattle.fol_model.specs.Geometry.{is_among, same_section}
+use Rattle.fol_laws.proofs.SamePlaces.{same_section-self}
+use Rattle.fol_pages.specs.Pages.{InOnePage}
 use Rattle.fol_sections.specs.Pages.{IsOnPage, counts_at, counts_on, near_at, near_on, no_counts, page_at, page_of}
 use Rattle.fol_sections.specs.declared.pages.Page.{Page}
 use Rattle.fol_sections.proofs.DeadSteps.{filter-like}
 use Rattle.fol_sections.proofs.NumberSteps.{all_among}
 use Rattle.fol_sections.proofs.PageRuns.{before_near, same_page}
 use Rattle.fol_sections.proofs.PageSteps.{none_there}
+
+abbrev origin : SectionPos
+origin = record { x = pos 0; z = pos 0 }
+
+-- the sections at the head of a list that lie in one page lie in the page of the first
+pub stretch_on : (rest part : List SectionPos) (n : ℕ) → part ≡ take n rest → 0 < length part → InOnePage (take n rest) → All (IsOnPage (get_or part 0 origin)) part
+stretch_on rest part n is some one = on part some (rw (← is) at one)
+  where
+    on : (xs : List SectionPos) → 0 < length xs → InOnePage xs → All (IsOnPage (get_or xs 0 origin)) xs
+    on xs some one i d l = one (get_or xs 0 origin) (get_or xs i d) (listed 0 origin some) (listed i d l)
+      where
+        listed : (i : ℕ) (d : SectionPos) → i < length xs → is_among xs (get_or xs i d) ≡ true
+        listed i d l = list_any_at (same_section (get_or xs i d)) xs i d l (same_section-self (get_or xs i d))
 
 module _ (entries : List ((ℤ × ℤ) × Page)) (first q : SectionPos) (on : IsOnPage first q) where
   -- what is near a section that lies in a page that is there

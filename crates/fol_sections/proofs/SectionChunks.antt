@@ -18,8 +18,8 @@ use Rattle.fol_laws.proofs.ChunkOrder.{chunk_rows_are}
 use Rattle.fol_laws.proofs.OrderSteps.{less, equal_self}
 use Rattle.fol_laws.proofs.SamePlaces.{same_chunk-true, same_chunk-self, same_section-true, same_section-self}
 use Rattle.fol_laws.proofs.SortedRows.{plane_sorted, in_row, in_rows, in_row_gives, in_rows_gives}
+use Rattle.fol_pages.proofs.Quotients.{in_row_of_quotient, quotient_of_row}
 use Rattle.fol_sections.specs.Rows.{chunk_at, rows_of}
-use Rattle.fol_sections.proofs.Quotients.{in_row_of_quotient, quotient_of_row}
 
 same_row : (z x y : ℤ) → x <ℤ y → chunk_cmp (chunk_at x z) (chunk_at y z) ≡ Less
 unfolding chunk_cmp

@@ -1,20 +1,18 @@
 -- Each page has a present section, over the changes of pages.
-use Rattle.std.proofs.Common.{◌≡◌, ℕ, suc, ◌<◌, ◌/◌, ◌%◌, refl, sym, ◌∙◌, ap, arith, Bool, true, false, cond, not, ◌||◌, inl, inr, List, [], ◌∷◌, length}
-use Rattle.std.specs.Prelude.{ℤ, pos, ◌+ℤ◌, ◌*ℤ◌, nat_abs, Option, Some, None, is_some, slice_index_or}
-use Rattle.std.specs.Int.{int_rem_euclid}
+use Rattle.std.proofs.Common.{◌≡◌, ℕ, suc, ◌<◌, refl, sym, ◌∙◌, ap, arith, Bool, true, false, cond, not, ◌||◌, inl, inr, List, [], ◌∷◌, length}
+use Rattle.std.specs.Prelude.{ℤ, Option, Some, None, is_some, slice_index_or}
 use Rattle.std.specs.List.{list_all}
 use Rattle.std.specs.Option.{option_and_then}
 use Rattle.std.proofs.lemmas.Bool.{cases_Bool, or_cases, true≢false}
-use borrow.Author.Differences.{ints}
 use Rattle.fol_model.specs.declared.places.SectionPos.{SectionPos}
 use Rattle.fol_model.specs.Geometry.{same_section}
 use Rattle.fol_laws.proofs.SamePlaces.{same_section-self}
-use Rattle.fol_sections.specs.Pages.{AllUsed, HasSection, IsOnPage, counts_at, counts_on, has_page, is_here, page_at, page_of, place_of}
+use Rattle.fol_pages.proofs.PagePlaces.{same_place, at_place}
+use Rattle.fol_sections.specs.Pages.{AllUsed, HasSection, IsOnPage, counts_at, counts_on, has_page, is_here, page_at, page_of}
 use Rattle.fol_sections.specs.Places.{is_same}
 use Rattle.fol_sections.specs.declared.pages.Counts.{Counts}
 use Rattle.fol_sections.specs.declared.pages.Page.{Page}
-use Rattle.fol_sections.proofs.PageSteps.{in_page, page_self, same_place}
-use Rattle.fol_sections.proofs.Quotients.{quotient_of_row}
+use Rattle.fol_sections.proofs.PageSteps.{page_self}
 
 -- ---- a section that comes or changes
 module _ (before after : List ((ℤ × ℤ) × Page)) (s : SectionPos) (counts : Counts)
@@ -63,19 +61,6 @@ some_in [] h = absurd (true≢false h)
 some_in (Some x ∷ xs) h = (0, omega arith, refl)
 some_in (None ∷ xs) h = let r = some_in xs h in (suc r.0, omega (arith, r.1), r.2)
 
--- the section at a place of a page
-at_place : (x z : ℤ) (k : ℕ) → k < 64 → (s : SectionPos) × (page_of s.x ≡ x) × (page_of s.z ≡ z) × (place_of s ≡ k)
-unfolding place_of
-at_place x z k l =
-    let s : SectionPos = record { x = (x *ℤ pos 8) +ℤ pos (k % 8); z = (z *ℤ pos 8) +ℤ pos (k / 8) } in
-    let px : page_of s.x ≡ x = quotient_of_row s.x x 8 (k % 8) (omega arith) refl in
-    let pz : page_of s.z ≡ z = quotient_of_row s.z z 8 (k / 8) (omega arith) refl in
-    let ix = rw px at (in_page s.x).0 in
-    let iz = rw pz at (in_page s.z).0 in
-    let rx : nat_abs (int_rem_euclid s.x (pos 8)) ≡ k % 8 = omega (arith, ints, ix) in
-    let rz : nat_abs (int_rem_euclid s.z (pos 8)) ≡ k / 8 = omega (arith, ints, iz) in
-    (s, px, pz, omega (arith, rx, rz))
-
 pub used-busy : (entries : List ((ℤ × ℤ) × Page)) (x z : ℤ) (p : Page) → page_at entries x z ≡ Some p → length p.sections ≡ 64 → list_all (λ counts. not (is_some counts)) p.sections ≡ false → HasSection entries x z
 unfolding is_here counts_at
 used-busy entries x z p is n busy =
@@ -83,17 +68,3 @@ used-busy entries x z p is n busy =
     let w = at_place x z k.0 (omega (arith, k.1, n)) in
     let found : page_at entries (page_of (w.0).x) (page_of (w.0).z) ≡ Some p = (λ i. page_at entries (w.1 i) (w.2 i)) ∙ is in
     (w.0, w.1, w.2, ap (λ o. is_some (option_and_then (λ p. counts_on p w.0) o)) found ∙ ap (λ m. is_some (slice_index_or p.sections m None)) w.3 ∙ k.2)
-
--- ---- a page that left
-module _ (before after : List ((ℤ × ℤ) × Page)) (x z : ℤ) (step : (a b : ℤ) → page_at after a b ≡ cond (is_same x z a b) None (page_at before a b)) where
-  pub pages-less : (a b : ℤ) → has_page after a b ≡ true → has_page before a b ≡ true
-  unfolding has_page
-  pages-less a b h = less (is_same x z a b) (page_at before a b) (sym (ap is_some (step a b)) ∙ h)
-    where
-      less : (e : Bool) (o : Option Page) → is_some (cond e None o) ≡ true → is_some o ≡ true
-      less true o h = absurd (true≢false (sym h))
-      less false o h = h
-
-  pub page-gone : is_same x z x z ≡ true → has_page after x z ≡ false
-  unfolding has_page
-  page-gone e = ap is_some (step x z) ∙ ap (λ b. is_some (cond b None (page_at before x z))) e

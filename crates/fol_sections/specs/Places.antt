@@ -1,13 +1,10 @@
 -- Numbers by place.
-use Rattle.std.specs.Prelude.{ℕ, ℤ, Bool, ◌&&◌, Option, List}
+use Rattle.std.specs.Prelude.{ℕ, ℤ, ◌&&◌, Option, List}
 use Rattle.std.specs.Map.{lookup}
 use Rattle.std.specs.Option.{unwrap_or}
 use Rattle.std.specs.Ordering.{int_eq}
 use Rattle.fol_model.specs.declared.places.ChunkPos.{ChunkPos}
-
--- the two places are one
-unfoldable pub is_same : ℤ → ℤ → ℤ → ℤ → Bool
-is_same x z a b = int_eq x a && int_eq z b
+unfoldable pub use Rattle.fol_pages.specs.Pages.{is_same}
 
 -- the number at a place, if it has one
 unfoldable pub number_at : List ((ℤ × ℤ) × ℕ) → ℤ → ℤ → Option ℕ

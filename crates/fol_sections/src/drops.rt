@@ -7,9 +7,9 @@ ghost use Rattle.fol_model.specs.declared.places.SectionPos.{SectionPos};
 ghost use Rattle.fol_model.specs.Geometry.{is_among};
 ghost use Rattle.fol_sections.specs.Pages.{AllUsed, HasSection, IsOnPage, counts_at, counts_on, has_page, near_at, near_on, page_of as page};
 
-use crate::pages::{Page, Pages, is_empty, near_in, page_of, place_of};
-use crate::stretches::stretch;
+use crate::pages::{Page, Pages, is_empty, near_in};
 use fol_model::SectionPos;
+use fol_pages::{page_of, place_of, stretch_len};
 
 /// Takes those sections of a list out of their page near which no section holds a loaded chunk, and returns how many they are.
 fn clear_on(page: &mut Page, part: &[SectionPos]) -> usize
@@ -81,9 +81,9 @@ pub fn drop_list(pages: &mut Pages, list: &[SectionPos]) -> usize
 {
     let mut dead = 0;
     let mut rest = list;
-    while let Some((first, others)) = rest.split_first() {
-        let (part, after) = rest.split_at(1 + stretch(*first, others));
-        dead += drop_stretch(pages, *first, part);
+    while !rest.is_empty() {
+        let (part, after) = rest.split_at(stretch_len(rest));
+        dead += drop_stretch(pages, part[0], part);
         rest = after;
     }
     dead

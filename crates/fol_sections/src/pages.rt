@@ -5,10 +5,11 @@ ghost use Rattle.std.specs.List.{list_all};
 ghost use Rattle.std.specs.HashMap.{spare};
 ghost use Rattle.fol_model.specs.declared.places.SectionPos.{SectionPos};
 ghost use Rattle.fol_model.specs.Geometry.{same_section};
-ghost use Rattle.fol_sections.specs.Pages.{AllUsed, HasSection, counts_at, has_page, is_here, chunks_at, counts_on, near_at, near_on, page_of as page, place_of as place};
+ghost use Rattle.fol_sections.specs.Pages.{AllUsed, HasSection, counts_at, has_page, is_here, chunks_at, counts_on, near_at, near_on, page_of as page};
 ghost use Rattle.fol_sections.specs.Places.{is_same};
 
 use fol_model::SectionPos;
+use fol_pages::{page_of, place_of};
 use std::collections::HashMap;
 
 /// What is kept of a present section.
@@ -28,21 +29,6 @@ pub struct Page {
 
 /// Pages by their column and row.
 pub type Pages = HashMap<(i32, i32), Page>;
-
-/// The column and the row of a section's page.
-pub fn page_of(s: SectionPos) -> (i32, i32)
-    ensures { result ≡ (page s.x, page s.z) }
-{
-    (s.x.div_euclid(8), s.z.div_euclid(8))
-}
-
-/// The place of a section in its page.
-pub fn place_of(s: SectionPos) -> usize
-    ensures value { result ≡ place s }
-    ensures few { result < 64 }
-{
-    (8 * s.z.rem_euclid(8) + s.x.rem_euclid(8)) as usize
-}
 
 /// A page with no present section.
 pub fn empty_page() -> Page

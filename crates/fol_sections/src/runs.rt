@@ -12,19 +12,11 @@ ghost use Rattle.fol_sections.specs.Rows.{row_of, section_at};
 ghost use Rattle.fol_sections.specs.Turns.{fall, rise};
 ghost use Rattle.fol_sections.specs.Wanted.{is_wanted};
 
-use crate::pages::{Counts, Page, Pages, empty_page, page_of, place_of};
+use crate::pages::{Counts, Page, Pages, empty_page};
 use crate::squares::{Wanted, is_wanted};
 use crate::turns::{Turn, turned};
 use fol_model::SectionPos;
-
-/// How many sections from a column on lie in one page, of at most `most`.
-pub fn run_len(x: i32, most: u32) -> u32
-    ensures few { result ≤ most }
-    ensures some { 0 < most → 0 < result }
-    ensures within { nat_abs (int_rem_euclid x (pos 8)) + result ≤ 8 }
-{
-    most.min(8 - x.rem_euclid(8) as u32)
-}
+use fol_pages::{page_of, place_of};
 
 /// The section that many columns behind another one.
 fn behind(s: SectionPos, columns: u32) -> SectionPos

@@ -21,15 +21,13 @@ use crate::stretches::split_list;
 use crate::turns::{Turn, turn_square, turned};
 use crate::{Added, Removed};
 use fol_model::{ChunkPos, Grid, MOST_SECTIONS, SectionPos, section_of};
+use fol_pages::NEAR_PAGES;
 use std::alloc::{AllocError, Global};
 use std::collections::HashMap;
 use std::marker::Model;
 
 /// The most sections within a create radius of a section, which is at most 8.
 const AREA: usize = 289;
-
-/// The most pages that sections within a create radius of a section are in.
-const NEAR_PAGES: usize = 9;
 
 /// Which chunks are held, how often, and which sections are present.
 ///

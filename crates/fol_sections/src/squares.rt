@@ -9,8 +9,9 @@ ghost use Rattle.fol_sections.specs.Rows.{row_of, section_at};
 ghost use Rattle.fol_sections.specs.Wanted.{is_wanted};
 
 use crate::pages::{Counts, Pages};
-use crate::runs::{find_run, run_len};
+use crate::runs::find_run;
 use fol_model::{SectionPos, beside, corner};
+use fol_pages::run_len;
 
 /// Which sections of a square are looked for.
 #[derive(Clone, Copy, Debug, PartialEq, Eq)]

@@ -1,26 +1,13 @@
 //! Stretches of a list of sections that lie in one page, for which the page is looked up once.
 
-ghost use Rattle.std.specs.Prelude.{◌≡◌, ◌+◌, ◌≤◌, ◌++◌, filter, length, nat_eq, nat_lt, take};
+ghost use Rattle.std.specs.Prelude.{◌≡◌, ◌+◌, ◌≤◌, ◌++◌, filter, length, nat_eq, nat_lt};
 ghost use Rattle.std.specs.List.{All};
 ghost use Rattle.std.specs.Vec.{vec_capacity};
 ghost use Rattle.fol_sections.specs.Pages.{IsOnPage, near_at, near_on};
 
-use crate::pages::{Page, Pages, empty_page, near_in, page_of};
+use crate::pages::{Page, Pages, empty_page, near_in};
 use fol_model::SectionPos;
-
-/// How many sections at the head of a list lie in the page of a section.
-pub fn stretch(first: SectionPos, list: &[SectionPos]) -> usize
-    ensures few { result ≤ length list.now }
-    ensures page { All (IsOnPage first) (take result list.now) }
-{
-    let key = page_of(first);
-    for i in 0..list.len() {
-        if page_of(list[i]) != key {
-            return i;
-        }
-    }
-    list.len()
-}
+use fol_pages::{page_of, stretch_len};
 
 /// Adds those sections of a list to one list near which no section of their page holds a loaded chunk, and the others to another.
 fn split_on(
@@ -89,9 +76,9 @@ pub fn split_list(
     ensures dead_room { vec_capacity dead.new ≡ vec_capacity dead.old }
 {
     let mut rest = list;
-    while let Some((first, others)) = rest.split_first() {
-        let (part, after) = rest.split_at(1 + stretch(*first, others));
-        split_stretch(pages, *first, part, living, dead);
+    while !rest.is_empty() {
+        let (part, after) = rest.split_at(stretch_len(rest));
+        split_stretch(pages, part[0], part, living, dead);
         rest = after;
     }
 }

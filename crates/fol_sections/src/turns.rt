@@ -10,8 +10,9 @@ ghost use Rattle.fol_sections.specs.Rows.{row_of, section_at};
 ghost use Rattle.fol_sections.specs.Turns.{fall, rise};
 
 use crate::pages::Pages;
-use crate::runs::{run_len, turn_run};
+use crate::runs::turn_run;
 use fol_model::{SectionPos, beside, corner};
+use fol_pages::run_len;
 
 /// What became of a section.
 #[derive(Clone, Copy, Debug, PartialEq, Eq)]

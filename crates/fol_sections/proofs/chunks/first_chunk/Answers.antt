@@ -1,4 +1,4 @@
-use Rattle.fol_sections.proofs.Quotients.{product_fits, product_is}
+use Rattle.fol_sections.proofs.Products.{product_fits, product_is}
 use Rattle.fol_sections.proofs.chunks.first_chunk.Goals as goal
 
 pub overflow_mul-result : goal.overflow_mul-result

@@ -1,4 +1,4 @@
-use Rattle.fol_sections.proofs.Quotients.{row_few}
+use Rattle.fol_sections.proofs.Products.{row_few}
 use Rattle.fol_sections.proofs.chunks.side_of.Goals as goal
 
 pub returns-clause-few : goal.returns-clause-few

@@ -2,10 +2,10 @@ use Rattle.std.proofs.Common.{◌≡◌, sym, ◌∙◌, ap, rules}
 use Rattle.std.specs.Prelude.{is_some, nat_eq}
 use Rattle.std.specs.Option.{option_copied_mut}
 use Rattle.std.proofs.lemmas.Bool.{true≢false}
+use Rattle.fol_pages.proofs.PageChanges.{pages-same}
 use Rattle.fol_sections.specs.Pages.{near_at, near_on, has_page, page_at, page_of}
 use Rattle.fol_sections.specs.Places.{is_same}
 use Rattle.fol_sections.proofs.DropSteps.{all_dead, count_stretch, out_of_none, out_of_page, page_busy, page_empty}
-use Rattle.fol_sections.proofs.PageSteps.{pages-same}
 use Rattle.fol_sections.proofs.PageStretches.{near_there}
 use Rattle.fol_sections.proofs.drops.clear_stretch.Goals as goal
 

@@ -6,8 +6,8 @@ use Rattle.fol_model.specs.Geometry.{is_among}
 use Rattle.fol_sections.specs.Pages.{AllUsed, counts_at, near_at}
 use Rattle.fol_sections.proofs.drops.drop_list.Given as goal
 
-abbrev pub invariant-loop-first : goal.invariant-loop-first
-invariant-loop-first l = record {
+abbrev pub invariant-loop-rest : goal.invariant-loop-rest
+invariant-loop-rest l = record {
   dead : l.dead + count_by (λ s. nat_eq (near_at l.initial.pages.entries s) 0) l.rest ≡ count_by (λ s. nat_eq (near_at l.initial.pages.entries s) 0) l.fn.list;
   near : (q : SectionPos) → near_at l.pages.entries q ≡ near_at l.initial.pages.entries q;
   out : (q : SectionPos) → cond (is_among l.rest q && nat_eq (near_at l.pages.entries q) 0) None (counts_at l.pages.entries q)
@@ -16,5 +16,5 @@ invariant-loop-first l = record {
   used : AllUsed l.initial.pages.entries → AllUsed l.pages.entries;
 }
 
-abbrev pub decreases-loop-first : goal.decreases-loop-first
-decreases-loop-first l = length l.rest
+abbrev pub decreases-loop-rest : goal.decreases-loop-rest
+decreases-loop-rest l = length l.rest

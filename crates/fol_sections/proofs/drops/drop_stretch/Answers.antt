@@ -2,11 +2,12 @@ use Rattle.std.proofs.Common.{sym, ◌∙◌, ◌&&◌}
 use Rattle.std.specs.Prelude.{nat_eq}
 use Rattle.std.proofs.lemmas.Bool.{and_parts, true≢false}
 use Rattle.fol_model.specs.Geometry.{is_among}
+use Rattle.fol_pages.proofs.PageChanges.{page-gone, pages-less}
 use Rattle.fol_sections.specs.Pages.{IsOnPage, near_at, page_at, page_of}
 use Rattle.fol_sections.specs.Places.{is_same}
 use Rattle.fol_sections.proofs.NumberSteps.{all_among}
-use Rattle.fol_sections.proofs.PageSteps.{counts-gone, same_self}
-use Rattle.fol_sections.proofs.UsedPages.{page-gone, pages-less, used-out}
+use Rattle.fol_sections.proofs.PageSteps.{counts-gone}
+use Rattle.fol_sections.proofs.UsedPages.{used-out}
 use Rattle.fol_sections.proofs.drops.drop_stretch.Goals as goal
 
 pub returns-then-is_done-clause-out : goal.returns-then-is_done-clause-out
@@ -29,7 +30,7 @@ returns-then-is_done-clause-used c =
     used-out first _ c.args.first (λ q. is_among part q && nat_eq (near_at first q) 0) (λ q h. all_among (IsOnPage c.args.first) part q c.requires.page (and_parts (is_among part q) (nat_eq (near_at first q) 0) h).0)
     (λ q. counts-gone cleared _ x z (c.clear_stretch-dead.ensures.empty c.if-is_done.true) (λ a b. updates.0 (a, b)) q ∙ c.clear_stretch-dead.ensures.out q)
     (λ a b h. sym (c.clear_stretch-dead.ensures.pages a b) ∙ pages-less cleared _ x z (λ a b. updates.0 (a, b)) a b h)
-    (λ h. absurd (true≢false (sym h ∙ page-gone cleared _ x z (λ a b. updates.0 (a, b)) (same_self x z))))
+    (λ h. absurd (true≢false (sym h ∙ page-gone cleared _ x z (λ a b. updates.0 (a, b)))))
 
 -- it has a present section left
 pub returns-else-is_done-clause-used : goal.returns-else-is_done-clause-used

@@ -2,10 +2,11 @@ use Rattle.std.proofs.Common.{sym, ◌∙◌, ap, arith, replicate}
 use Rattle.std.specs.Prelude.{None, Some}
 use Rattle.std.specs.Option.{option_and_then}
 use Rattle.std.proofs.lemmas.Result.{IfOk-at_ok}
+use Rattle.fol_pages.proofs.PageChanges.{pages-more}
 use Rattle.fol_sections.specs.Pages.{counts_on, has_page, page_at, page_of, place_of}
 use Rattle.fol_sections.specs.Places.{is_same}
 use Rattle.fol_sections.specs.declared.pages.Page.{Page}
-use Rattle.fol_sections.proofs.PageSteps.{counts-written, in_blank, pages-more, none_there}
+use Rattle.fol_sections.proofs.PageSteps.{counts-written, in_blank, none_there}
 use Rattle.fol_sections.proofs.Results.{ok_value}
 use Rattle.fol_sections.proofs.pages.add_page.Goals as goal
 

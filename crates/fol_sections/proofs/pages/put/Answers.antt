@@ -1,6 +1,6 @@
 use Rattle.std.proofs.Common.{◌≡◌, sym, ◌∙◌, true, false}
+use Rattle.fol_pages.proofs.PageChanges.{page-there}
 use Rattle.fol_sections.specs.Pages.{has_page, page_at, page_of}
-use Rattle.fol_sections.proofs.PageSteps.{page-there}
 use Rattle.fol_sections.proofs.UsedPages.{used-change, used-put}
 use Rattle.fol_sections.proofs.pages.put.Goals as goal
 

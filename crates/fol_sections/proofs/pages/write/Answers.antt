@@ -2,9 +2,10 @@ use Rattle.std.proofs.Common.{◌≡◌, sym, ◌∙◌, ap, rules, arith, lengt
 use Rattle.std.specs.Prelude.{is_some, slice_set}
 use Rattle.std.specs.Option.{option_and_then, option_copied_mut}
 use Rattle.std.proofs.lemmas.Bool.{true≢false}
+use Rattle.fol_pages.proofs.PageChanges.{pages-same}
 use Rattle.fol_sections.specs.Pages.{counts_on, has_page, page_at, page_of}
 use Rattle.fol_sections.specs.Places.{is_same}
-use Rattle.fol_sections.proofs.PageSteps.{counts-written, pages-same}
+use Rattle.fol_sections.proofs.PageSteps.{counts-written}
 use Rattle.fol_sections.proofs.pages.write.Goals as goal
 
 pub returns-in-Some-clause-put : goal.returns-in-Some-clause-put

@@ -2,10 +2,11 @@ use Rattle.std.proofs.Common.{◌≡◌, ◌+◌, sym, ◌∙◌, ap, arith, tru
 use Rattle.std.specs.Prelude.{None, pos, slice_index_or, ◌+ℤ◌}
 use Rattle.std.specs.List.{filter}
 use Rattle.fol_model.specs.declared.places.SectionPos.{SectionPos}
+use Rattle.fol_pages.proofs.PageRuns.{run_place}
 use Rattle.fol_sections.specs.Pages.{counts_on}
 use Rattle.fol_sections.specs.Rows.{row_of, section_at}
 use Rattle.fol_sections.specs.Wanted.{is_wanted}
-use Rattle.fol_sections.proofs.PageRuns.{run_few, run_place}
+use Rattle.fol_sections.proofs.PageRuns.{run_few}
 use Rattle.fol_sections.proofs.Rows.{row-none, filter_yes, filter_no, append-none}
 use Rattle.fol_sections.proofs.runs.find_on.Goals as goal
 use Rattle.fol_sections.proofs.runs.find_on.Goals.{then-is_wanted, else-is_wanted}

@@ -1,10 +1,11 @@
 use Rattle.std.proofs.Common.{◌++◌, sym, ◌∙◌, ap}
 use Rattle.std.specs.Prelude.{pos, ◌+ℤ◌}
 use Rattle.std.specs.Option.{option_and_then, option_copied}
+use Rattle.fol_pages.proofs.PageRuns.{run_page}
 use Rattle.fol_sections.specs.Pages.{counts_at, counts_on, page_at}
 use Rattle.fol_sections.specs.Rows.{section_at}
 use Rattle.fol_sections.specs.Wanted.{is_wanted}
-use Rattle.fol_sections.proofs.PageRuns.{filter_row, run_page}
+use Rattle.fol_sections.proofs.PageRuns.{filter_row}
 use Rattle.fol_sections.proofs.PageSteps.{none_there}
 use Rattle.fol_sections.proofs.runs.find_run.Goals as goal
 

@@ -6,10 +6,11 @@ use Rattle.std.proofs.lemmas.Bool.{true≢false}
 use Rattle.fol_model.specs.declared.places.SectionPos.{SectionPos}
 use Rattle.fol_model.specs.Geometry.{same_section}
 use Rattle.fol_laws.proofs.SamePlaces.{same_section-self}
+use Rattle.fol_pages.proofs.PageRuns.{run_page, run_place}
 use Rattle.fol_sections.specs.Pages.{IsOnPage, counts_on, near_on, no_counts, place_of}
 use Rattle.fol_sections.specs.declared.pages.Counts.{Counts}
 use Rattle.fol_sections.specs.Rows.{row_of, section_at}
-use Rattle.fol_sections.proofs.PageRuns.{keeps_self, keeps_then, run_few, run_page, run_place, step_keeps, step_turns}
+use Rattle.fol_sections.proofs.PageRuns.{keeps_self, keeps_then, run_few, step_keeps, step_turns}
 use Rattle.fol_sections.proofs.Rows.{count_more, row-none, row_part}
 use Rattle.fol_sections.proofs.TurnSteps.{fall_more, fall_none, fall_rises, rise_few, rise_more, rise_none}
 use Rattle.fol_sections.proofs.runs.turn_on.Goals as goal

@@ -1,9 +1,10 @@
 use Rattle.std.proofs.Common.{◌+◌, ◌≤◌}
 use Rattle.std.specs.List.{count_by}
 use Rattle.std.specs.HashMap.{spare as room_of}
+use Rattle.fol_pages.proofs.AbsentPages.{is_absent}
 use Rattle.fol_sections.specs.Pages.{AllUsed, InNine}
 use Rattle.fol_sections.proofs.NumberSteps.{HasFirst}
-use Rattle.fol_sections.proofs.NinePages.{is_absent, nine_from}
+use Rattle.fol_sections.proofs.NinePages.{nine_from}
 use Rattle.fol_sections.proofs.sections.fill.Given as goal
 
 abbrev pub invariant-loop-s : goal.invariant-loop-s

@@ -4,8 +4,8 @@ use Rattle.std.specs.Vec.{vec_capacity}
 use Rattle.fol_sections.specs.Pages.{near_at}
 use Rattle.fol_sections.proofs.stretches.split_list.Given as goal
 
-abbrev pub invariant-loop-first : goal.invariant-loop-first
-invariant-loop-first l = record {
+abbrev pub invariant-loop-rest : goal.invariant-loop-rest
+invariant-loop-rest l = record {
   living : l.living.items ++ filter (λ s. nat_lt 0 (near_at l.pages.entries s)) l.rest ≡ l.initial.living.items ++ filter (λ s. nat_lt 0 (near_at l.pages.entries s)) l.list;
   dead : l.dead.items ++ filter (λ s. nat_eq (near_at l.pages.entries s) 0) l.rest ≡ l.initial.dead.items ++ filter (λ s. nat_eq (near_at l.pages.entries s) 0) l.list;
   living_fits : length l.living.items + length l.rest ≤ vec_capacity l.living;
@@ -14,5 +14,5 @@ invariant-loop-first l = record {
   dead_room : vec_capacity l.dead ≡ vec_capacity l.initial.dead;
 }
 
-abbrev pub decreases-loop-first : goal.decreases-loop-first
-decreases-loop-first l = length l.rest
+abbrev pub decreases-loop-rest : goal.decreases-loop-rest
+decreases-loop-rest l = length l.rest

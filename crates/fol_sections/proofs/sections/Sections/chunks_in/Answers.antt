@@ -5,7 +5,7 @@ use Rattle.fol_model.specs.Universe.{all_chunks}
 use Rattle.fol_sections.specs.Kept.{is_held, is_loaded_in}
 use Rattle.fol_sections.proofs.Margins.{section_near}
 use Rattle.fol_sections.proofs.NumberSteps.{chunks_here}
-use Rattle.fol_sections.proofs.Quotients.{side_some}
+use Rattle.fol_sections.proofs.Products.{side_some}
 use Rattle.fol_sections.proofs.Rows.{append-none, filter_none}
 use Rattle.fol_sections.proofs.SectionChunks.{section_chunks}
 use Rattle.fol_sections.proofs.Tables.{table-loaded}

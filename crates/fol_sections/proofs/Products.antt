@@ -1,33 +1,11 @@
--- Quotients rounded down, which numbers have the same one, and products by a power of two.
-use Rattle.std.proofs.Common.{◌≡◌, ℕ, zero, suc, ◌+◌, ◌-◌, ◌*◌, ◌<◌, ◌≤◌, ◌^◌, ◌/◌, ◌%◌, arith, refl, ◌∙◌, ap, mod-lt}
-use Rattle.std.proofs.lemmas.Nat.{div-add-mod', div-mul-add}
-use Rattle.std.specs.Prelude.{ℤ, pos, negsuc, ◌+ℤ◌, ◌*ℤ◌, nat_abs}
-use Rattle.std.specs.Int.{int_div_euclid}
+-- Products by a power of two.
+use Rattle.std.proofs.Common.{◌≡◌, ℕ, zero, suc, ◌*◌, ◌<◌, ◌≤◌, ◌^◌, ◌%◌, arith, refl, ◌∙◌}
+use Rattle.std.specs.Prelude.{ℤ, pos, ◌*ℤ◌, nat_abs}
 use mir.Val.{SFits, to_z, of_z}
 use mir.Syntax.{w32}
 use borrow.Author.Differences.{ints}
 use Rattle.std.proofs.lemmas.Int.{to_z-of_z}
 
-suc_times : (q n : ℕ) → suc q * n ≡ q * n + n
-suc_times q n = omega arith
-
--- a number is in the row of n numbers that begins at its quotient
-pub in_row_of_quotient : (x : ℤ) (n : ℕ) → 0 < n → (i : ℕ) × (i < n) × (x ≡ (int_div_euclid x (pos n) *ℤ pos n) +ℤ pos i)
-in_row_of_quotient (pos a) n h = let d = div-add-mod' a n in let m = mod-lt a h in (a % n, m, omega (arith, ints))
-in_row_of_quotient (negsuc a) n h = let d = div-add-mod' a n in let m = mod-lt a h in let s = suc_times (a / n) n in (n - 1 - a % n, omega arith, omega (arith, ints))
-
--- and back
-pub quotient_of_row : (x q : ℤ) (n i : ℕ) → i < n → x ≡ (q *ℤ pos n) +ℤ pos i → int_div_euclid x (pos n) ≡ q
-quotient_of_row x (pos q) n i l e =
-    let k : x ≡ pos (q * n + i) = omega (arith, ints) in
-    ap (λ y. int_div_euclid y (pos n)) k ∙ ap pos (div-mul-add q n i l)
-quotient_of_row x (negsuc q) n i l e =
-    let s = suc_times q n in
-    let k : x ≡ negsuc (q * n + (n - 1 - i)) = omega (arith, ints) in
-    let d : n - 1 - i < n = omega arith in
-    ap (λ y. int_div_euclid y (pos n)) k ∙ ap negsuc (div-mul-add q n (n - 1 - i) d)
-
--- ---- products by a power of two
 pub side_is : (shift : ℕ) → shift ≤ 5 → to_z w32 (1 * 2 ^ shift % 4294967296) ≡ pos (2 ^ shift)
 side_is zero h = refl
 side_is (suc zero) h = refl
