@@ -1,5 +1,5 @@
 -- The answer to an added hold, by what a table keeps.
-use Rattle.std.proofs.Common.{◌≡◌, ℕ, ◌+◌, ◌≤◌, ◌<◌, refl, sym, ◌∙◌, ap, arith, Bool, true, false, not, ◌&&◌, ◌||◌, inl, inr, List, length}
+use Rattle.std.proofs.Common.{◌≡◌, ℕ, ◌+◌, ◌≤◌, ◌<◌, refl, sym, ◌∙◌, ap, arith, Bool, true, false, not, ◌&&◌, ◌||◌, inl, inr, List, [], length}
 use Rattle.std.specs.Prelude.{ℤ, pos, ◌-ℤ◌, nat_abs, nat_eq, nat_lt, is_some, Some, None, Option}
 use Rattle.std.specs.List.{IsDistinct, filter}
 use Rattle.std.proofs.lemmas.Bool.{and_parts, true≢false, leb-true, le-leb, lt-ltb, le-ltb, eq-eqb, ne_eqb, or_cases, or_right}
@@ -11,6 +11,7 @@ use Rattle.fol_model.specs.Geometry.{distance, is_chunk, is_section, is_within, 
 use Rattle.fol_model.specs.Universe.{all_sections, count_sections, section_cmp, square}
 use Rattle.fol_laws.proofs.Distances.{self_distance}
 use Rattle.fol_laws.proofs.FloorDivision.{around_in_limits}
+use Rattle.fol_laws.proofs.ListCounts.{count_by-none}
 use Rattle.fol_laws.proofs.SectionOrder.{section_rows_are, section_members, square_members, square_sorted}
 use Rattle.fol_pages.proofs.PagePlaces.{page_near}
 use Rattle.fol_sections.specs.declared.answers.Added.TheVariants.{Counted, Filled, Full}
@@ -19,9 +20,17 @@ use Rattle.fol_sections.specs.declared.pages.Counts.{Counts}
 use Rattle.fol_sections.specs.declared.pages.Page.{Page}
 use Rattle.fol_sections.specs.Table.{added, is_full_for, is_missing, missing_count, present_count}
 use Rattle.fol_sections.specs.Kept.{IsKept}
+use Rattle.fol_sections.proofs.DeadSteps.{filter-like}
 use Rattle.fol_sections.proofs.Margins.{section_near}
+use Rattle.fol_sections.proofs.Rows.{filter_none}
 use Rattle.fol_sections.proofs.SquareRows.{rising_distinct}
 use Rattle.fol_sections.proofs.Tables.{table, table-presence}
+
+-- where all sections within a radius are present, none of them is missing
+pub none_missing : (pages : List ((ℤ × ℤ) × Page)) (n : SectionPos) (r : ℕ) → ((s : SectionPos) → is_within n r s ≡ true → is_here pages s ≡ true) → filter (λ s. not (is_here pages s)) (square n r) ≡ []
+none_missing pages n r here =
+    filter-like (λ s. not (is_here pages s)) (λ s. false) (square n r) (λ s k. ap not (here s (sym (square_members n r s) ∙ k)))
+    ∙ filter_none (λ s. false) (square n r) (count_by-none (λ s. false) (λ s. refl) (square n r))
 
 module _ (grid : Grid) (holds : List ((ℤ × ℤ) × ℕ)) (pages : List ((ℤ × ℤ) × Page)) (count : ℕ) (filled : List SectionPos) (spare : ℕ) (kept : IsKept grid holds pages count) (c : ChunkPos) (limits : is_chunk c ≡ true) where
   near : (s : SectionPos) → is_within (section_of grid c) grid.create s ≡ true → is_section s ≡ true

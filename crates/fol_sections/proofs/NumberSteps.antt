@@ -4,18 +4,18 @@ use Rattle.std.specs.Prelude.{ℤ, Option, Some, None, is_some}
 use Rattle.std.specs.Option.{unwrap_or}
 use Rattle.std.specs.List.{All, IsDistinct}
 use Rattle.std.specs.Ordering.{int_eq}
-use Rattle.std.proofs.lemmas.Bool.{cases_Bool, or_cases, true≢false, and_from}
+use Rattle.std.proofs.lemmas.Bool.{cases_Bool, or_cases, true≢false, and_from, and_parts}
 use Rattle.std.proofs.lemmas.List.Folds.{list_any_at, list_any_more}
 use Rattle.std.proofs.lemmas.Map.Keys.{apart_from_distinct, IsDistinct-tail}
 use Rattle.fol_model.specs.declared.places.ChunkPos.{ChunkPos}
 use Rattle.fol_model.specs.declared.places.SectionPos.{SectionPos}
 use Rattle.fol_model.specs.declared.grids.Grid.{Grid}
-use Rattle.fol_model.specs.Geometry.{same_chunk, same_section, section_of, is_among}
+use Rattle.fol_model.specs.Geometry.{is_within, same_chunk, same_section, section_of, is_among}
 use Rattle.fol_model.specs.GridState.{at_chunk}
 use Rattle.fol_model.specs.Universe.{all_chunks}
 use Rattle.fol_laws.proofs.SamePlaces.{same_section-true, same_section-self}
 use Rattle.fol_laws.proofs.AllSections.{some_chunk-is}
-use Rattle.fol_laws.proofs.ListCounts.{list_any-count}
+use Rattle.fol_laws.proofs.ListCounts.{count_by-some, list_any-count}
 use Rattle.fol_sections.specs.Places.{count_at, is_same, number_at}
 use Rattle.fol_sections.specs.Pages.{chunks_at, counts_at, is_here, near_at, no_counts}
 use Rattle.fol_sections.specs.Kept.{IsKept, is_held, is_loaded_in}
@@ -93,6 +93,14 @@ chunks_positive grid holds pages count c kept h =
     let some = list_any-count (is_loaded_in grid holds (section_of grid c)) all_chunks
     (some_chunk-is (is_loaded_in grid holds (section_of grid c)) c (kept.chunk_limits c h) (and_from _ _ h (same_section-self (section_of grid c)))) in
     omega (arith, some, kept.chunks (section_of grid c))
+
+-- round a section that holds a loaded chunk all within the create radius are present
+pub filled_around : (grid : Grid) (holds : List ((ℤ × ℤ) × ℕ)) (pages : List ((ℤ × ℤ) × Page)) (count : ℕ) (n : SectionPos) → IsKept grid holds pages count → 0 < chunks_at pages n
+    → (s : SectionPos) → is_within n grid.create s ≡ true → is_here pages s ≡ true
+filled_around grid holds pages count n kept some s w =
+    let c = count_by-some (is_loaded_in grid holds n) all_chunks (omega (arith, some, kept.chunks n)) in
+    let p = and_parts (is_held holds c.0) (same_section (section_of grid c.0) n) c.1 in
+    kept.margin c.0 s p.0 (ap (λ q. is_within q grid.create s) (same_section-true (section_of grid c.0) n p.1) ∙ w)
 
 pub chunks_here : (pages : List ((ℤ × ℤ) × Page)) (s : SectionPos) → 0 < chunks_at pages s → is_here pages s ≡ true
 unfolding chunks_at is_here

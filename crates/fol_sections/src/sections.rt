@@ -124,14 +124,6 @@ impl Sections {
         near(&self.pages, s)
     }
 
-    /// Whether a present section is within the create radius of no section that holds a loaded chunk.
-    pub fn is_dead(&self, s: SectionPos) -> bool
-        requires { IsTrue (presence_of self.now s) }
-        ensures { result ≡ not (in_margin_of self.now s) }
-    {
-        near(&self.pages, s) == 0
-    }
-
     /// Adds the dead ones of a list of sections to one list, and the others to another. The lists have room for them, and no memory
     /// is taken.
     ///
@@ -211,6 +203,8 @@ impl Sections {
     ///
     /// The answer is `Full` exactly where the present sections and the missing ones that the chunk needs are more than 16,384;
     /// then nothing changes. Else the missing ones are present now, and one spare is used. Takes no memory.
+    ///
+    /// If another chunk of the section is loaded, or this one, no other section is looked up. Else all within the create radius are.
     pub fn add(&mut self, c: ChunkPos) -> Added
         requires spare { 1 ≤ self.old.spare }
         requires in_range { IsTrue (is_chunk c) }

@@ -57,7 +57,7 @@ fn dead_sections_leave(rt: HostRuntime) -> Result<(), Fail> {
     let dead = SectionPos { x: 4, z: 1 };
     assert!(rt; sections.is_present(living) && sections.is_present(dead));
     assert_eq!(rt; sections.neighbours(living), 1);
-    assert!(rt; sections.is_dead(dead) && !sections.is_dead(living));
+    assert_eq!(rt; sections.neighbours(dead), 0);
     let mut list = Vec::from_slice(rt.alloc(), &[dead])?;
     sections.drop_dead(&mut list);
     assert!(rt; list.is_empty() && !sections.is_present(dead));

@@ -10,12 +10,16 @@ use Rattle.fol_sections.proofs.AddTable.{home_near, added_full, added_counted, a
 use Rattle.fol_sections.proofs.Bounds.{chunks_few}
 use Rattle.fol_sections.proofs.KeptSteps.{kept_add}
 use Rattle.fol_sections.proofs.Margins.{near_few}
+use Rattle.fol_sections.proofs.NumberSteps.{filled_around}
 use Rattle.fol_sections.proofs.Tables.{table, table-holds, table-presence, table_same}
 use Rattle.fol_sections.proofs.sections.Sections.add.Goals as goal
 use Rattle.fol_sections.proofs.sections.Sections.add.Goals.{then-wanted-eq0, else-wanted-eq0}
 
 pub find_missing-requires-clause-near : goal.find_missing-requires-clause-near
 find_missing-requires-clause-near c = rw c.section_of-home.ensures (home_near _ _ _ c.self.inside.count c.self.inside.filled.items c.self.inside.spare c.self.invariant.0 c.args.c c.requires.in_range)
+
+pub find_missing-requires-clause-around : goal.find_missing-requires-clause-around
+find_missing-requires-clause-around c = rw c.create_radius-radius.ensures (filled_around c.self.inside.grid c.self.inside.holds.entries c.self.inside.pages.entries c.self.inside.count c.section_of-home.result c.self.invariant.0)
 
 pub returns-then-present-wanted-clause-answer : goal.returns-then-present-wanted-clause-answer
 returns-then-present-wanted-clause-answer c =
