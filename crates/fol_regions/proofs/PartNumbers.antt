@@ -26,7 +26,7 @@ use Rattle.fol_laws.proofs.AllSections.{some_section-is}
 use Rattle.fol_laws.proofs.PartClasses.{parts_are_classes}
 use Rattle.fol_laws.proofs.Joins.{remains_in}
 use Rattle.fol_split.specs.Parts.{least_of, ArePartsOf, IsPart, IsChain}
-use Rattle.fol_split.proofs.Search.{at_index}
+use Rattle.fol_split.proofs.Members.{at_index}
 use Rattle.fol_model.proofs.PlaceKeys.{section_cmp_total}
 
 abbrev origin : SectionPos

@@ -32,7 +32,7 @@ use Rattle.fol_regions.proofs.ChangeLists.{numbers_from}
 use Rattle.fol_regions.proofs.CleanSteps as clean
 use Rattle.fol_regions.proofs.JoinTest as test
 use Rattle.fol_regions.proofs.SettleSteps.{row_few, living_distinct}
-use Rattle.fol_split.proofs.Search.{among_at}
+use Rattle.fol_split.proofs.Members.{among_at}
 use Rattle.std.proofs.lemmas.List.Filters.{length-filter_both}
 use Rattle.fol_regions.proofs.PartNumbers.{parts_found}
 use Rattle.fol_region_tables.proofs.PartedBooks.{filter_both, filter_none, row_members}

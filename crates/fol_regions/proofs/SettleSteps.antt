@@ -17,7 +17,7 @@ use Rattle.fol_laws.proofs.SectionOrder.{section_members, section_rows_are, sect
 use Rattle.fol_split.specs.Parts.{ArePartsOf, IsPart, least_of}
 use Rattle.fol_split.proofs.Places.{rising-distinct}
 use Rattle.fol_model.proofs.PlaceKeys.{section_cmp_total}
-use Rattle.fol_split.proofs.Search.{among_at, at_index}
+use Rattle.fol_split.proofs.Members.{among_at, at_index}
 use Rattle.fol_region_tables.specs.Book.{Book, IsBook, owner_of, is_live, rows_of}
 use Rattle.fol_region_tables.specs.Parted.{AreRows, Keeps}
 use Rattle.fol_region_tables.proofs.BookFacts.{row_most}

@@ -9,7 +9,6 @@ use Rattle.fol_split.specs.Runs.{no_run, Marks, IsMarked, TakesRuns, SortsClass,
 use Rattle.fol_split.proofs.Near.{from_first, joined_near}
 use Rattle.fol_split.proofs.RunLists.{of_run, same_place, place_self, place_at}
 use Rattle.fol_split.proofs.Taking.{left_within}
-pub use Rattle.fol_split.proofs.Members.{at_index, among_at}
 
 pub record IsSearch (old now : Marks) (merge first next : ℕ) : Type 0 where
   pub runs : now.runs ≡ old.runs
