@@ -56,19 +56,17 @@ module _ (grid : Grid) (s : sections.Table) (b : Book) (h : IsBook b) (same : s.
   unfolding grid_of
   new_state = grid_is (grid_of s b) (empty grid) same none.holds (fun_ext owner) (fun_ext no_state) (fun_ext (λ u. fun_ext (λ t. no_wait u t))) next
 
-  pub new_kept : (near made : ℕ) → IsGrid grid → 625 ≤ near → 625 ≤ made → IsKept grid s b 0 near made
-  new_kept near made ok n m = record {
+  pub new_kept : IsGrid grid → IsKept grid s b 0
+  new_kept ok = record {
     same = sym same;
     numbers = let e = same in rw e ok;
     rules = let e = new_state in rw e (empty_keeps grid);
     presence = λ q. let o = owner q in ap (λ f. f q) none.presence ∙ rw o refl;
     spare = omega arith;
     room = record { pages = omega arith; ahead = omega (arith, h.ahead_fits); behind = omega (arith, h.behind_fits) };
-    near = n;
-    made = m;
   }
 
-module _ (grid : Grid) (s : sections.Table) (b : Book) (events near made : ℕ) (k : IsKept grid s b events near made) where
+module _ (grid : Grid) (s : sections.Table) (b : Book) (events : ℕ) (k : IsKept grid s b events) where
   -- ---- a removed hold
   module _ (e : sections.Table) (c : ChunkPos) (same : e.grid ≡ s.grid) (spare : e.spare ≡ s.spare) (holds : holds_of e ≡ at_chunk (holds_of s) c (holds_of s c - 1)) (presence : presence_of e ≡ presence_of s) where
     pub removed_state : grid_of e b ≡ drop_hold (grid_of s b) c
@@ -79,7 +77,7 @@ module _ (grid : Grid) (s : sections.Table) (b : Book) (events near made : ℕ) 
     unfolding grid_of
     gone_limits g = let one = gone_one s c g in k.rules.chunk_limits c (omega arith)
 
-    pub removed_kept : IsKept grid e b events near made
+    pub removed_kept : IsKept grid e b events
     removed_kept = record {
       same = k.same ∙ sym same;
       numbers = let g = same in rw g k.numbers;
@@ -87,8 +85,6 @@ module _ (grid : Grid) (s : sections.Table) (b : Book) (events near made : ℕ) 
       presence = λ q. ap (λ f. f q) presence ∙ k.presence q;
       spare = omega (arith, k.spare, spare);
       room = k.room;
-      near = k.near;
-      made = k.made;
     }
 
     -- ---- the numbers of dead sections
@@ -114,7 +110,7 @@ module _ (grid : Grid) (s : sections.Table) (b : Book) (events near made : ℕ) 
     unfolding grid_of
     alike_bounds most = bounds_same (grid_of s b) (grid_of e d) most same.grid alike.owner same.holds
 
-    pub alike_kept : events ≤ more → more ≤ e.spare → HasRoomFor d (9 * more) (625 * more) → IsKept grid e d more near made
+    pub alike_kept : events ≤ more → more ≤ e.spare → HasRoomFor d (9 * more) (625 * more) → IsKept grid e d more
     alike_kept l m r = record {
       same = k.same ∙ sym same.grid;
       numbers = let g = same.grid in rw g k.numbers;
@@ -122,8 +118,6 @@ module _ (grid : Grid) (s : sections.Table) (b : Book) (events near made : ℕ) 
       presence = λ q. ap (λ f. f q) same.presence ∙ k.presence q ∙ ap (λ f. nat_lt 0 (f q)) (sym alike.owner);
       spare = m;
       room = r;
-      near = k.near;
-      made = k.made;
     }
 
   -- ---- a tick begins
@@ -136,7 +130,7 @@ module _ (grid : Grid) (s : sections.Table) (b : Book) (events near made : ℕ) 
     unfolding grid_of
     at_id = ready
 
-    pub begun_kept : IsKept grid s d events near made
+    pub begun_kept : IsKept grid s d events
     begun_kept = record {
       same = k.same;
       numbers = k.numbers;
@@ -144,8 +138,6 @@ module _ (grid : Grid) (s : sections.Table) (b : Book) (events near made : ℕ) 
       presence = λ q. k.presence q ∙ ap (λ f. nat_lt 0 (f q)) (sym sets.owner);
       spare = k.spare;
       room = record { pages = omega (arith, k.room.pages, sets.rooms.free); ahead = omega (arith, k.room.ahead, sets.rooms.ahead, sets.rooms.ahead_room); behind = omega (arith, k.room.behind, sets.rooms.behind, sets.rooms.behind_room) };
-      near = k.near;
-      made = k.made;
     }
 
     pub begun_bounds : (most : List Known) → BoundsDead (grid_of s b) (most_in most) → BoundsDead (grid_of s d) (most_in most)
@@ -163,7 +155,7 @@ module _ (grid : Grid) (s : sections.Table) (b : Book) (events near made : ℕ) 
     unfolding grid_of
     ok = k.numbers
 
-    pub released_kept : IsKept grid e d events near made
+    pub released_kept : IsKept grid e d events
     released_kept = record {
       same = k.same ∙ sym same;
       numbers = let g = same in rw g k.numbers;
@@ -171,8 +163,6 @@ module _ (grid : Grid) (s : sections.Table) (b : Book) (events near made : ℕ) 
       presence = presence;
       spare = omega (arith, k.spare, spare);
       room = record { pages = omega (arith, k.room.pages, rooms.free); ahead = omega (arith, k.room.ahead, rooms.ahead, rooms.ahead_room); behind = omega (arith, k.room.behind, rooms.behind, rooms.behind_room) };
-      near = k.near;
-      made = k.made;
     }
 
 -- ---- answers
@@ -193,10 +183,6 @@ state_some n next x y e l same = let a : nat_lt 0 n ≡ true = lt-ltb 0 n (omega
 
 pub state_none : (n next : ℕ) (y : State) → next ≤ n → None ≡ (if (nat_lt 0 n && nat_lt n next) then Some y else None)
 state_none n next y l = let b : nat_lt n next ≡ false = le-ltb n next l in elim (cases_Bool (nat_lt 0 n)) [ inl a ↦ rw (a, b) refl | inr a ↦ rw a refl ]
-
--- in lists of its own for what is near
-pub kept_near : (grid : Grid) (s : sections.Table) (b : Book) (events near made near_too made_too : ℕ) → IsKept grid s b events near made → 625 ≤ near_too → 625 ≤ made_too → IsKept grid s b events near_too made_too
-kept_near grid s b events near made near_too made_too k l m = record { same = k.same; numbers = k.numbers; rules = k.rules; presence = k.presence; spare = k.spare; room = k.room; near = l; made = m }
 
 pub alike_same : (b : Book) → IsAlike b b
 alike_same b = record { owner = refl; state = refl; waits = refl; live = refl; next = refl }

@@ -8,12 +8,10 @@ use Rattle.fol_region_tables.specs.Book.{Book, HasRoomFor}
 use Rattle.fol_regions.specs.Released.{IsPresence, grid_of}
 
 -- the rules of regions, the sections with an owner, and the memory for so many events
-pub record IsKept (grid : Grid) (kept : sections.Table) (b : Book) (events in_near in_made : ℕ) : Type 0 where
+pub record IsKept (grid : Grid) (kept : sections.Table) (b : Book) (events : ℕ) : Type 0 where
   pub same : grid ≡ kept.grid
   pub numbers : IsGrid kept.grid
   pub rules : Rules (grid_of kept b)
   pub presence : IsPresence kept b
   pub spare : events ≤ kept.spare
   pub room : HasRoomFor b (9 * events) (625 * events)
-  pub near : 625 ≤ in_near
-  pub made : 625 ≤ in_made

@@ -4,7 +4,6 @@ ghost use Rattle.std.specs.Prelude.{◌≡◌, ◌≢◌, ℕ, ◌+◌, ◌<◌,
 ghost use Rattle.std.specs.List.{list_any};
 ghost use Rattle.std.specs.List.Sorted.{IsStrictlySortedBy};
 ghost use Rattle.std.specs.Ordering.{nat_cmp};
-ghost use Rattle.std.specs.Vec.{vec_capacity};
 ghost use Rattle.fol_lists.specs.Numbered.{total};
 ghost use Rattle.fol_model.specs.declared.places.SectionPos.{SectionPos};
 ghost use Rattle.fol_model.specs.declared.regions.State.TheVariants.{Ready, Ticking, Transient};
@@ -22,7 +21,7 @@ ghost use Rattle.fol_regions.specs.Released.{IsPresence, grid_of};
 ghost use Rattle.fol_region_tables.specs.Book.{owner_of, ahead_of, HasRoomFor, SetsState};
 ghost use Rattle.fol_region_tables.specs.Book.{is_live, state_of, waits_of};
 
-use crate::near::find_near;
+use crate::near::NearRegions;
 use crate::{AddAnswer, Change};
 use fol_model::{ChunkPos, Grid, MOST_SECTIONS, SectionPos, State, section_of};
 use fol_region_tables::Tables;
@@ -186,8 +185,7 @@ fn settled(waits: usize) -> State
 /// that does not tick, or to a new one, the other near regions that do not tick become part of that, and it waits for those that do.
 pub fn extend(
     tables: &mut Tables,
-    near: &mut Vec<u64>,
-    made: &mut Vec<u64>,
+    near: &mut NearRegions,
     change: &mut Change,
     grid: &Grid,
     c: ChunkPos,
@@ -204,7 +202,6 @@ pub fn extend(
     requires free { 9 ≤ tables.old.free }
     requires ahead { total tables.old.ahead + 625 ≤ tables.old.ahead.room }
     requires behind { total tables.old.behind + 625 ≤ tables.old.behind.room }
-    requires rooms { (625 ≤ vec_capacity near.old) × (625 ≤ vec_capacity made.old) }
     requires none { change.old ≡ nothing }
     ensures owner { owner_of tables.new ≡ (extended (bare grid.now tables.old) c).owner }
     ensures state { state_of tables.new ≡ (extended (bare grid.now tables.old) c).state }
@@ -216,12 +213,11 @@ pub fn extend(
         × (tables.new.ahead.room ≡ tables.old.ahead.room) }
     ensures behind { (total tables.new.behind ≤ total tables.old.behind + 625)
         × (tables.new.behind.room ≡ tables.old.behind.room) }
-    ensures rooms { (625 ≤ vec_capacity near.new) × (625 ≤ vec_capacity made.new) }
 {
     tables.keeps_lists();
-    find_near(tables, near, made, section_of(grid, c), reach(grid));
-    let target = grow(tables, near, change, wanted);
-    pair_near(tables, near, target);
+    near.find(tables, section_of(grid, c), reach(grid));
+    let target = grow(tables, near.ids(), change, wanted);
+    pair_near(tables, near.ids(), target);
     tables.keeps_lists();
     settle(tables, target);
 }
@@ -238,8 +234,7 @@ fn reach(grid: &Grid) -> u8
 pub fn hold(
     sections: &mut Sections,
     tables: &mut Tables,
-    near: &mut Vec<u64>,
-    made: &mut Vec<u64>,
+    near: &mut NearRegions,
     change: &mut Change,
     grid: &Grid,
     c: ChunkPos,
@@ -253,7 +248,6 @@ pub fn hold(
     requires few_ids { (grid_of sections.old tables.old).next < 2 ^ 62 }
     requires spare { 1 ≤ sections.old.spare }
     requires room { HasRoomFor tables.old 9 625 }
-    requires rooms { (625 ≤ vec_capacity near.old) × (625 ≤ vec_capacity made.old) }
     ensures state { grid_of sections.new tables.new ≡ add (grid_of sections.old tables.old) c }
     ensures answer { result ≡ add_answer (grid_of sections.old tables.old) c }
     ensures change { change.new ≡ add_change (grid_of sections.old tables.old) c }
@@ -265,14 +259,13 @@ pub fn hold(
         × (tables.new.ahead.room ≡ tables.old.ahead.room) }
     ensures behind { (total tables.new.behind ≤ total tables.old.behind + 625)
         × (tables.new.behind.room ≡ tables.old.behind.room) }
-    ensures rooms { (625 ≤ vec_capacity near.new) × (625 ≤ vec_capacity made.new) }
 {
     change.clear();
     match sections.add(c) {
         Added::Full { present, wanted } => AddAnswer::Full { present, wanted },
         Added::Counted => AddAnswer::Counted,
         Added::Filled => {
-            extend(tables, near, made, change, grid, c, sections.filled());
+            extend(tables, near, change, grid, c, sections.filled());
             AddAnswer::Changed
         }
     }

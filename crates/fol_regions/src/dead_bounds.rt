@@ -1,13 +1,21 @@
 //! How many dead sections each region has at most.
 
-ghost use Rattle.std.specs.Prelude.{◌≡◌, ℕ, ◌<◌, ◌≤◌, ◌&&◌, nat_eq, nat_lt, if◌then◌else◌, min, IfOk, List, length};
+ghost use Rattle.std.specs.Prelude.{◌≡◌, ℕ, ◌+◌, ◌<◌, ◌≤◌, ◌&&◌, nat_abs, nat_eq, nat_lt, if◌then◌else◌, count_by, min, IfOk, List, length};
+ghost use Rattle.fol_model.specs.Universe.{square};
+ghost use Rattle.fol_region_tables.specs.Book.{owner_of};
 ghost use Rattle.fol_regions.specs.Changes.{into};
-ghost use Rattle.fol_regions.specs.DeadBounds.{most_in, place, raised};
+ghost use Rattle.fol_regions.specs.DeadBounds.{is_dead_in, most_in, place, raised};
+ghost use Rattle.fol_regions.specs.Released.{IsPresence};
 
 use crate::MergePair;
-use fol_model::MOST_SECTIONS;
+use fol_model::{MOST_SECTIONS, SectionPos};
+use fol_region_tables::Tables;
+use fol_sections::Sections;
 use std::alloc::{AllocError, Global};
 use std::marker::Model;
+
+/// The most sections within a create radius of a section, which is at most 8.
+const MOST_DYING: usize = 289;
 
 /// A number that is known of a region.
 #[derive(Clone, Copy, Drop)]
@@ -25,10 +33,13 @@ pub struct Known {
 pub struct DeadBounds {
     /// By the id modulo 16,384: what is known of the region. Of two regions with the same place only one is known.
     known: Vec<Known>,
+    /// The dead sections that are noted.
+    dying: Vec<SectionPos>,
 }
 
 impl Model for DeadBounds {
-    ghost use Rattle.std.specs.Prelude.{◌≡◌, List, length};
+    ghost use Rattle.std.specs.Prelude.{◌≡◌, ◌≤◌, List, length};
+    ghost use Rattle.std.specs.Vec.{vec_capacity};
     ghost use Rattle.fol_model.specs.declared.places.TheConstants.{MOST_SECTIONS};
     ghost use Rattle.fol_regions.specs.declared.dead_bounds.Known.{Known};
 
@@ -36,7 +47,7 @@ impl Model for DeadBounds {
 
     ghost view = { λ s. s.known.items };
 
-    ghost invariant = { λ s. length s.known.items ≡ MOST_SECTIONS };
+    ghost invariant = { λ s. (length s.known.items ≡ MOST_SECTIONS) × (289 ≤ vec_capacity s.dying) };
 }
 
 impl DeadBounds {
@@ -50,7 +61,10 @@ impl DeadBounds {
         };
         let mut known = Vec::with_capacity(alloc, MOST_SECTIONS)?;
         known.resize(MOST_SECTIONS, nothing)?;
-        Ok(DeadBounds { known })
+        Ok(DeadBounds {
+            known,
+            dying: Vec::with_capacity(alloc, MOST_DYING)?,
+        })
     }
 
     /// The number of a region.
@@ -73,19 +87,52 @@ impl DeadBounds {
         self.known[place(id)] = Known { id, most };
     }
 
-    /// A region has a dead section more.
-    pub fn raise(&mut self, id: u64)
-        ensures { (r : ℕ) → most_in self.new r
-            ≡ (if nat_eq id r then raised (most_in self.old r) else most_in self.old r) }
+    /// Notes the dead ones of the sections within a radius, each for its region. Takes no memory.
+    pub fn note_square(
+        &mut self,
+        tables: &Tables,
+        sections: &Sections,
+        home: SectionPos,
+        radius: u8,
+    )
+        requires presence { IsPresence sections.now tables.now }
+        requires home { (nat_abs home.x ≤ 1000008) × (nat_abs home.z ≤ 1000008) }
+        requires radius { radius ≤ 8 }
+        ensures { (r : ℕ) → 0 < r
+            → min MOST_SECTIONS (most_in self.old r
+            + count_by (is_dead_in sections.now tables.now r) (square home radius))
+            ≤ most_in self.new r }
     {
-        let at = place(id);
-        let known = self.known[at];
-        if known.id == id {
-            self.known[at] = Known {
-                id,
-                most: raised(known.most),
-            };
-        }
+        self.dying.clear();
+        sections.find_dead(home, radius, &mut self.dying);
+        note_list(&mut self.known, tables, &self.dying);
+    }
+}
+
+/// Notes each section of a list for its region.
+fn note_list(known: &mut [Known], tables: &Tables, list: &[SectionPos])
+    requires { length known.old ≡ MOST_SECTIONS }
+    ensures { (r : ℕ) → min MOST_SECTIONS (most_in known.old r
+        + count_by (λ s. nat_eq (owner_of tables.now s) r) list.now) ≤ most_in known.new r }
+{
+    for s in list {
+        raise(known, tables.owner(*s));
+    }
+}
+
+/// A region has a dead section more.
+fn raise(known: &mut [Known], id: u64)
+    requires { length known.old ≡ MOST_SECTIONS }
+    ensures { (r : ℕ) → most_in known.new r
+        ≡ (if nat_eq id r then raised (most_in known.old r) else most_in known.old r) }
+{
+    let at = place(id);
+    let before = known[at];
+    if before.id == id {
+        known[at] = Known {
+            id,
+            most: raised(before.most),
+        };
     }
 }
 

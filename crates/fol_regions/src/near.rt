@@ -12,16 +12,62 @@ ghost use Rattle.fol_regions.specs.Near.{row_of, regions_of, is_close, noted};
 use fol_model::{SectionPos, beside, corner};
 use fol_pages::run_len;
 use fol_region_tables::{Tables, add_id};
+use std::alloc::{AllocError, Global};
+use std::marker::Model;
 use std::mem;
 
+/// The most regions near a chunk: each has a section within the create and the merge radius of the chunk's own.
+pub const MOST_NEAR: usize = 625;
+
+/// The regions near a section, and the memory in which they are found. Contracts see their ids, rising.
+#[derive(Drop)]
+pub struct NearRegions {
+    ids: Vec<u64>,
+    /// The list that is made when an id is added.
+    made: Vec<u64>,
+}
+
+impl Model for NearRegions {
+    ghost use Rattle.std.specs.Prelude.{ℕ, ◌≤◌, List};
+    ghost use Rattle.std.specs.Vec.{vec_capacity};
+
+    ghost Value = { List ℕ };
+
+    ghost view = { λ n. n.ids.items };
+
+    ghost invariant = { λ n. (625 ≤ vec_capacity n.ids) × (625 ≤ vec_capacity n.made) };
+}
+
+impl NearRegions {
+    /// None yet. Takes the memory for as many as there can be.
+    pub fn new(alloc: Global) -> Result<NearRegions, AllocError> {
+        Ok(NearRegions {
+            ids: Vec::with_capacity(alloc, MOST_NEAR)?,
+            made: Vec::with_capacity(alloc, MOST_NEAR)?,
+        })
+    }
+
+    /// Their ids, rising.
+    pub fn ids(&self) -> &[u64]
+        ensures { result.now ≡ self.now }
+    {
+        self.ids.as_slice()
+    }
+
+    /// Finds the regions with a section within a radius. Takes no memory.
+    pub fn find(&mut self, tables: &Tables, home: SectionPos, reach: u8)
+        requires home { (nat_abs home.x ≤ 1000008) × (nat_abs home.z ≤ 1000008) }
+        requires reach { reach ≤ 12 }
+        ensures near { self.new ≡ filter (is_close (owner_of tables.now) home reach)
+            (numbers_below tables.now.next) }
+        ensures few { length self.new ≤ 625 }
+    {
+        find_near(tables, &mut self.ids, &mut self.made, home, reach);
+    }
+}
+
 /// Finds the regions with a section within a radius, in order of id.
-pub fn find_near(
-    tables: &Tables,
-    near: &mut Vec<u64>,
-    made: &mut Vec<u64>,
-    home: SectionPos,
-    reach: u8,
-)
+fn find_near(tables: &Tables, near: &mut Vec<u64>, made: &mut Vec<u64>, home: SectionPos, reach: u8)
     requires home { (nat_abs home.x ≤ 1000008) × (nat_abs home.z ≤ 1000008) }
     requires reach { reach ≤ 12 }
     requires rooms { (625 ≤ vec_capacity near.old) × (625 ≤ vec_capacity made.old) }

@@ -1,6 +1,6 @@
 //! The region table.
 
-ghost use Rattle.std.specs.Prelude.{◌≡◌, ◌+◌, ◌≤◌, ◌<◌, ◌^◌, not, ◌&&◌, nat_eq, IsTrue, IfOk, OnOk, [], filter, count_by};
+ghost use Rattle.std.specs.Prelude.{◌≡◌, ℕ, ◌+◌, ◌≤◌, ◌<◌, ◌^◌, not, ◌&&◌, nat_eq, IsTrue, IfOk, OnOk, [], filter, count_by};
 ghost use Rattle.std.specs.Vec.{vec_capacity};
 ghost use Rattle.fol_model.specs.declared.regions.State.TheVariants.{Ticking};
 ghost use Rattle.fol_model.specs.Geometry.{is_chunk, is_section};
@@ -12,6 +12,7 @@ ghost use Rattle.fol_model.specs.Release.{release};
 ghost use Rattle.fol_model.specs.Rules.{Rules};
 ghost use Rattle.fol_model.specs.Outputs.{is_chunk_of, chunk_count};
 ghost use Rattle.fol_regions.specs.Changes.{add_change, release_change};
+ghost use Rattle.fol_regions.specs.DeadBounds.{most_in};
 ghost use Rattle.fol_regions.specs.Answers.{IsGiven, add_answer, remove_answer, begin_answer, begun_state, some_id, state_answer};
 
 use crate::add::hold;
@@ -19,20 +20,15 @@ use crate::chunks::list_chunks;
 use crate::counts::count_chunks;
 use crate::dead_bounds::{DeadBounds, forget_joined};
 use crate::dying::note_dying;
+use crate::near::{MOST_NEAR, NearRegions};
 use crate::release::Releaser;
 use crate::{AddAnswer, Begun, Change};
-use fol_model::{ChunkPos, Grid, SectionPos, State};
+use fol_model::{ChunkPos, Grid, MOST_SECTIONS, SectionPos, State};
 use fol_pages::NEAR_PAGES;
 use fol_region_tables::Tables;
 use fol_sections::{Removed, Sections};
 use std::alloc::{AllocError, Global};
 use std::marker::Model;
-
-/// The most regions near a chunk: each has a section within the create and the merge radius of the chunk's own.
-const MOST_NEAR: usize = 625;
-
-/// The most sections within a create radius of a section, which is at most 8.
-const MOST_DYING: usize = 289;
 
 /// The most regions that one event makes: each is a part of a split, and has the sections of a margin to itself.
 const MOST_MADE: usize = 1_820;
@@ -47,20 +43,15 @@ pub struct Regions {
     sections: Sections,
     tables: Tables,
     releaser: Releaser,
-    near: Vec<u64>,
-    made: Vec<u64>,
+    near: NearRegions,
     change: Change,
     /// How many dead sections each region has at most.
     dead: DeadBounds,
-    /// The dead sections near a chunk whose last hold was removed.
-    dying: Vec<SectionPos>,
     /// How many events there is memory for.
     spare: u32,
 }
 
 impl Model for Regions {
-    ghost use Rattle.std.specs.Prelude.{◌≤◌};
-    ghost use Rattle.std.specs.Vec.{vec_capacity};
     ghost use Rattle.fol_regions.specs.DeadBounds.{BoundsDead, most_in};
     ghost use Rattle.fol_regions.specs.Kept.{IsKept};
     ghost use Rattle.fol_regions.specs.Released.{grid_of};
@@ -70,10 +61,12 @@ impl Model for Regions {
 
     ghost view = { λ s. record { sections = s.sections; book = s.tables; last = s.change; spare = s.spare } };
 
-    ghost invariant = { λ s. IsKept s.grid s.sections s.tables s.spare (vec_capacity s.near) (vec_capacity s.made) × BoundsDead (grid_of s.sections s.tables) (most_in s.dead) × (289 ≤ vec_capacity s.dying) };
+    ghost invariant = { λ s. IsKept s.grid s.sections s.tables s.spare × BoundsDead (grid_of s.sections s.tables) (most_in s.dead) };
 }
 
 impl Regions {
+    ghost use Rattle.fol_regions.specs.Kept.{IsKept};
+    ghost use Rattle.fol_regions.specs.Released.{grid_of};
     ghost use Rattle.fol_regions.specs.Table.{Table, grid_state};
 
     /// No region and no section. Takes the memory for 16,384 sections.
@@ -81,21 +74,12 @@ impl Regions {
         ensures empty { IfOk result (λ t. grid_state t ≡ empty grid) }
     {
         let _create = grid.create;
+        let sections = Sections::new(alloc, grid)?;
+        let change = Change::new(alloc)?;
         let tables = Tables::new(alloc)?;
         tables.keeps_lists();
         tables.keeps_states();
-        Ok(Regions {
-            grid,
-            sections: Sections::new(alloc, grid)?,
-            tables,
-            releaser: Releaser::new(alloc)?,
-            near: Vec::with_capacity(alloc, MOST_NEAR)?,
-            made: Vec::with_capacity(alloc, MOST_NEAR)?,
-            change: Change::new(alloc)?,
-            dead: DeadBounds::new(alloc)?,
-            dying: Vec::with_capacity(alloc, MOST_DYING)?,
-            spare: 0,
-        })
+        Regions::of_parts(alloc, grid, sections, tables, change, 0)
     }
 
     /// The same table, with the same last change and memory for as many events, in memory of its own.
@@ -104,17 +88,36 @@ impl Regions {
         ensures last { IfOk result (λ t. t.last ≡ self.now.last) }
         ensures spare { IfOk result (λ t. self.now.spare ≤ t.spare) }
     {
+        let sections = self.sections.copy(alloc)?;
+        let change = self.change.copy(alloc)?;
+        let tables = self.tables.copy(alloc)?;
+        Regions::of_parts(alloc, self.grid, sections, tables, change, self.spare)
+    }
+
+    /// The table of these sections and regions, with the memory in which its calls work.
+    fn of_parts(
+        alloc: Global,
+        grid: Grid,
+        sections: Sections,
+        tables: Tables,
+        change: Change,
+        spare: u32,
+    ) -> Result<Regions, AllocError>
+        requires { IsKept grid sections tables spare }
+        ensures state { IfOk result (λ t. grid_state t ≡ grid_of sections tables) }
+        ensures last { IfOk result (λ t. t.last ≡ change) }
+        ensures spare { IfOk result (λ t. t.spare ≡ spare) }
+    {
+        let (near, dead, releaser) = working_memory(alloc)?;
         Ok(Regions {
-            grid: self.grid,
-            sections: self.sections.copy(alloc)?,
-            tables: self.tables.copy(alloc)?,
-            releaser: Releaser::new(alloc)?,
-            near: Vec::with_capacity(alloc, MOST_NEAR)?,
-            made: Vec::with_capacity(alloc, MOST_NEAR)?,
-            change: self.change.copy(alloc)?,
-            dead: DeadBounds::new(alloc)?,
-            dying: Vec::with_capacity(alloc, MOST_DYING)?,
-            spare: self.spare,
+            grid,
+            sections,
+            tables,
+            releaser,
+            near,
+            change,
+            dead,
+            spare,
         })
     }
 
@@ -169,7 +172,6 @@ impl Regions {
             &mut self.sections,
             &mut self.tables,
             &mut self.near,
-            &mut self.made,
             &mut self.change,
             &self.grid,
             c,
@@ -188,7 +190,6 @@ impl Regions {
         let answer = self.sections.remove(c);
         note_dying(
             &mut self.dead,
-            &mut self.dying,
             &self.tables,
             &self.sections,
             &self.grid,
@@ -340,4 +341,15 @@ impl Regions {
     {
         let _spare = &self.spare;
     }
+}
+
+/// The memory in which the calls of a table work; nothing is known of dead sections.
+fn working_memory(alloc: Global) -> Result<(NearRegions, DeadBounds, Releaser), AllocError>
+    ensures { IfOk result (λ memory. (r : ℕ) → most_in memory.1 r ≡ MOST_SECTIONS) }
+{
+    Ok((
+        NearRegions::new(alloc)?,
+        DeadBounds::new(alloc)?,
+        Releaser::new(alloc)?,
+    ))
 }

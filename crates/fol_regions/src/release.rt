@@ -50,17 +50,9 @@ impl Releaser {
 
     /// Takes the memory for 16,384 sections.
     pub fn new(alloc: Global) -> Result<Releaser, AllocError> {
-        let splitter = Splitter::new(alloc)?;
-        let ids = Vec::with_capacity(alloc, MOST_SECTIONS)?;
-        let living = Vec::with_capacity(alloc, MOST_SECTIONS)?;
-        let dead = Vec::with_capacity(alloc, MOST_SECTIONS)?;
         Ok(Releaser {
-            ids,
-            cleaner: Cleaner {
-                splitter,
-                living,
-                dead,
-            },
+            ids: Vec::with_capacity(alloc, MOST_SECTIONS)?,
+            cleaner: Cleaner::new(alloc)?,
         })
     }
 
@@ -165,6 +157,18 @@ struct Cleaner {
 }
 
 impl Cleaner {
+    /// Takes the memory for 16,384 sections.
+    fn new(alloc: Global) -> Result<Cleaner, AllocError>
+        ensures living { IfOk result (λ c. MOST_SECTIONS ≤ vec_capacity c.living) }
+        ensures dead { IfOk result (λ c. MOST_SECTIONS ≤ vec_capacity c.dead) }
+    {
+        Ok(Cleaner {
+            living: Vec::with_capacity(alloc, MOST_SECTIONS)?,
+            dead: Vec::with_capacity(alloc, MOST_SECTIONS)?,
+            splitter: Splitter::new(alloc)?,
+        })
+    }
+
     /// Puts the sections of a region that are in a margin into one list, and the others into another.
     fn sort_out(&mut self, sections: &Sections, row: &[SectionPos])
         requires living_room { length row.now ≤ vec_capacity self.old.living }

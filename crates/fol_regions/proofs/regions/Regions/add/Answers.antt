@@ -1,5 +1,4 @@
 use Rattle.std.proofs.Common.{◌∙◌, ◌-◌, sym, ap, arith, subst}
-use Rattle.std.specs.Vec.{vec_capacity}
 use Rattle.fol_model.specs.GridNumbers.{IsGrid}
 use Rattle.fol_model.specs.Rules.{Rules}
 use Rattle.fol_laws.proofs.RegionLaws.{add_keeps_rules}
@@ -33,7 +32,7 @@ invariant_of-self c =
     let n = rw (← c.self.view_is) at c.requires.spare in
     let kept = c.self.invariant.0 in
     let r = kept.room in
-    let after : IsKept c.self.inside.grid c.hold-answer.new.sections c.hold-answer.new.tables (c.self.inside.spare - 1) (vec_capacity c.hold-answer.new.near) (vec_capacity c.hold-answer.new.made) = record {
+    let after : IsKept c.self.inside.grid c.hold-answer.new.sections c.hold-answer.new.tables (c.self.inside.spare - 1) = record {
       same = kept.same ∙ sym c.hold-answer.ensures.grid;
       numbers = subst IsGrid (sym c.hold-answer.ensures.grid) kept.numbers;
       rules = subst Rules (sym c.hold-answer.ensures.state) (add_keeps_rules (grid_of c.self.inside.sections c.self.inside.tables) c.args.c kept.rules (state_grid c.self.inside.sections c.self.inside.tables kept.numbers) c.requires.in_range);
@@ -44,10 +43,8 @@ invariant_of-self c =
         ahead = omega (arith, n, r.ahead, c.hold-answer.ensures.ahead.0, c.hold-answer.ensures.ahead.1);
         behind = omega (arith, n, r.behind, c.hold-answer.ensures.behind.0, c.hold-answer.ensures.behind.1);
       };
-      near = c.hold-answer.ensures.rooms.0;
-      made = c.hold-answer.ensures.rooms.1;
     } in
-    (after, bounds_added (grid_of c.self.inside.sections c.self.inside.tables) c.args.c c.self.invariant.0.rules (state_grid c.self.inside.sections c.self.inside.tables c.self.invariant.0.numbers) c.requires.in_range (grid_of c.hold-answer.new.sections c.hold-answer.new.tables) c.hold-answer.ensures.state after.rules _ _ c.self.invariant.1 c.merges.result.now (c.merges.ensures ∙ ap (λ (x : Changes). x.merges) c.hold-answer.ensures.change) c.forget_joined.ensures, c.self.invariant.2)
+    (after, bounds_added (grid_of c.self.inside.sections c.self.inside.tables) c.args.c c.self.invariant.0.rules (state_grid c.self.inside.sections c.self.inside.tables c.self.invariant.0.numbers) c.requires.in_range (grid_of c.hold-answer.new.sections c.hold-answer.new.tables) c.hold-answer.ensures.state after.rules _ _ c.self.invariant.1 c.merges.result.now (c.merges.ensures ∙ ap (λ (x : Changes). x.merges) c.hold-answer.ensures.change) c.forget_joined.ensures)
 
 pub returns-clause-state : goal.returns-clause-state
 unfolding grid_state grid_of

@@ -7,7 +7,7 @@ use Rattle.fol_regions.proofs.regions.Regions.begin.Goals as goal
 pub invariant_of-self : goal.invariant_of-self
 invariant_of-self c =
     let ready = sym c.state-state.ensures ∙ c.in-Ready.is in
-    (steps.begun_kept c.self.inside.grid c.self.inside.sections c.self.inside.tables c.self.inside.spare _ _ c.self.invariant.0 c.set_state.new.self c.args.id ready c.set_state.ensures, steps.begun_bounds c.self.inside.grid c.self.inside.sections c.self.inside.tables c.self.inside.spare _ _ c.self.invariant.0 c.set_state.new.self c.args.id ready c.set_state.ensures _ c.self.invariant.1, c.self.invariant.2)
+    (steps.begun_kept c.self.inside.grid c.self.inside.sections c.self.inside.tables c.self.inside.spare c.self.invariant.0 c.set_state.new.self c.args.id ready c.set_state.ensures, steps.begun_bounds c.self.inside.grid c.self.inside.sections c.self.inside.tables c.self.inside.spare c.self.invariant.0 c.set_state.new.self c.args.id ready c.set_state.ensures _ c.self.invariant.1)
 
 pub returns-in-Ready-clause-answer : goal.returns-in-Ready-clause-answer
 unfolding grid_state
@@ -15,7 +15,7 @@ returns-in-Ready-clause-answer c = let e = sym c.state-state.ensures ∙ c.in-Re
 
 pub returns-in-Ready-clause-state : goal.returns-in-Ready-clause-state
 unfolding grid_state grid_of
-returns-in-Ready-clause-state c = rw (← c.self.view_is) (steps.begun_state_is c.self.inside.grid c.self.inside.sections c.self.inside.tables c.self.inside.spare _ _ c.self.invariant.0 c.set_state.new.self c.args.id (sym c.state-state.ensures ∙ c.in-Ready.is) c.set_state.ensures)
+returns-in-Ready-clause-state c = rw (← c.self.view_is) (steps.begun_state_is c.self.inside.grid c.self.inside.sections c.self.inside.tables c.self.inside.spare c.self.invariant.0 c.set_state.new.self c.args.id (sym c.state-state.ensures ∙ c.in-Ready.is) c.set_state.ensures)
 
 pub returns-in_default : goal.returns-in_default
 unfolding grid_state

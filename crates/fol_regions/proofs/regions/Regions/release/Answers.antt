@@ -18,8 +18,8 @@ pub invariant_of-self : goal.invariant_of-self
 unfolding grid_state grid_of
 invariant_of-self c =
     let ticks = rw (← c.self.view_is) at c.requires.ticks in
-    let kept = steps.released_kept c.self.inside.grid c.self.inside.sections c.self.inside.tables c.self.inside.spare _ _ c.self.invariant.0 c.release-left.new.sections c.release-left.new.tables c.args.id ticks c.release-left.ensures.state c.release-left.ensures.presence c.release-left.ensures.rooms c.release-left.ensures.grid c.release-left.ensures.spare in
-    (kept, bounds_released (grid_of c.self.inside.sections c.self.inside.tables) c.args.id c.self.invariant.0.rules ticks (grid_of c.release-left.new.sections c.release-left.new.tables) c.release-left.ensures.state kept.rules _ _ c.release-left.result c.self.invariant.1 c.release-left.ensures.dead c.set.ensures, c.self.invariant.2)
+    let kept = steps.released_kept c.self.inside.grid c.self.inside.sections c.self.inside.tables c.self.inside.spare c.self.invariant.0 c.release-left.new.sections c.release-left.new.tables c.args.id ticks c.release-left.ensures.state c.release-left.ensures.presence c.release-left.ensures.rooms c.release-left.ensures.grid c.release-left.ensures.spare in
+    (kept, bounds_released (grid_of c.self.inside.sections c.self.inside.tables) c.args.id c.self.invariant.0.rules ticks (grid_of c.release-left.new.sections c.release-left.new.tables) c.release-left.ensures.state kept.rules _ _ c.release-left.result c.self.invariant.1 c.release-left.ensures.dead c.set.ensures)
 
 pub release-left-requires-clause-dead : goal.release-left-requires-clause-dead
 unfolding grid_state grid_of
