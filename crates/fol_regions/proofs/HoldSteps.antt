@@ -3,7 +3,7 @@ use Rattle.std.proofs.Common.{◌≡◌, ℕ, ◌+◌, ◌≤◌, ◌<◌, refl,
 use Rattle.std.specs.Prelude.{filter, nat_eq, nat_lt}
 use Rattle.std.proofs.Math.Bool.{or-false, or-true}
 use Rattle.std.proofs.lemmas.Bool.{cases_Bool, eqb-true, lt-ltb, ltb-false, leb-true, and_parts}
-use Rattle.std.proofs.lemmas.List.Sums.{length-filter, count_by-le-length}
+use Rattle.std.proofs.lemmas.List.Sums.{length-filter}
 use Rattle.fol_model.specs.declared.places.ChunkPos.{ChunkPos}
 use Rattle.fol_model.specs.declared.places.SectionPos.{SectionPos}
 use Rattle.fol_model.specs.Add.{add, counted, extended, is_full, is_greatest, is_near, is_near_calm, is_wanted, target, target_waits, wanted}
@@ -12,12 +12,11 @@ use Rattle.fol_model.specs.GridNumbers.{IsGrid}
 use Rattle.fol_model.specs.GridState.{GridState, at_chunk}
 use Rattle.fol_model.specs.GridState as grid
 use Rattle.fol_model.specs.Rules.{Rules}
-use Rattle.fol_model.specs.Universe.{all_sections, count_sections, square}
+use Rattle.fol_model.specs.Universe.{all_sections, count_sections}
 use Rattle.fol_laws.proofs.AddTarget.{near_has, target_pos}
 use Rattle.fol_laws.proofs.AllSections.{count_sections-is}
 use Rattle.fol_laws.proofs.FloorDivision.{around_in_limits}
 use Rattle.fol_laws.proofs.GridFields.{fewer_keeps}
-use Rattle.fol_laws.proofs.SectionOrder.{near_rows}
 use Rattle.fol_sections.specs.Table as sections
 use Rattle.fol_sections.specs.Table.{holds_of, presence_of, is_missing, missing_count, is_full_for, added, Adds, IsSame}
 use Rattle.fol_sections.specs.declared.answers.Added.{Added}
@@ -28,7 +27,6 @@ use Rattle.fol_regions.specs.Answers.{add_answer}
 use Rattle.fol_region_tables.specs.Book.{Book, owner_of, state_of, waits_of}
 use Rattle.fol_regions.specs.Changes.{add_change, nothing}
 use Rattle.fol_regions.specs.Released.{IsPresence, grid_of}
-use Rattle.fol_sections.proofs.Lengths.{length-square}
 use Rattle.fol_region_tables.proofs.Chosen.{count_like, filter_like}
 
 -- ---- the answers of the table of sections

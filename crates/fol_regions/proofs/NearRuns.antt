@@ -1,12 +1,12 @@
 -- The regions of sections side by side in one page.
-use Rattle.std.proofs.Common.{◌≡◌, ℕ, zero, suc, ◌+◌, ◌<◌, refl, sym, ◌∙◌, ap, arith, Bool, true, false, cond, ◌||◌, inl, inr, List, [], ◌∷◌, ◌++◌, append_assoc}
+use Rattle.std.proofs.Common.{◌≡◌, ℕ, zero, suc, ◌+◌, ◌<◌, refl, sym, ◌∙◌, ap, arith, true, ◌||◌, inl, inr, List, [], ◌∷◌, ◌++◌, append_assoc}
 use Rattle.std.specs.Prelude.{ℤ, pos, ◌+ℤ◌, nat_eq, nat_lt}
 use Rattle.std.specs.List.{list_any, filter}
-use Rattle.std.proofs.lemmas.Bool.{cases_Bool, cases_eq, eq-eqb, or_left, or_right}
+use Rattle.std.proofs.lemmas.Bool.{cases_Bool, eq-eqb, or_left, or_right}
 use Rattle.std.proofs.lemmas.List.Folds.{list_any-append}
 use Rattle.fol_model.specs.declared.places.SectionPos.{SectionPos}
 use Rattle.fol_sections.specs.Rows.{row_of as run_of, section_at}
-use Rattle.fol_sections.proofs.Rows.{row-more, row-none, row-split}
+use Rattle.fol_sections.proofs.Rows.{row-more, row-split}
 use Rattle.fol_region_tables.specs.Links.{with_id}
 use Rattle.fol_regions.specs.Near.{noted, regions_of, row_of}
 use Rattle.fol_regions.proofs.NearRegions.{regions_more}
