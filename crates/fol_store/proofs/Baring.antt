@@ -1,5 +1,5 @@
 -- A store with nothing in it, and lists that are laid from their ends.
-use Rattle.std.proofs.Common.{◌≡◌, ℕ, suc, ◌<◌, Bool, true, false, List, [], length, get_or, drop, refl, sym, ◌∙◌, ap, lit≤, drop-cons, Option, Some, None}
+use Rattle.std.proofs.Common.{◌≡◌, ℕ, zero, suc, ◌<◌, Bool, true, false, List, [], ◌∷◌, length, get_or, drop, refl, sym, ◌∙◌, ap, subst, lit≤, drop-cons, Option, Some, None}
 use Rattle.std.specs.Prelude.{nat_eq, if◌then◌else◌}
 use Rattle.std.specs.List.{IsDistinct}
 use Rattle.std.specs.Option.{unwrap_or}
@@ -18,10 +18,9 @@ use Rattle.fol_store.specs.declared.slot.Slot.{Slot}
 use Rattle.fol_store.specs.declared.places.Place.{Place}
 use Rattle.fol_store.specs.Bag.{no_bag}
 use Rattle.fol_store.specs.Laid.{AllClosed, IsBare}
-use Rattle.fol_store.specs.Moves.{SameThings}
 use Rattle.fol_store.specs.Slots.{slot_in}
 use Rattle.fol_store.specs.Places.{PlaceRows, place_at, nowhere}
-use Rattle.fol_store.specs.Things.{Key, of_block, of_entity, of_task, Thing, some_number, no_data}
+use Rattle.fol_store.specs.Things.{Key, of_block, of_entity, of_task, Thing, things, some_number, no_data, IsTimely}
 use Rattle.fol_store.specs.Stock.{Stock, Where, arriving, in_spot, in_bag, slot, column, found, bag_of, shown, no_slot, flat_of, jobs_of}
 use Rattle.fol_store.specs.Sound.{IsSound}
 use Rattle.fol_store.proofs.Totals.{things_none, found_at, number_is}
@@ -29,15 +28,19 @@ use Rattle.fol_store.proofs.BagSteps.{closed_bag, bag_slot}
 use Rattle.fol_store.proofs.Opening.{timely_empty}
 use Rattle.fol_store.proofs.Spotting.{none_arrives}
 
-module _ (bags : List Slot) (places : PlaceRows) (spare slots : ℕ) (same : (u : ℕ) → SameThings no_data (slot_in bags u).body) (none : (u : ℕ) → (slot_in bags u).body.queues.tasks ≡ [])
-    (each : (u : ℕ) → slot_in bags u ≡ (let b : Slot = record no_slot { body = (slot_in bags u).body } in b)) (homes : (q : ChunkPos) → place_at places q ≡ nowhere) where
+-- the one bag of an id that no region has
+closed : (u : ℕ) → slot_in (no_slot ∷ []) u ≡ no_slot
+closed zero = refl
+closed (suc u) = refl
+
+module _ (places : PlaceRows) (spare slots : ℕ) (homes : (q : ChunkPos) → place_at places q ≡ nowhere) where
   abbrev pub bare : Stock
-  bare = record { arrivals = []; spots = []; bags = bags; places = places; spare = spare; slots = slots }
+  bare = record { arrivals = []; spots = []; bags = no_slot ∷ []; places = places; spare = spare; slots = slots }
 
   nothing : (k : Key) (w : Where) → column bare k w ≡ None
   nothing k arriving = none_arrives bare k refl
   nothing k (in_spot i) = things_none k
-  nothing k (in_bag u) = (same u).things k ∙ things_none k
+  nothing k (in_bag u) = ap (λ (b : Slot). things b.body k) (closed u) ∙ things_none k
 
   clash : {P : Type 0} (k : Key) (w : Where) (x : Thing k) → column bare k w ≡ Some x → P
   clash k w x q = let z : None ≡ Some x = sym (nothing k w) ∙ q in absurd (let f : ⊥ = cc in f)
@@ -49,16 +52,16 @@ module _ (bags : List Slot) (places : PlaceRows) (spare slots : ℕ) (same : (u 
     lies = λ k w x q. clash k w x q;
     spot_range = λ c i e. let z : None ≡ Some i = sym (ap (λ (p : Place). p.spot) (homes c)) ∙ e in absurd (let f : ⊥ = cc in f);
     bag_range = λ c i e. let z : None ≡ Some i = sym (ap (λ (p : Place). p.bag) (homes c)) ∙ e in absurd (let f : ⊥ = cc in f);
-    bags = λ u. closed_bag bare u (slot bare u) (ap (λ (b : Slot). b.here) (each u)) (ap (λ (b : Slot). b.taken) (each u)) (ap (λ (b : Slot). b.listed) (each u));
+    bags = λ u. closed_bag bare u (slot bare u) (ap (λ (b : Slot). b.here) (closed u)) (ap (λ (b : Slot). b.taken) (closed u)) (ap (λ (b : Slot). b.listed) (closed u));
     spot_times = λ i. timely_empty no_data (lit≤ tt) refl;
-    bag_times = λ u. timely_empty (slot bare u).body (rw (same u).tick (lit≤ tt)) (none u);
+    bag_times = λ u. let P : Slot → Type 0 = λ b. IsTimely b.body in subst P (sym (closed u)) (timely_empty no_data (lit≤ tt) refl);
     arrival_times = All-nil (IsInTime 0);
     arrivals_differ = tt;
   }
 
   pub is_bare : IsBare bare
   is_bare = record {
-    closed = record { bags = λ u. bag_slot bare u ∙ ap shown (each u) };
+    closed = record { bags = λ u. bag_slot bare u ∙ ap shown (closed u) };
     nothing = λ k. go k (found bare k) refl;
   }
     where

@@ -6,7 +6,7 @@ use denote.Param.Send.{IsSend, sendable}
 use denote.Param.SendFields.{as_row_send, declared_send}
 use denote.RattleType.{RattleType}
 use denote.Struct.Tuple.{Tuple}
-use Rattle.std.proofs.Crossing.{Vec-send}
+use Rattle.std.proofs.Crossing.{Box-send, Vec-send}
 use Rattle.std.proofs.MapsCrossing.{HashMap-send}
 use Rattle.std.specs.contracts.alloc.Global as Global
 use Rattle.std.specs.contracts.collections.HashMap as HashMap
@@ -20,6 +20,8 @@ use Rattle.std.specs.declared.hash.Hasher as hasher
 use Rattle.fol_data.proofs.Crossing.{RegionData-send}
 use Rattle.fol_model.proofs.Crossing.{ChunkPos-send, Sequence-send}
 use Rattle.fol_queues.proofs.Crossing.{Dated-send}
+use Rattle.fol_store.specs.contracts.bags.Bags as bags
+use Rattle.fol_store.specs.contracts.kept.Kept as kept
 use Rattle.fol_store.specs.contracts.places.Place as place
 use Rattle.fol_store.specs.contracts.places.Places as places
 use Rattle.fol_store.specs.contracts.places.Places.TheInside as inside
@@ -28,6 +30,12 @@ use Rattle.fol_store.specs.contracts.store.Store as store
 
 Slot-send : IsSend (slot.the_field).row
 Slot-send = search (sendable, RegionData-send, Sequence-send, ChunkPos-send) depth 14
+
+Kept-send : IsSend (kept.the_field).row
+Kept-send = search (sendable, Box-send, Slot-send) depth 14
+
+Bags-send : IsSend (bags.the_field).row
+Bags-send = search (sendable, Vec-send, Box-send, Kept-send, Slot-send) depth 14
 
 -- ---- maps by the place of a chunk
 
@@ -51,4 +59,4 @@ Places-send : IsSend (places.the_field).row
 Places-send = search (sendable, fields_send) depth 14
 
 pub Store-send : IsSend (store.the_field).row
-Store-send = search (sendable, Vec-send, Dated-send, RegionData-send, Slot-send, Places-send) depth 14
+Store-send = search (sendable, Vec-send, Dated-send, RegionData-send, Bags-send, Places-send) depth 14

@@ -34,4 +34,5 @@ pub mod Leaving
 pub mod Joining
 pub mod Relisting
 pub mod Compacting
+pub mod Releasing
 pub mod Parting

@@ -8,6 +8,8 @@ pub mod Things
 pub mod Sound
 pub mod Moves
 pub mod Slots
+pub mod KeptLends
+pub mod BagLends
 pub mod Steps
 pub mod Laid
 pub mod TaskRows

@@ -1,9 +1,22 @@
 -- The bags by region, and the spots by number.
-use Rattle.std.specs.Prelude.{ℕ, Bool, not, ◌&&◌, List, slice_index_or}
+use Rattle.std.specs.Prelude.{ℕ, Bool, not, ◌&&◌, List, slice_index_or, Option, Some, None}
+use Rattle.std.specs.Global.{Box}
 use Rattle.fol_data.specs.declared.region_data.RegionData.{RegionData}
 use Rattle.fol_store.specs.declared.slot.Slot.{Slot}
 use Rattle.fol_store.specs.Things.{no_data}
 use Rattle.fol_store.specs.Stock.{no_slot}
+
+-- what contracts see of the bags
+pub record BagRows : Type 0 where
+  -- by region
+  pub items : List Slot
+  -- how many more can be opened without taking memory
+  pub free : ℕ
+
+-- the bag behind a pointer, if there is one
+abbrev pub slot_behind : Option (Box Slot) → Slot
+slot_behind None = no_slot
+slot_behind (Some b) = b.value
 
 abbrev pub slot_in : List Slot → ℕ → Slot
 slot_in bags id = slice_index_or bags id no_slot

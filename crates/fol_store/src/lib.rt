@@ -13,6 +13,8 @@
 //! `gain`, `lose`, `unite`, `hand_over`, `succeed` and `into_rows` take memory; `accept` takes some where there is. It serves the core.
 #![tactic(auto)]
 
+mod bags;
+mod kept;
 mod members;
 mod places;
 mod rows;

@@ -7,7 +7,8 @@ ghost use Rattle.fol_store.specs.Things.{IsTimely};
 ghost use Rattle.fol_store.specs.TaskRows.{row_of};
 ghost use Rattle.fol_store.specs.Lists.{blocks_of, entities_of, tasks_of, IsListed};
 
-use crate::slot::Slot;
+use crate::bags::Bags;
+use crate::kept::Kept;
 use fol_data::RegionData;
 use fol_model::{BlockAt, Entity, TaskRow};
 use fol_queues::Dated;
@@ -29,7 +30,7 @@ pub fn list(
     alloc: Global,
     arrivals: Vec<Dated>,
     spots: Vec<RegionData>,
-    bags: Vec<Slot>,
+    bags: Bags,
 ) -> Result<Rows, AllocError>
     requires arrivals_timely { All (IsInTime 0) arrivals.items }
     requires spots_timely { All IsTimely spots.items }
@@ -57,7 +58,7 @@ pub fn list(
         Ok(()) => {}
         Err(_) => return Err(AllocError),
     }
-    match add_bags(&mut rows, bags) {
+    match add_bags(&mut rows, bags.into_kept()) {
         Ok(()) => {}
         Err(_) => return Err(AllocError),
     }
@@ -85,7 +86,7 @@ fn add_spots(rows: &mut Rows, spots: Vec<RegionData>) -> Result<(), AllocError>
 }
 
 /// Adds what lies in the bags.
-fn add_bags(rows: &mut Rows, bags: Vec<Slot>) -> Result<(), AllocError>
+fn add_bags(rows: &mut Rows, bags: Vec<Kept>) -> Result<(), AllocError>
     requires { All (λ b. IsTimely b.body) bags.items }
     ensures blocks { OnOk result (rows.new.blocks.items
         ≡ rows.old.blocks.items ++ flat_map (λ b. blocks_of b.body) bags.items) }
@@ -96,7 +97,7 @@ fn add_bags(rows: &mut Rows, bags: Vec<Slot>) -> Result<(), AllocError>
     ensures listed { OnOk result (All (λ b. IsListed b.body) bags.items) }
 {
     for bag in bags {
-        match add_body(rows, body_of(bag)) {
+        match add_bag(rows, bag) {
             Ok(()) => {}
             Err(_) => return Err(AllocError),
         }
@@ -104,11 +105,21 @@ fn add_bags(rows: &mut Rows, bags: Vec<Slot>) -> Result<(), AllocError>
     Ok(())
 }
 
-/// What lies in a bag.
-fn body_of(bag: Slot) -> RegionData
-    ensures { result ≡ bag.body }
+/// Adds what lies in a bag, where there is one.
+fn add_bag(rows: &mut Rows, bag: Kept) -> Result<(), AllocError>
+    requires { IsTimely bag.body }
+    ensures blocks { OnOk result (rows.new.blocks.items
+        ≡ rows.old.blocks.items ++ blocks_of bag.body) }
+    ensures entities { OnOk result (rows.new.entities.items
+        ≡ rows.old.entities.items ++ entities_of bag.body) }
+    ensures tasks { OnOk result (rows.new.tasks.items
+        ≡ rows.old.tasks.items ++ tasks_of bag.body) }
+    ensures listed { OnOk result (IsListed bag.body) }
 {
-    bag.body
+    match bag.into_body() {
+        Some(body) => add_body(rows, body),
+        None => Ok(()),
+    }
 }
 
 /// Adds what lies in the data of a region.

@@ -1,12 +1,15 @@
 //! The bag of a region, as the store keeps it.
 
-ghost use Rattle.std.specs.Prelude.{◌≡◌, ◌≤◌, true, not, ◌||◌, ◌&&◌, [], ◌∷◌, ◌++◌, ◌⊎◌, length, OnOk};
+ghost use Rattle.std.specs.Prelude.{◌≡◌, ◌≤◌, true, not, ◌||◌, ◌&&◌, [], ◌∷◌, ◌++◌, ◌⊎◌, length, false, IsTrue, OnOk};
 ghost use Rattle.std.specs.List.{insert};
 ghost use Rattle.std.specs.List.Sorted.{IsStrictlySortedBy};
 ghost use Rattle.fol_model.specs.declared.places.ChunkPos.{ChunkPos};
 ghost use Rattle.fol_model.specs.Geometry.{same_chunk};
 ghost use Rattle.fol_chunks.specs.Contents.{is_recorded};
 ghost use Rattle.fol_chunks.specs.Order.{chunk_cmp};
+ghost use Rattle.fol_store.specs.Stock.{no_slot};
+ghost use Rattle.fol_store.specs.Moves.{SameThings};
+ghost use Rattle.fol_store.specs.Things.{Key, no_data, things, IsTimely};
 
 use crate::members;
 use fol_data::RegionData;
@@ -37,6 +40,72 @@ pub struct Slot {
 }
 
 impl Slot {
+    /// That of a region that has just begun, with these counters: it holds nothing and has no chunk. Takes no memory.
+    pub fn opened(alloc: Global, tick: u64, owed: u32) -> Slot
+        ensures body { SameThings (record no_data { tick = tick; owed = owed }) result.body }
+        ensures tasks { result.body.queues.tasks ≡ [] }
+        ensures rest { result ≡ record no_slot {
+          body = result.body;
+          here = true;
+          listed = true;
+          calm = true;
+        } }
+    {
+        Slot {
+            body: new_data(alloc, tick, owed),
+            here: true,
+            taken: false,
+            listed: true,
+            calm: true,
+            chunks: Sequence::new(alloc),
+            handed: Sequence::new(alloc),
+            touched: Sequence::new(alloc),
+            since: Sequence::new(alloc),
+        }
+    }
+
+    /// Whether no region has it any more, and nothing lies in it.
+    pub fn is_over(&self) -> bool
+        ensures things { IsTrue result → (k : Key) → things self.now.body k ≡ things no_data k }
+        ensures rest { IsTrue result → self.now ≡ record no_slot { body = self.now.body } }
+    {
+        self.is_shut() && self.has_no_chunk() && self.body.is_empty()
+    }
+
+    /// Whether it is neither here nor with a worker, and its chunks are no region's.
+    fn is_shut(&self) -> bool
+        ensures here { IsTrue result → self.now.here ≡ false }
+        ensures taken { IsTrue result → self.now.taken ≡ false }
+        ensures listed { IsTrue result → self.now.listed ≡ false }
+        ensures calm { IsTrue result → self.now.calm ≡ false }
+    {
+        !(self.here || self.taken || self.listed || self.calm)
+    }
+
+    /// Whether no list has a chunk.
+    fn has_no_chunk(&self) -> bool
+        ensures chunks { IsTrue result → self.now.chunks ≡ [] }
+        ensures handed { IsTrue result → self.now.handed ≡ [] }
+        ensures touched { IsTrue result → self.now.touched ≡ [] }
+        ensures since { IsTrue result → self.now.since ≡ [] }
+    {
+        self.chunks.is_empty()
+            && self.handed.is_empty()
+            && self.touched.is_empty()
+            && self.since.is_empty()
+    }
+
+    /// Where nothing lies in it, the room for what lay there goes back.
+    pub fn compact(&mut self, alloc: Global)
+        ensures same { SameThings self.old.body self.new.body }
+        ensures timely { IsTimely self.old.body → IsTimely self.new.body }
+        ensures rest { self.new ≡ record self.old { body = self.new.body } }
+    {
+        if self.body.is_empty() {
+            self.body = new_data(alloc, self.body.tick, self.body.owed);
+        }
+    }
+
     /// A chunk comes, and is noted. If memory runs out, the lists may differ, and no chunk is lost.
     pub fn admit(&mut self, alloc: Global, c: ChunkPos) -> Result<(), AllocError>
         requires order { IsStrictlySortedBy chunk_cmp self.old.chunks }
@@ -117,4 +186,15 @@ impl Slot {
             Err(_) => {}
         }
     }
+}
+
+/// Data with these counters that holds nothing. Takes no memory.
+pub fn new_data(alloc: Global, tick: u64, owed: u32) -> RegionData
+    ensures things { SameThings (record no_data { tick = tick; owed = owed }) result }
+    ensures tasks { result.queues.tasks ≡ [] }
+{
+    let mut data = RegionData::new(alloc);
+    data.tick = tick;
+    data.owed = owed;
+    data
 }

@@ -1,11 +1,11 @@
-//! The bags by region.
+//! What the store does to the bags.
 
-ghost use Rattle.std.specs.Prelude.{◌≡◌, ◌≢◌, IsTrue, IfOk, OnOk, OnErr, None, ◌+◌, ◌<◌, ◌≤◌, ◌&&◌, ◌||◌, not, ℕ, nat_eq, if◌then◌else◌, true, false, [], ◌∷◌, ◌++◌, length, vec_len};
+ghost use Rattle.std.specs.Prelude.{◌≡◌, ◌≢◌, IsTrue, IfOk, OnOk, OnErr, None, ◌+◌, ◌<◌, ◌≤◌, ◌&&◌, ◌||◌, not, ℕ, nat_eq, if◌then◌else◌, true, false, [], ◌∷◌, ◌++◌, length};
 ghost use Rattle.std.specs.Option.{is_none, ForSome};
-ghost use Rattle.std.specs.Vec.{vec_capacity};
 ghost use Rattle.fol_store.specs.Stock.{no_slot};
 ghost use Rattle.fol_store.specs.Slots.{slot_in, stays_calm};
-ghost use Rattle.fol_store.specs.Things.{no_data, things, of_task, IsTimely};
+ghost use Rattle.fol_store.specs.Sound.{is_open};
+ghost use Rattle.fol_store.specs.Things.{Key, no_data, things, of_task, IsTimely};
 ghost use Rattle.fol_data.specs.Rests.{IsInTime};
 ghost use Rattle.fol_store.specs.Places.{is_bag};
 ghost use Rattle.fol_store.specs.Moves.{SameThings, AreApart, Loses, Gains, Queues};
@@ -15,9 +15,11 @@ ghost use Rattle.fol_chunks.specs.Contents.{is_recorded};
 ghost use Rattle.fol_model.specs.declared.places.ChunkPos.{ChunkPos};
 ghost use Rattle.fol_model.specs.Geometry.{same_chunk};
 
+use crate::bags::Bags;
+use crate::kept::Kept;
 use crate::places::Place;
 use crate::shift::shift;
-use crate::slot::Slot;
+use crate::slot::{Slot, new_data};
 use crate::{Taken, waiting};
 use fol_data::RegionData;
 use fol_model::{ChunkPos, Sequence};
@@ -63,53 +65,60 @@ impl Listing {
 }
 
 /// Says that a bag has to be gathered anew.
-pub fn unlist(bags: &mut Vec<Slot>, id: usize)
-    requires { id < vec_len bags.old }
+pub fn unlist(bags: &mut Bags, id: usize)
+    requires { is_open (slot_in bags.old.items id) ≡ true }
     ensures slots { (u : ℕ) → slot_in bags.new.items u
         ≡ (if nat_eq id u then record (slot_in bags.old.items id) { listed = false }
         else slot_in bags.old.items u) }
-    ensures len { vec_len bags.new ≡ vec_len bags.old }
-    ensures capacity { vec_capacity bags.new ≡ vec_capacity bags.old }
+    ensures len { length bags.new.items ≡ length bags.old.items }
+    ensures free { bags.new.free ≡ bags.old.free }
 {
-    let slot = &mut bags[id];
+    let slot = bags.slot_mut(id);
     slot.listed = false;
 }
 
 /// Sets how many ticks a region owes.
-pub fn set_owed(bags: &mut Vec<Slot>, id: usize, owed: u32)
-    requires { id < vec_len bags.old }
+pub fn set_owed(bags: &mut Bags, id: usize, owed: u32)
+    requires { is_open (slot_in bags.old.items id) ≡ true }
     ensures slots { (u : ℕ) → slot_in bags.new.items u
         ≡ (if nat_eq id u
         then record (slot_in bags.old.items id)
         { body = record (slot_in bags.old.items id).body { owed = owed } }
         else slot_in bags.old.items u) }
-    ensures len { vec_len bags.new ≡ vec_len bags.old }
-    ensures capacity { vec_capacity bags.new ≡ vec_capacity bags.old }
+    ensures len { length bags.new.items ≡ length bags.old.items }
+    ensures free { bags.new.free ≡ bags.old.free }
 {
-    let slot = &mut bags[id];
+    let slot = bags.slot_mut(id);
     slot.body.owed = owed;
 }
 
-/// Closes a bag; what lies in it stays in it.
-pub fn close(alloc: Global, bags: &mut Vec<Slot>, id: usize)
-    requires { id < vec_len bags.old }
+/// Closes a bag; what lies in it stays in it. With nothing in it, its memory goes back.
+pub fn close(alloc: Global, bags: &mut Bags, id: usize)
+    requires { is_open (slot_in bags.old.items id) ≡ true }
+    ensures things { (k : Key) → things (slot_in bags.new.items id).body k
+        ≡ things (slot_in bags.old.items id).body k }
+    ensures timely { IsTimely (slot_in bags.old.items id).body
+        → IsTimely (slot_in bags.new.items id).body }
     ensures slots { (u : ℕ) → slot_in bags.new.items u
-        ≡ (if nat_eq id u then record {
-          body = (slot_in bags.old.items id).body;
-          here = false;
-          taken = false;
-          listed = false;
-          calm = false;
-          chunks = [];
-          handed = [];
-          touched = [];
-          since = [];
-        }
+        ≡ (if nat_eq id u then record no_slot { body = (slot_in bags.new.items id).body }
         else slot_in bags.old.items u) }
-    ensures len { vec_len bags.new ≡ vec_len bags.old }
-    ensures capacity { vec_capacity bags.new ≡ vec_capacity bags.old }
+    ensures len { length bags.new.items ≡ length bags.old.items }
+    ensures free { bags.new.free ≡ bags.old.free }
 {
-    let slot = &mut bags[id];
+    shut(alloc, bags, id);
+    bags.release(id);
+}
+
+/// Closes a bag; what lies in it stays in it.
+fn shut(alloc: Global, bags: &mut Bags, id: usize)
+    requires { is_open (slot_in bags.old.items id) ≡ true }
+    ensures slots { (u : ℕ) → slot_in bags.new.items u
+        ≡ (if nat_eq id u then record no_slot { body = (slot_in bags.old.items id).body }
+        else slot_in bags.old.items u) }
+    ensures len { length bags.new.items ≡ length bags.old.items }
+    ensures free { bags.new.free ≡ bags.old.free }
+{
+    let slot = bags.slot_mut(id);
     slot.here = false;
     slot.taken = false;
     slot.listed = false;
@@ -121,24 +130,24 @@ pub fn close(alloc: Global, bags: &mut Vec<Slot>, id: usize)
 }
 
 /// Gives a bag other chunks.
-pub fn relist(bags: &mut Vec<Slot>, id: usize, chunks: Vec<ChunkPos>)
-    requires { id < vec_len bags.old }
+pub fn relist(bags: &mut Bags, id: usize, chunks: Vec<ChunkPos>)
+    requires { is_open (slot_in bags.old.items id) ≡ true }
     ensures slots { (u : ℕ) → slot_in bags.new.items u
         ≡ (if nat_eq id u then record (slot_in bags.old.items id) {
           listed = false;
           chunks = chunks.items;
         } else slot_in bags.old.items u) }
-    ensures len { vec_len bags.new ≡ vec_len bags.old }
-    ensures capacity { vec_capacity bags.new ≡ vec_capacity bags.old }
+    ensures len { length bags.new.items ≡ length bags.old.items }
+    ensures free { bags.new.free ≡ bags.old.free }
 {
-    let slot = &mut bags[id];
+    let slot = bags.slot_mut(id);
     slot.listed = false;
     slot.chunks = Sequence::of(chunks);
 }
 
 /// Says that all that lies on the chunks of a bag lies in it, and gives it the list to be handed out.
-pub fn finish(alloc: Global, bags: &mut Vec<Slot>, id: usize, handed: Vec<ChunkPos>)
-    requires { id < vec_len bags.old }
+pub fn finish(alloc: Global, bags: &mut Bags, id: usize, handed: Vec<ChunkPos>)
+    requires { is_open (slot_in bags.old.items id) ≡ true }
     ensures slots { (u : ℕ) → slot_in bags.new.items u
         ≡ (if nat_eq id u then record (slot_in bags.old.items id) {
           listed = true;
@@ -146,10 +155,10 @@ pub fn finish(alloc: Global, bags: &mut Vec<Slot>, id: usize, handed: Vec<ChunkP
           handed = handed.items;
           touched = [];
         } else slot_in bags.old.items u) }
-    ensures len { vec_len bags.new ≡ vec_len bags.old }
-    ensures capacity { vec_capacity bags.new ≡ vec_capacity bags.old }
+    ensures len { length bags.new.items ≡ length bags.old.items }
+    ensures free { bags.new.free ≡ bags.old.free }
 {
-    let slot = &mut bags[id];
+    let slot = bags.slot_mut(id);
     slot.listed = true;
     slot.calm = true;
     slot.handed = Sequence::of(handed);
@@ -157,8 +166,8 @@ pub fn finish(alloc: Global, bags: &mut Vec<Slot>, id: usize, handed: Vec<ChunkP
 }
 
 /// Says that all that lies on these chunks lies in a bag or in their spots, and gives it the lists.
-pub fn list(bags: &mut Vec<Slot>, id: usize, lists: Listing)
-    requires { id < vec_len bags.old }
+pub fn list(bags: &mut Bags, id: usize, lists: Listing)
+    requires { is_open (slot_in bags.old.items id) ≡ true }
     ensures slots { (u : ℕ) → slot_in bags.new.items u
         ≡ (if nat_eq id u then record (slot_in bags.old.items id) {
           listed = true;
@@ -167,15 +176,15 @@ pub fn list(bags: &mut Vec<Slot>, id: usize, lists: Listing)
           handed = lists.handed.items;
           touched = lists.touched.items;
         } else slot_in bags.old.items u) }
-    ensures len { vec_len bags.new ≡ vec_len bags.old }
-    ensures capacity { vec_capacity bags.new ≡ vec_capacity bags.old }
+    ensures len { length bags.new.items ≡ length bags.old.items }
+    ensures free { bags.new.free ≡ bags.old.free }
 {
     let Listing {
         chunks,
         handed,
         touched,
     } = lists;
-    let slot = &mut bags[id];
+    let slot = bags.slot_mut(id);
     slot.listed = true;
     slot.calm = false;
     slot.chunks = Sequence::of(chunks);
@@ -184,14 +193,14 @@ pub fn list(bags: &mut Vec<Slot>, id: usize, lists: Listing)
 }
 
 /// A listed bag that the place names is calm no more.
-pub fn disturb(bags: &mut Vec<Slot>, place: Place)
-    requires { (id : ℕ) → place.bag ≡ Some id → id < vec_len bags.old }
+pub fn disturb(bags: &mut Bags, place: Place)
+    requires { (id : ℕ) → place.bag ≡ Some id → id < length bags.old.items }
     ensures slots { (u : ℕ) → slot_in bags.new.items u
         ≡ (if is_bag u place
         then record (slot_in bags.old.items u) { calm = stays_calm (slot_in bags.old.items u) }
         else slot_in bags.old.items u) }
-    ensures len { vec_len bags.new ≡ vec_len bags.old }
-    ensures capacity { vec_capacity bags.new ≡ vec_capacity bags.old }
+    ensures len { length bags.new.items ≡ length bags.old.items }
+    ensures free { bags.new.free ≡ bags.old.free }
 {
     match place.bag {
         Some(id) => disturb_bag(bags, id),
@@ -200,17 +209,19 @@ pub fn disturb(bags: &mut Vec<Slot>, place: Place)
 }
 
 /// A listed bag is calm no more.
-fn disturb_bag(bags: &mut Vec<Slot>, id: usize)
-    requires { id < vec_len bags.old }
+fn disturb_bag(bags: &mut Bags, id: usize)
+    requires { id < length bags.old.items }
     ensures slots { (u : ℕ) → slot_in bags.new.items u
         ≡ (if nat_eq id u
         then record (slot_in bags.old.items id) { calm = stays_calm (slot_in bags.old.items id) }
         else slot_in bags.old.items u) }
-    ensures len { vec_len bags.new ≡ vec_len bags.old }
-    ensures capacity { vec_capacity bags.new ≡ vec_capacity bags.old }
+    ensures len { length bags.new.items ≡ length bags.old.items }
+    ensures free { bags.new.free ≡ bags.old.free }
 {
-    let slot = &mut bags[id];
-    slot.calm = slot.calm && !slot.listed;
+    match bags.get_mut(id) {
+        Some(slot) => slot.calm = slot.calm && !slot.listed,
+        None => {}
+    }
 }
 
 /// Whether all that lies on the chunks of a bag lies in it.
@@ -221,17 +232,19 @@ pub fn is_whole(slot: &Slot) -> bool
 }
 
 /// Whether a listed bag is to be told of a task in the spot of one of its chunks.
-pub fn is_stirred(bags: &[Slot], id: usize) -> bool
-    requires { id < length bags.now }
-    ensures { result ≡ ((slot_in bags.now id).listed && not (slot_in bags.now id).calm) }
+pub fn is_stirred(bags: &Bags, id: usize) -> bool
+    requires { id < length bags.now.items }
+    ensures { result ≡ ((slot_in bags.now.items id).listed && not (slot_in bags.now.items id).calm) }
 {
-    let slot = &bags[id];
-    slot.listed && !slot.calm
+    match bags.get(id) {
+        Some(slot) => slot.listed && !slot.calm,
+        None => false,
+    }
 }
 
 /// Makes room for one task in a bag. False where the bag is not here, or memory runs out.
-pub fn make_room(bags: &mut Vec<Slot>, id: usize) -> bool
-    requires there { id < vec_len bags.old }
+pub fn make_room(bags: &mut Bags, id: usize) -> bool
+    requires there { id < length bags.old.items }
     requires timely { IsTimely (slot_in bags.old.items id).body }
     ensures here { IsTrue result → (slot_in bags.old.items id).here ≡ true }
     ensures room { IsTrue result → 1 ≤ (slot_in bags.new.items id).body.queues.spare }
@@ -241,11 +254,13 @@ pub fn make_room(bags: &mut Vec<Slot>, id: usize) -> bool
         ≡ (if nat_eq id u
         then record (slot_in bags.old.items id) { body = (slot_in bags.new.items id).body }
         else slot_in bags.old.items u) }
-    ensures len { vec_len bags.new ≡ vec_len bags.old }
-    ensures capacity { vec_capacity bags.new ≡ vec_capacity bags.old }
+    ensures len { length bags.new.items ≡ length bags.old.items }
+    ensures free { bags.new.free ≡ bags.old.free }
 {
-    let slot = &mut bags[id];
-    room_in(slot)
+    match bags.get_mut(id) {
+        Some(slot) => room_in(slot),
+        None => false,
+    }
 }
 
 /// Makes room for one task. False where the bag is not here, or memory runs out.
@@ -264,8 +279,8 @@ fn room_in(slot: &mut Slot) -> bool
 }
 
 /// Queues a task in a bag, with its deadline as its rest.
-pub fn queue(bags: &mut Vec<Slot>, id: usize, dated: Dated)
-    requires there { id < vec_len bags.old }
+pub fn queue(bags: &mut Bags, id: usize, dated: Dated)
+    requires open { is_open (slot_in bags.old.items id) ≡ true }
     requires timely { IsTimely (slot_in bags.old.items id).body }
     requires room { 1 ≤ (slot_in bags.old.items id).body.queues.spare }
     requires fresh { things (slot_in bags.old.items id).body (of_task dated.task.number) ≡ None }
@@ -277,16 +292,16 @@ pub fn queue(bags: &mut Vec<Slot>, id: usize, dated: Dated)
         ≡ (if nat_eq id u
         then record (slot_in bags.old.items id) { body = (slot_in bags.new.items id).body }
         else slot_in bags.old.items u) }
-    ensures len { vec_len bags.new ≡ vec_len bags.old }
-    ensures capacity { vec_capacity bags.new ≡ vec_capacity bags.old }
+    ensures len { length bags.new.items ≡ length bags.old.items }
+    ensures free { bags.new.free ≡ bags.old.free }
 {
-    let slot = &mut bags[id];
+    let slot = bags.slot_mut(id);
     waiting::queue(&mut slot.body, dated);
 }
 
 /// Notes that tasks may lie in the spot of a chunk of a bag. If memory runs out, nothing is noted.
-pub fn touch(alloc: Global, bags: &mut Vec<Slot>, id: usize, c: ChunkPos) -> Result<(), AllocError>
-    requires { id < vec_len bags.old }
+pub fn touch(alloc: Global, bags: &mut Bags, id: usize, c: ChunkPos) -> Result<(), AllocError>
+    requires { is_open (slot_in bags.old.items id) ≡ true }
     ensures noted { OnOk result ((slot_in bags.new.items id).touched
         ≡ (slot_in bags.old.items id).touched ++ c ∷ []) }
     ensures err { OnErr result ((slot_in bags.new.items id).touched
@@ -295,10 +310,10 @@ pub fn touch(alloc: Global, bags: &mut Vec<Slot>, id: usize, c: ChunkPos) -> Res
         ≡ (if nat_eq id u
         then record (slot_in bags.old.items id) { touched = (slot_in bags.new.items id).touched }
         else slot_in bags.old.items u) }
-    ensures len { vec_len bags.new ≡ vec_len bags.old }
-    ensures capacity { vec_capacity bags.new ≡ vec_capacity bags.old }
+    ensures len { length bags.new.items ≡ length bags.old.items }
+    ensures free { bags.new.free ≡ bags.old.free }
 {
-    let slot = &mut bags[id];
+    let slot = bags.slot_mut(id);
     let mut touched = mem::replace(&mut slot.touched, Sequence::new(alloc)).into_vec();
     let result = add(&mut touched, c);
     slot.touched = Sequence::of(touched);
@@ -315,8 +330,8 @@ fn add(chunks: &mut Vec<ChunkPos>, c: ChunkPos) -> Result<(), AllocError>
 }
 
 /// Takes the noted chunks of a bag, and its chunks as they are to be handed out. The bag has to be gathered anew, or finished.
-pub fn reopen(alloc: Global, bags: &mut Vec<Slot>, id: usize) -> Reopened
-    requires { id < vec_len bags.old }
+pub fn reopen(alloc: Global, bags: &mut Bags, id: usize) -> Reopened
+    requires { is_open (slot_in bags.old.items id) ≡ true }
     ensures touched { result.touched.items ≡ (slot_in bags.old.items id).touched }
     ensures handed { result.chunks.items ≡ (slot_in bags.old.items id).handed }
     ensures slots { (u : ℕ) → slot_in bags.new.items u
@@ -325,10 +340,10 @@ pub fn reopen(alloc: Global, bags: &mut Vec<Slot>, id: usize) -> Reopened
           handed = [];
           touched = [];
         } else slot_in bags.old.items u) }
-    ensures len { vec_len bags.new ≡ vec_len bags.old }
-    ensures capacity { vec_capacity bags.new ≡ vec_capacity bags.old }
+    ensures len { length bags.new.items ≡ length bags.old.items }
+    ensures free { bags.new.free ≡ bags.old.free }
 {
-    let slot = &mut bags[id];
+    let slot = bags.slot_mut(id);
     slot.listed = false;
     let handed = mem::replace(&mut slot.handed, Sequence::new(alloc));
     let touched = mem::replace(&mut slot.touched, Sequence::new(alloc));
@@ -339,8 +354,8 @@ pub fn reopen(alloc: Global, bags: &mut Vec<Slot>, id: usize) -> Reopened
 }
 
 /// Notes that a chunk of a listed bag may have come or left. If memory runs out, the bag has to be gathered anew.
-pub fn note_change(bags: &mut Vec<Slot>, id: usize, c: ChunkPos)
-    requires { id < vec_len bags.old }
+pub fn note_change(bags: &mut Bags, id: usize, c: ChunkPos)
+    requires { is_open (slot_in bags.old.items id) ≡ true }
     ensures noted { (slot_in bags.new.items id).listed ≡ true
         → ((slot_in bags.old.items id).listed ≡ true) × ((slot_in bags.new.items id).since
         ≡ (slot_in bags.old.items id).since ++ c ∷ []) }
@@ -351,18 +366,18 @@ pub fn note_change(bags: &mut Vec<Slot>, id: usize, c: ChunkPos)
           listed = (slot_in bags.new.items id).listed;
           since = (slot_in bags.new.items id).since;
         } else slot_in bags.old.items u) }
-    ensures len { vec_len bags.new ≡ vec_len bags.old }
-    ensures capacity { vec_capacity bags.new ≡ vec_capacity bags.old }
+    ensures len { length bags.new.items ≡ length bags.old.items }
+    ensures free { bags.new.free ≡ bags.old.free }
 {
-    let slot = &mut bags[id];
+    let slot = bags.slot_mut(id);
     if slot.listed {
         slot.listed = slot.since.push(c).is_ok();
     }
 }
 
 /// Takes the last of the chunks of a bag that may have come or left.
-pub fn next_change(alloc: Global, bags: &mut Vec<Slot>, id: usize) -> Option<ChunkPos>
-    requires { id < vec_len bags.old }
+pub fn next_change(alloc: Global, bags: &mut Bags, id: usize) -> Option<ChunkPos>
+    requires { is_open (slot_in bags.old.items id) ≡ true }
     ensures some { ForSome result (λ last. (slot_in bags.old.items id).since
         ≡ (slot_in bags.new.items id).since ++ last ∷ []) }
     ensures none { IsTrue (is_none result) → (slot_in bags.old.items id).since ≡ [] }
@@ -371,10 +386,10 @@ pub fn next_change(alloc: Global, bags: &mut Vec<Slot>, id: usize) -> Option<Chu
         ≡ (if nat_eq id u
         then record (slot_in bags.old.items id) { since = (slot_in bags.new.items id).since }
         else slot_in bags.old.items u) }
-    ensures len { vec_len bags.new ≡ vec_len bags.old }
-    ensures capacity { vec_capacity bags.new ≡ vec_capacity bags.old }
+    ensures len { length bags.new.items ≡ length bags.old.items }
+    ensures free { bags.new.free ≡ bags.old.free }
 {
-    let slot = &mut bags[id];
+    let slot = bags.slot_mut(id);
     let mut since = mem::replace(&mut slot.since, Sequence::new(alloc)).into_vec();
     let last = since.pop();
     slot.since = Sequence::of(since);
@@ -382,17 +397,17 @@ pub fn next_change(alloc: Global, bags: &mut Vec<Slot>, id: usize) -> Option<Chu
 }
 
 /// Whether the store has a bag, and its chunks are the right ones still.
-pub fn is_ready(bags: &[Slot], id: usize) -> bool
-    requires { id < length bags.now }
-    ensures { result ≡ ((slot_in bags.now id).here && (slot_in bags.now id).listed) }
+pub fn is_ready(bags: &Bags, id: usize) -> bool
+    requires { is_open (slot_in bags.now.items id) ≡ true }
+    ensures { result ≡ ((slot_in bags.now.items id).here && (slot_in bags.now.items id).listed) }
 {
-    let slot = &bags[id];
+    let slot = bags.slot(id);
     slot.here && slot.listed
 }
 
 /// A chunk comes to a listed bag, and is noted. The bag is calm no more; if memory runs out, it has to be gathered anew.
-pub fn admit(alloc: Global, bags: &mut Vec<Slot>, id: usize, c: ChunkPos) -> Result<(), AllocError>
-    requires there { id < vec_len bags.old }
+pub fn admit(alloc: Global, bags: &mut Bags, id: usize, c: ChunkPos) -> Result<(), AllocError>
+    requires open { is_open (slot_in bags.old.items id) ≡ true }
     requires order { IsStrictlySortedBy chunk_cmp (slot_in bags.old.items id).chunks }
     requires handed { (slot_in bags.old.items id).handed ≡ (slot_in bags.old.items id).chunks }
     ensures order { OnOk result (IsStrictlySortedBy chunk_cmp (slot_in bags.new.items id).chunks) }
@@ -417,10 +432,10 @@ pub fn admit(alloc: Global, bags: &mut Vec<Slot>, id: usize, c: ChunkPos) -> Res
           touched = (slot_in bags.new.items id).touched;
         }
         else slot_in bags.old.items u) }
-    ensures len { vec_len bags.new ≡ vec_len bags.old }
-    ensures capacity { vec_capacity bags.new ≡ vec_capacity bags.old }
+    ensures len { length bags.new.items ≡ length bags.old.items }
+    ensures free { bags.new.free ≡ bags.old.free }
 {
-    let slot = &mut bags[id];
+    let slot = bags.slot_mut(id);
     slot.calm = false;
     let result = slot.admit(alloc, c);
     slot.listed = slot.listed && result.is_ok();
@@ -428,8 +443,8 @@ pub fn admit(alloc: Global, bags: &mut Vec<Slot>, id: usize, c: ChunkPos) -> Res
 }
 
 /// A chunk leaves a bag.
-pub fn dismiss(alloc: Global, bags: &mut Vec<Slot>, id: usize, c: ChunkPos)
-    requires there { id < vec_len bags.old }
+pub fn dismiss(alloc: Global, bags: &mut Bags, id: usize, c: ChunkPos)
+    requires open { is_open (slot_in bags.old.items id) ≡ true }
     requires order { IsStrictlySortedBy chunk_cmp (slot_in bags.old.items id).chunks }
     requires handed { (slot_in bags.old.items id).handed ≡ (slot_in bags.old.items id).chunks }
     ensures order { IsStrictlySortedBy chunk_cmp (slot_in bags.new.items id).chunks }
@@ -442,76 +457,16 @@ pub fn dismiss(alloc: Global, bags: &mut Vec<Slot>, id: usize, c: ChunkPos)
           chunks = (slot_in bags.new.items id).chunks;
           handed = (slot_in bags.new.items id).handed;
         } else slot_in bags.old.items u) }
-    ensures len { vec_len bags.new ≡ vec_len bags.old }
-    ensures capacity { vec_capacity bags.new ≡ vec_capacity bags.old }
+    ensures len { length bags.new.items ≡ length bags.old.items }
+    ensures free { bags.new.free ≡ bags.old.free }
 {
-    let slot = &mut bags[id];
+    let slot = bags.slot_mut(id);
     slot.dismiss(alloc, c);
 }
 
-/// Adds an empty bag.
-pub fn open(alloc: Global, bags: &mut Vec<Slot>, tick: u64, owed: u32)
-    requires { vec_len bags.old < vec_capacity bags.old }
-    ensures body { SameThings (record no_data { tick = tick; owed = owed })
-        (slot_in bags.new.items (vec_len bags.old)).body }
-    ensures tasks { (slot_in bags.new.items (vec_len bags.old)).body.queues.tasks ≡ [] }
-    ensures slots { (u : ℕ) → slot_in bags.new.items u
-        ≡ (if nat_eq (vec_len bags.old) u
-        then record {
-          body = (slot_in bags.new.items (vec_len bags.old)).body;
-          here = true;
-          taken = false;
-          listed = true;
-          calm = true;
-          chunks = [];
-          handed = [];
-          touched = [];
-          since = [];
-        }
-        else slot_in bags.old.items u) }
-    ensures len { vec_len bags.new ≡ vec_len bags.old + 1 }
-    ensures capacity { vec_capacity bags.new ≡ vec_capacity bags.old }
-{
-    let body = new_data(alloc, tick, owed);
-    bags.push_reserved(Slot {
-        body,
-        here: true,
-        taken: false,
-        listed: true,
-        calm: true,
-        chunks: Sequence::new(alloc),
-        handed: Sequence::new(alloc),
-        touched: Sequence::new(alloc),
-        since: Sequence::new(alloc),
-    });
-}
-
-/// Data with these counters that holds nothing.
-pub fn new_data(alloc: Global, tick: u64, owed: u32) -> RegionData
-    ensures things { SameThings (record no_data { tick = tick; owed = owed }) result }
-    ensures tasks { result.queues.tasks ≡ [] }
-{
-    let mut data = RegionData::new(alloc);
-    data.tick = tick;
-    data.owed = owed;
-    data
-}
-
-/// The same data. Where nothing lies in it, the room for what lay there goes back.
-fn compact(alloc: Global, body: RegionData) -> RegionData
-    ensures same { SameThings body result }
-    ensures timely { IsTimely body → IsTimely result }
-{
-    if body.is_empty() {
-        new_data(alloc, body.tick, body.owed)
-    } else {
-        body
-    }
-}
-
 /// Takes out what lies in a bag, and the chunks to be handed out with it.
-pub fn take_out(alloc: Global, bags: &mut Vec<Slot>, id: usize) -> Taken
-    requires { id < vec_len bags.old }
+pub fn take_out(alloc: Global, bags: &mut Bags, id: usize) -> Taken
+    requires { is_open (slot_in bags.old.items id) ≡ true }
     ensures body { result.body ≡ (slot_in bags.old.items id).body }
     ensures handed { result.chunks.items ≡ (slot_in bags.old.items id).handed }
     ensures left { SameThings no_data (slot_in bags.new.items id).body }
@@ -524,10 +479,10 @@ pub fn take_out(alloc: Global, bags: &mut Vec<Slot>, id: usize) -> Taken
           taken = true;
           handed = [];
         } else slot_in bags.old.items u) }
-    ensures len { vec_len bags.new ≡ vec_len bags.old }
-    ensures capacity { vec_capacity bags.new ≡ vec_capacity bags.old }
+    ensures len { length bags.new.items ≡ length bags.old.items }
+    ensures free { bags.new.free ≡ bags.old.free }
 {
-    let slot = &mut bags[id];
+    let slot = bags.slot_mut(id);
     slot.here = false;
     slot.taken = true;
     let handed = mem::replace(&mut slot.handed, Sequence::new(alloc));
@@ -539,8 +494,8 @@ pub fn take_out(alloc: Global, bags: &mut Vec<Slot>, id: usize) -> Taken
 }
 
 /// Puts back what was taken out.
-pub fn put_in(bags: &mut Vec<Slot>, id: usize, chunks: Vec<ChunkPos>, body: RegionData)
-    requires { id < vec_len bags.old }
+pub fn put_in(bags: &mut Bags, id: usize, chunks: Vec<ChunkPos>, body: RegionData)
+    requires { is_open (slot_in bags.old.items id) ≡ true }
     ensures slots { (u : ℕ) → slot_in bags.new.items u
         ≡ (if nat_eq id u then record (slot_in bags.old.items id) {
           body = body;
@@ -548,10 +503,10 @@ pub fn put_in(bags: &mut Vec<Slot>, id: usize, chunks: Vec<ChunkPos>, body: Regi
           taken = false;
           handed = chunks.items;
         } else slot_in bags.old.items u) }
-    ensures len { vec_len bags.new ≡ vec_len bags.old }
-    ensures capacity { vec_capacity bags.new ≡ vec_capacity bags.old }
+    ensures len { length bags.new.items ≡ length bags.old.items }
+    ensures free { bags.new.free ≡ bags.old.free }
 {
-    let slot = &mut bags[id];
+    let slot = bags.slot_mut(id);
     slot.here = true;
     slot.taken = false;
     slot.handed = Sequence::of(chunks);
@@ -561,14 +516,14 @@ pub fn put_in(bags: &mut Vec<Slot>, id: usize, chunks: Vec<ChunkPos>, body: Regi
 /// Moves what lies on the chunks from one bag to another. The first has to be gathered anew. If memory runs out, nothing has moved.
 pub fn shift_bags(
     alloc: Global,
-    bags: &mut Vec<Slot>,
+    bags: &mut Bags,
     from: usize,
     chunks: &[ChunkPos],
     to: usize,
 ) -> Result<(), AllocError>
     requires order { IsStrictlySortedBy chunk_cmp chunks.now }
-    requires from_there { from < vec_len bags.old }
-    requires to_there { to < vec_len bags.old }
+    requires from_there { from < length bags.old.items }
+    requires to_open { is_open (slot_in bags.old.items to) ≡ true }
     requires others { from ≢ to }
     requires timely { IsTimely (slot_in bags.old.items from).body }
     requires to_timely { IsTimely (slot_in bags.old.items to).body }
@@ -592,12 +547,90 @@ pub fn shift_bags(
         else (if nat_eq to u
         then record (slot_in bags.old.items to) { body = (slot_in bags.new.items to).body }
         else slot_in bags.old.items u)) }
-    ensures len { vec_len bags.new ≡ vec_len bags.old }
-    ensures capacity { vec_capacity bags.new ≡ vec_capacity bags.old }
+    ensures len { length bags.new.items ≡ length bags.old.items }
+    ensures free { bags.new.free ≡ bags.old.free }
 {
-    let mut body = take_body(alloc, bags, from);
-    let result = shift_into(bags, to, chunks, &mut body);
-    put_body(bags, from, compact(alloc, body));
+    let mut kept = bags.lift(from);
+    let result = pour(alloc, &mut kept, chunks, bags, to);
+    bags.lay(from, kept);
+    result
+}
+
+/// Moves what lies on the chunks from a bag that was taken out, where there is one, to another bag. If memory runs out, nothing has
+/// moved.
+fn pour(
+    alloc: Global,
+    from: &mut Kept,
+    chunks: &[ChunkPos],
+    bags: &mut Bags,
+    to: usize,
+) -> Result<(), AllocError>
+    requires order { IsStrictlySortedBy chunk_cmp chunks.now }
+    requires to_open { is_open (slot_in bags.old.items to) ≡ true }
+    requires timely { IsTimely from.old.body }
+    requires to_timely { IsTimely (slot_in bags.old.items to).body }
+    requires apart { AreApart from.old.body (slot_in bags.old.items to).body }
+    ensures timely { IsTimely from.new.body }
+    ensures to_timely { IsTimely (slot_in bags.new.items to).body }
+    ensures loses { OnOk result (Loses chunks.now from.old.body from.new.body) }
+    ensures gains { OnOk result (Gains chunks.now from.old.body
+        (slot_in bags.old.items to).body (slot_in bags.new.items to).body) }
+    ensures err { OnErr result (SameThings from.old.body from.new.body) }
+    ensures to_err { OnErr result (SameThings (slot_in bags.old.items to).body
+        (slot_in bags.new.items to).body) }
+    ensures rest { from.new ≡ record from.old {
+      body = from.new.body;
+      listed = false;
+    } }
+    ensures slots { (u : ℕ) → slot_in bags.new.items u
+        ≡ (if nat_eq to u
+        then record (slot_in bags.old.items to) { body = (slot_in bags.new.items to).body }
+        else slot_in bags.old.items u) }
+    ensures len { length bags.new.items ≡ length bags.old.items }
+    ensures free { bags.new.free ≡ bags.old.free }
+{
+    match from.get_mut() {
+        Some(slot) => pour_out(alloc, slot, chunks, bags, to),
+        None => Ok(()),
+    }
+}
+
+/// Moves what lies on the chunks from one bag to another, and gives back what room the first needs no more. If memory runs out,
+/// nothing has moved.
+fn pour_out(
+    alloc: Global,
+    from: &mut Slot,
+    chunks: &[ChunkPos],
+    bags: &mut Bags,
+    to: usize,
+) -> Result<(), AllocError>
+    requires order { IsStrictlySortedBy chunk_cmp chunks.now }
+    requires to_open { is_open (slot_in bags.old.items to) ≡ true }
+    requires timely { IsTimely from.old.body }
+    requires to_timely { IsTimely (slot_in bags.old.items to).body }
+    requires apart { AreApart from.old.body (slot_in bags.old.items to).body }
+    ensures timely { IsTimely from.new.body }
+    ensures to_timely { IsTimely (slot_in bags.new.items to).body }
+    ensures loses { OnOk result (Loses chunks.now from.old.body from.new.body) }
+    ensures gains { OnOk result (Gains chunks.now from.old.body
+        (slot_in bags.old.items to).body (slot_in bags.new.items to).body) }
+    ensures err { OnErr result (SameThings from.old.body from.new.body) }
+    ensures to_err { OnErr result (SameThings (slot_in bags.old.items to).body
+        (slot_in bags.new.items to).body) }
+    ensures rest { from.new ≡ record from.old {
+      body = from.new.body;
+      listed = false;
+    } }
+    ensures slots { (u : ℕ) → slot_in bags.new.items u
+        ≡ (if nat_eq to u
+        then record (slot_in bags.old.items to) { body = (slot_in bags.new.items to).body }
+        else slot_in bags.old.items u) }
+    ensures len { length bags.new.items ≡ length bags.old.items }
+    ensures free { bags.new.free ≡ bags.old.free }
+{
+    let result = shift_into(bags, to, chunks, &mut from.body);
+    from.listed = false;
+    from.compact(alloc);
     result
 }
 
@@ -605,15 +638,15 @@ pub fn shift_bags(
 /// If memory runs out, nothing has moved, and the other bag has to be gathered anew.
 pub fn merge(
     alloc: Global,
-    bags: &mut Vec<Slot>,
+    bags: &mut Bags,
     from: usize,
     into: usize,
     chunks: Vec<ChunkPos>,
     handed: Vec<ChunkPos>,
 ) -> Result<Vec<ChunkPos>, AllocError>
     requires order { IsStrictlySortedBy chunk_cmp (slot_in bags.old.items from).handed }
-    requires from_there { from < vec_len bags.old }
-    requires into_there { into < vec_len bags.old }
+    requires from_open { is_open (slot_in bags.old.items from) ≡ true }
+    requires into_open { is_open (slot_in bags.old.items into) ≡ true }
     requires differ { from ≢ into }
     requires timely { IsTimely (slot_in bags.old.items from).body }
     requires into_timely { IsTimely (slot_in bags.old.items into).body }
@@ -653,8 +686,8 @@ pub fn merge(
           listed = false;
           chunks = chunks.items;
         } else slot_in bags.old.items u))) }
-    ensures len { vec_len bags.new ≡ vec_len bags.old }
-    ensures capacity { vec_capacity bags.new ≡ vec_capacity bags.old }
+    ensures len { length bags.new.items ≡ length bags.old.items }
+    ensures free { bags.new.free ≡ bags.old.free }
 {
     let moved = dissolve(alloc, bags, from);
     relist(bags, into, chunks);
@@ -664,69 +697,24 @@ pub fn merge(
 }
 
 /// Closes a bag, and takes its chunks as they are to be handed out; what lies in it stays in it.
-fn dissolve(alloc: Global, bags: &mut Vec<Slot>, id: usize) -> Vec<ChunkPos>
-    requires { id < vec_len bags.old }
+fn dissolve(alloc: Global, bags: &mut Bags, id: usize) -> Vec<ChunkPos>
+    requires { is_open (slot_in bags.old.items id) ≡ true }
     ensures handed { result.items ≡ (slot_in bags.old.items id).handed }
     ensures slots { (u : ℕ) → slot_in bags.new.items u
         ≡ (if nat_eq id u then record no_slot { body = (slot_in bags.old.items id).body }
         else slot_in bags.old.items u) }
-    ensures len { vec_len bags.new ≡ vec_len bags.old }
-    ensures capacity { vec_capacity bags.new ≡ vec_capacity bags.old }
+    ensures len { length bags.new.items ≡ length bags.old.items }
+    ensures free { bags.new.free ≡ bags.old.free }
 {
     let Reopened { chunks, touched: _ } = reopen(alloc, bags, id);
-    close(alloc, bags, id);
+    shut(alloc, bags, id);
     chunks
 }
 
-/// Takes out what lies in a bag, which has to be gathered anew.
-fn take_body(alloc: Global, bags: &mut Vec<Slot>, id: usize) -> RegionData
-    requires { id < vec_len bags.old }
-    ensures body { result ≡ (slot_in bags.old.items id).body }
-    ensures slots { (u : ℕ) → slot_in bags.new.items u
-        ≡ (if nat_eq id u
-        then record (slot_in bags.old.items id) {
-          body = (slot_in bags.new.items id).body;
-          listed = false;
-        } else slot_in bags.old.items u) }
-    ensures len { vec_len bags.new ≡ vec_len bags.old }
-    ensures capacity { vec_capacity bags.new ≡ vec_capacity bags.old }
-{
-    let slot = &mut bags[id];
-    slot.listed = false;
-    mem::replace(&mut slot.body, new_data(alloc, 0, 0))
-}
-
-/// Puts something into a bag in place of what lies in it.
-fn put_body(bags: &mut Vec<Slot>, id: usize, body: RegionData)
-    requires { id < vec_len bags.old }
-    ensures slots { (u : ℕ) → slot_in bags.new.items u
-        ≡ (if nat_eq id u then record (slot_in bags.old.items id) { body = body }
-        else slot_in bags.old.items u) }
-    ensures len { vec_len bags.new ≡ vec_len bags.old }
-    ensures capacity { vec_capacity bags.new ≡ vec_capacity bags.old }
-{
-    let slot = &mut bags[id];
-    slot.body = body;
-}
-
-/// Puts something into a bag, and takes out what lay in it.
-fn replace_body(bags: &mut Vec<Slot>, id: usize, body: RegionData) -> RegionData
-    requires { id < vec_len bags.old }
-    ensures body { result ≡ (slot_in bags.old.items id).body }
-    ensures slots { (u : ℕ) → slot_in bags.new.items u
-        ≡ (if nat_eq id u then record (slot_in bags.old.items id) { body = body }
-        else slot_in bags.old.items u) }
-    ensures len { vec_len bags.new ≡ vec_len bags.old }
-    ensures capacity { vec_capacity bags.new ≡ vec_capacity bags.old }
-{
-    let slot = &mut bags[id];
-    mem::replace(&mut slot.body, body)
-}
-
 /// Two bags change what lies in them. The first has to be gathered anew.
-pub fn swap_bodies(alloc: Global, bags: &mut Vec<Slot>, from: usize, to: usize)
-    requires from_there { from < vec_len bags.old }
-    requires to_there { to < vec_len bags.old }
+pub fn swap_bodies(bags: &mut Bags, from: usize, to: usize)
+    requires from_open { is_open (slot_in bags.old.items from) ≡ true }
+    requires to_open { is_open (slot_in bags.old.items to) ≡ true }
     requires others { from ≢ to }
     ensures slots { (u : ℕ) → slot_in bags.new.items u
         ≡ (if nat_eq from u
@@ -737,23 +725,38 @@ pub fn swap_bodies(alloc: Global, bags: &mut Vec<Slot>, from: usize, to: usize)
         else (if nat_eq to u
         then record (slot_in bags.old.items to) { body = (slot_in bags.old.items from).body }
         else slot_in bags.old.items u)) }
-    ensures len { vec_len bags.new ≡ vec_len bags.old }
-    ensures capacity { vec_capacity bags.new ≡ vec_capacity bags.old }
+    ensures len { length bags.new.items ≡ length bags.old.items }
+    ensures free { bags.new.free ≡ bags.old.free }
 {
-    let body = take_body(alloc, bags, from);
-    let left = replace_body(bags, to, body);
-    put_body(bags, from, left);
+    let mut kept = bags.lift(from);
+    match kept.get_mut() {
+        Some(slot) => exchange(slot, bags.slot_mut(to)),
+        None => unreachable!(),
+    }
+    bags.lay(from, kept);
+}
+
+/// Two bags change what lies in them. The first has to be gathered anew.
+fn exchange(from: &mut Slot, to: &mut Slot)
+    ensures from { from.new ≡ record from.old {
+      body = to.old.body;
+      listed = false;
+    } }
+    ensures to { to.new ≡ record to.old { body = from.old.body } }
+{
+    from.listed = false;
+    mem::swap(&mut from.body, &mut to.body);
 }
 
 /// Moves what lies on the chunks from elsewhere into a bag. If memory runs out, nothing has moved.
 pub fn shift_into(
-    bags: &mut Vec<Slot>,
+    bags: &mut Bags,
     id: usize,
     chunks: &[ChunkPos],
     from: &mut RegionData,
 ) -> Result<(), AllocError>
     requires order { IsStrictlySortedBy chunk_cmp chunks.now }
-    requires there { id < vec_len bags.old }
+    requires open { is_open (slot_in bags.old.items id) ≡ true }
     requires timely { IsTimely from.old }
     requires to_timely { IsTimely (slot_in bags.old.items id).body }
     requires apart { AreApart from.old (slot_in bags.old.items id).body }
@@ -769,22 +772,22 @@ pub fn shift_into(
         ≡ (if nat_eq id u
         then record (slot_in bags.old.items id) { body = (slot_in bags.new.items id).body }
         else slot_in bags.old.items u) }
-    ensures len { vec_len bags.new ≡ vec_len bags.old }
-    ensures capacity { vec_capacity bags.new ≡ vec_capacity bags.old }
+    ensures len { length bags.new.items ≡ length bags.old.items }
+    ensures free { bags.new.free ≡ bags.old.free }
 {
-    let slot = &mut bags[id];
+    let slot = bags.slot_mut(id);
     shift(from, chunks, &mut slot.body)
 }
 
 /// Moves what lies on the chunks from a bag elsewhere. If memory runs out, nothing has moved.
 pub fn shift_out(
-    bags: &mut Vec<Slot>,
+    bags: &mut Bags,
     id: usize,
     chunks: &[ChunkPos],
     to: &mut RegionData,
 ) -> Result<(), AllocError>
     requires order { IsStrictlySortedBy chunk_cmp chunks.now }
-    requires there { id < vec_len bags.old }
+    requires open { is_open (slot_in bags.old.items id) ≡ true }
     requires timely { IsTimely (slot_in bags.old.items id).body }
     requires to_timely { IsTimely to.old }
     requires apart { AreApart (slot_in bags.old.items id).body to.old }
@@ -800,34 +803,9 @@ pub fn shift_out(
         ≡ (if nat_eq id u
         then record (slot_in bags.old.items id) { body = (slot_in bags.new.items id).body }
         else slot_in bags.old.items u) }
-    ensures len { vec_len bags.new ≡ vec_len bags.old }
-    ensures capacity { vec_capacity bags.new ≡ vec_capacity bags.old }
+    ensures len { length bags.new.items ≡ length bags.old.items }
+    ensures free { bags.new.free ≡ bags.old.free }
 {
-    let slot = &mut bags[id];
+    let slot = bags.slot_mut(id);
     shift(&mut slot.body, chunks, to)
-}
-
-/// The bags of no region: one that is closed, for an id that no region has.
-pub fn closed(alloc: Global) -> Result<Vec<Slot>, AllocError>
-    ensures len { IfOk result (λ bags. vec_len bags ≡ 1) }
-    ensures things { IfOk result (λ bags. (u : ℕ)
-        → SameThings no_data (slot_in bags.items u).body) }
-    ensures tasks { IfOk result (λ bags. (u : ℕ) → (slot_in bags.items u).body.queues.tasks ≡ []) }
-    ensures slots { IfOk result (λ bags. (u : ℕ)
-        → slot_in bags.items u ≡ record no_slot { body = (slot_in bags.items u).body }) }
-{
-    let slot = Slot {
-        body: new_data(alloc, 0, 0),
-        here: false,
-        taken: false,
-        listed: false,
-        calm: false,
-        chunks: Sequence::new(alloc),
-        handed: Sequence::new(alloc),
-        touched: Sequence::new(alloc),
-        since: Sequence::new(alloc),
-    };
-    let mut bags = Vec::new(alloc);
-    bags.push(slot)?;
-    Ok(bags)
 }

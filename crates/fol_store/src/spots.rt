@@ -1,18 +1,18 @@
 //! The spots by number.
 
-ghost use Rattle.std.specs.Prelude.{◌≡◌, ◌+◌, ◌<◌, ◌≤◌, ◌^◌, ℕ, None, nat_eq, if◌then◌else◌, vec_len, OnOk, OnErr, [], ◌∷◌};
+ghost use Rattle.std.specs.Prelude.{◌≡◌, ◌+◌, ◌<◌, ◌≤◌, ◌^◌, ℕ, None, nat_eq, if◌then◌else◌, length, true, vec_len, OnOk, OnErr, [], ◌∷◌};
 ghost use Rattle.std.specs.List.Sorted.{IsStrictlySortedBy};
-ghost use Rattle.std.specs.Vec.{vec_capacity};
 ghost use Rattle.fol_chunks.specs.Order.{chunk_cmp};
 ghost use Rattle.fol_store.specs.Slots.{slot_in, spot_in};
+ghost use Rattle.fol_store.specs.Sound.{is_open};
 ghost use Rattle.fol_store.specs.Things.{no_data, things, of_task, of_entity, IsTimely};
 ghost use Rattle.fol_chunks.specs.Contents.{flat_of};
 ghost use Rattle.fol_data.specs.Rests.{IsInTime};
 ghost use Rattle.fol_store.specs.Moves.{SameThings, AreApart, Loses, Gains, Queues, LaysBlock, LaysEntity};
 
-use crate::slot::Slot;
-use crate::slots::{self, new_data};
-use crate::waiting;
+use crate::bags::Bags;
+use crate::slot::new_data;
+use crate::{slots, waiting};
 use fol_data::{RegionData, Size};
 use fol_model::{BlockPos, ChunkPos, Entity};
 use fol_queues::Dated;
@@ -38,12 +38,12 @@ pub fn shift_to_bag(
     spots: &mut Vec<RegionData>,
     i: usize,
     chunks: &[ChunkPos],
-    bags: &mut Vec<Slot>,
+    bags: &mut Bags,
     id: usize,
 ) -> Result<(), AllocError>
     requires order { IsStrictlySortedBy chunk_cmp chunks.now }
     requires spot_there { i < vec_len spots.old }
-    requires bag_there { id < vec_len bags.old }
+    requires bag_open { is_open (slot_in bags.old.items id) ≡ true }
     requires timely { IsTimely (spot_in spots.old.items i) }
     requires to_timely { IsTimely (slot_in bags.old.items id).body }
     requires apart { AreApart (spot_in spots.old.items i) (slot_in bags.old.items id).body }
@@ -64,8 +64,8 @@ pub fn shift_to_bag(
         then record (slot_in bags.old.items id) { body = (slot_in bags.new.items id).body }
         else slot_in bags.old.items u) }
     ensures spots_len { vec_len spots.new ≡ vec_len spots.old }
-    ensures len { vec_len bags.new ≡ vec_len bags.old }
-    ensures capacity { vec_capacity bags.new ≡ vec_capacity bags.old }
+    ensures len { length bags.new.items ≡ length bags.old.items }
+    ensures free { bags.new.free ≡ bags.old.free }
 {
     let spot = &mut spots[i];
     slots::shift_into(bags, id, chunks, spot)
@@ -73,7 +73,7 @@ pub fn shift_to_bag(
 
 /// Moves what lies on the chunks from a bag into a spot. If memory runs out, nothing has moved.
 pub fn shift_from_bag(
-    bags: &mut Vec<Slot>,
+    bags: &mut Bags,
     id: usize,
     chunks: &[ChunkPos],
     spots: &mut Vec<RegionData>,
@@ -81,7 +81,7 @@ pub fn shift_from_bag(
 ) -> Result<(), AllocError>
     requires order { IsStrictlySortedBy chunk_cmp chunks.now }
     requires spot_there { i < vec_len spots.old }
-    requires bag_there { id < vec_len bags.old }
+    requires bag_open { is_open (slot_in bags.old.items id) ≡ true }
     requires timely { IsTimely (slot_in bags.old.items id).body }
     requires to_timely { IsTimely (spot_in spots.old.items i) }
     requires apart { AreApart (slot_in bags.old.items id).body (spot_in spots.old.items i) }
@@ -102,8 +102,8 @@ pub fn shift_from_bag(
         then record (slot_in bags.old.items id) { body = (slot_in bags.new.items id).body }
         else slot_in bags.old.items u) }
     ensures spots_len { vec_len spots.new ≡ vec_len spots.old }
-    ensures len { vec_len bags.new ≡ vec_len bags.old }
-    ensures capacity { vec_capacity bags.new ≡ vec_capacity bags.old }
+    ensures len { length bags.new.items ≡ length bags.old.items }
+    ensures free { bags.new.free ≡ bags.old.free }
 {
     let spot = &mut spots[i];
     slots::shift_out(bags, id, chunks, spot)

@@ -13,13 +13,14 @@ ghost use Rattle.fol_chunks.specs.Contents.{flat_of as contents_of, within, outs
 ghost use Rattle.fol_chunks.specs.Order.{chunk_cmp};
 ghost use Rattle.fol_chunks.specs.Rows.{by_place, by_id};
 ghost use Rattle.fol_data.specs.Rests.{rests_of, IsInTime};
-ghost use Rattle.fol_store.specs.Bag.{no_bag, new_bag, is_whole, taken_out, put_back};
+ghost use Rattle.fol_store.specs.Bag.{new_bag, is_whole, taken_out, put_back};
 ghost use Rattle.fol_store.specs.Gathered.{AreFree, OthersSpared, Touched};
 ghost use Rattle.fol_store.specs.TaskRows.{by_number, rows_of};
 
 mod accept;
 mod calm;
 mod chunks;
+mod close;
 mod draw;
 mod gather;
 mod lay;
@@ -27,8 +28,8 @@ mod part;
 mod settle;
 mod unite;
 
+use crate::bags::Bags;
 use crate::places::Places;
-use crate::slot::Slot;
 use crate::{Rows, Taken, rows, slots, sorting};
 use fol_data::RegionData;
 use fol_model::{ChunkPos, Opening};
@@ -42,7 +43,7 @@ pub struct Store {
     alloc: Global,
     arrivals: Vec<Dated>,
     spots: Vec<RegionData>,
-    bags: Vec<Slot>,
+    bags: Bags,
     places: Places,
 }
 
@@ -54,9 +55,9 @@ impl Model for Store {
 
     ghost Value = { Stock };
 
-    ghost view = { λ s. record { arrivals = s.arrivals.items; spots = s.spots.items; bags = s.bags.items; places = s.places; spare = vec_capacity s.arrivals - vec_len s.arrivals; slots = vec_capacity s.bags - vec_len s.bags } };
+    ghost view = { λ s. record { arrivals = s.arrivals.items; spots = s.spots.items; bags = s.bags.items; places = s.places; spare = vec_capacity s.arrivals - vec_len s.arrivals; slots = s.bags.free } };
 
-    ghost invariant = { λ s. IsSound (record { arrivals = s.arrivals.items; spots = s.spots.items; bags = s.bags.items; places = s.places; spare = vec_capacity s.arrivals - vec_len s.arrivals; slots = vec_capacity s.bags - vec_len s.bags }) };
+    ghost invariant = { λ s. IsSound (record { arrivals = s.arrivals.items; spots = s.spots.items; bags = s.bags.items; places = s.places; spare = vec_capacity s.arrivals - vec_len s.arrivals; slots = s.bags.free }) };
 }
 
 impl Store {
@@ -74,7 +75,7 @@ impl Store {
         ensures slots { self.old.slots ≤ self.new.slots }
     {
         self.arrivals.reserve(tasks as usize)?;
-        self.bags.reserve(bags as usize)
+        self.bags.reserve(self.alloc, bags as usize)
     }
 
     /// How many tasks it can accept without taking memory.
@@ -88,20 +89,7 @@ impl Store {
     pub fn slots(&self) -> u64
         ensures { result ≡ self.now.slots }
     {
-        (self.bags.capacity() - self.bags.len()) as u64
-    }
-
-    /// Closes the bag of a region that is over. What lies in it stays in the store. Takes no memory.
-    pub fn close(&mut self, id: u64)
-        requires here { (bag_of self.old id).here ≡ true }
-        ensures bags { bag_of self.new ≡ at_id (bag_of self.old) id no_bag }
-        ensures next { next_of self.new ≡ next_of self.old }
-        ensures contents { flat_of self.new ≡ flat_of self.old }
-        ensures tasks { jobs_of self.new ≡ jobs_of self.old }
-        ensures spare { self.new.spare ≡ self.old.spare }
-        ensures slots { self.new.slots ≡ self.old.slots }
-    {
-        slots::close(self.alloc, &mut self.bags, id as usize);
+        self.bags.free() as u64
     }
 
     /// The counter of a region.
@@ -110,7 +98,7 @@ impl Store {
         ensures value { result ≡ (bag_of self.now id).tick }
         ensures bound { result ≤ 2 ^ 62 }
     {
-        self.bags[id as usize].body.tick
+        self.bags.slot(id as usize).body.tick
     }
 
     /// How many ticks a region owes.
@@ -118,7 +106,7 @@ impl Store {
         requires { (bag_of self.now id).here ≡ true }
         ensures { result ≡ (bag_of self.now id).owed }
     {
-        self.bags[id as usize].body.owed
+        self.bags.slot(id as usize).body.owed
     }
 
     /// Sets how many ticks a region owes.
@@ -140,7 +128,7 @@ impl Store {
         requires { (bag_of self.now id).here ≡ true }
         ensures { result ≡ (bag_of self.now id).listed }
     {
-        self.bags[id as usize].listed
+        self.bags.slot(id as usize).listed
     }
 
     /// Whether the bag of a region is whole: nothing outside it lies on its chunks, and nothing in it lies elsewhere.
@@ -148,7 +136,7 @@ impl Store {
         requires { (bag_of self.now id).here ≡ true }
         ensures { result ≡ is_whole (bag_of self.now id) }
     {
-        slots::is_whole(&self.bags[id as usize])
+        slots::is_whole(self.bags.slot(id as usize))
     }
 
     /// How many tasks of a bag are due in the next tick of its region.
@@ -156,7 +144,7 @@ impl Store {
         requires { (bag_of self.now id).here ≡ true }
         ensures { result ≡ due_of self.now id }
     {
-        let slot = &self.bags[id as usize];
+        let slot = self.bags.slot(id as usize);
         slot.body.queues.count_due(slot.body.tick + 1)
     }
 
@@ -186,7 +174,7 @@ impl Store {
         ensures spare { self.new.spare ≡ self.old.spare }
         ensures slots { self.old.slots ≤ self.new.slots + 1 }
     {
-        slots::open(self.alloc, &mut self.bags, tick, owed);
+        self.bags.open(self.alloc, tick, owed);
     }
 
     /// Takes a whole bag out, with the tasks, blocks and entities on its chunks. Takes no memory.

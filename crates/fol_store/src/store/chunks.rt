@@ -34,7 +34,7 @@ impl Store {
         ensures slots { self.new.slots ≡ self.old.slots }
     {
         let place = self.places.at(c);
-        if !slots::is_ready(self.bags.as_slice(), id as usize) {
+        if !slots::is_ready(&self.bags, id as usize) {
             self.note_change(id, c);
         } else if place.bag.is_none() {
             self.admit(id as usize, c, place);
@@ -84,7 +84,7 @@ impl Store {
         ensures spare { self.old.spare ≤ self.new.spare }
         ensures slots { self.old.slots ≤ self.new.slots }
     {
-        if !slots::is_ready(self.bags.as_slice(), id as usize) {
+        if !slots::is_ready(&self.bags, id as usize) {
             self.note_change(id, c);
         } else if has_bag(self.places.at(c), id as usize) {
             self.expel(id as usize, c);

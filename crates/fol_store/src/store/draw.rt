@@ -88,7 +88,8 @@ impl Store {
         }
     }
 
-    /// Moves what lies on the chunks from another bag, which has one of them.
+    /// Moves what lies on the chunks from another bag, which has one of them. If that was closed before and is empty then, its
+    /// memory goes back.
     fn draw_bag(
         &mut self,
         from: usize,
@@ -103,6 +104,31 @@ impl Store {
         requires named { (place self.old c).bag ≡ Some from }
         ensures draws { Draws id chunks.now self.old self.new }
         ensures home { OnOk result ((place self.new c).bag ≡ Some id) }
+    {
+        match self.pull(from, id, chunks, c) {
+            Ok(()) => {}
+            Err(_) => return Err(AllocError),
+        }
+        self.release(from);
+        Ok(())
+    }
+
+    /// Moves what lies on the chunks from another bag, which has one of them.
+    fn pull(
+        &mut self,
+        from: usize,
+        id: usize,
+        chunks: &[ChunkPos],
+        c: ChunkPos,
+    ) -> Result<(), AllocError>
+        requires order { IsStrictlySortedBy chunk_cmp chunks.now }
+        requires target { IsTarget id chunks.now self.old }
+        requires apart { from ≢ id }
+        requires listed { is_recorded chunks.now c ≡ true }
+        requires named { (place self.old c).bag ≡ Some from }
+        ensures draws { Draws id chunks.now self.old self.new }
+        ensures home { OnOk result ((place self.new c).bag ≡ Some id) }
+        ensures there { from < length self.new.bags }
     {
         match slots::shift_bags(self.alloc, &mut self.bags, from, chunks, id) {
             Ok(()) => {

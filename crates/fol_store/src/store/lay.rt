@@ -13,9 +13,10 @@ ghost use Rattle.fol_model.specs.OpeningParts.{is_block_at};
 ghost use Rattle.fol_store.specs.Bag.{no_bag};
 ghost use Rattle.fol_store.specs.Things.{of_block, of_entity, of_task, some_number};
 
+use crate::bags::Bags;
 use crate::places::Places;
+use crate::spots;
 use crate::store::Store;
-use crate::{slots, spots};
 use fol_model::{BlockAt, BlockPos, Entity, Opening, chunk_of};
 use std::alloc::{AllocError, Global};
 
@@ -50,7 +51,7 @@ impl Store {
         ensures bare { IfOk result IsBare }
         ensures next { IfOk result (λ s. next_of s ≡ 1) }
     {
-        let bags = match slots::closed(alloc) {
+        let bags = match Bags::closed(alloc) {
             Ok(bags) => bags,
             Err(_) => return Err(AllocError),
         };

@@ -152,7 +152,7 @@ impl Store {
         ensures received { Receives to lists.chunks.items (bag_of self.old) (bag_of self.new) }
         ensures same { SameWorld self.old self.new }
     {
-        slots::swap_bodies(self.alloc, &mut self.bags, from, to);
+        slots::swap_bodies(&mut self.bags, from, to);
         self.places.rehome(&lists.chunks, from, to);
         slots::list(&mut self.bags, to, lists);
     }

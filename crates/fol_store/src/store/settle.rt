@@ -146,7 +146,7 @@ impl Store {
         ensures places { self.new.places ≡ self.old.places }
         ensures noted { OnOk result (IsNoted self.new c) }
     {
-        if slots::is_stirred(self.bags.as_slice(), id) {
+        if slots::is_stirred(&self.bags, id) {
             slots::touch(self.alloc, &mut self.bags, id, c)
         } else {
             Ok(())
@@ -257,7 +257,7 @@ impl Store {
         requires { (bag_of self.now id).here ≡ true }
         ensures { result ≡ length (bag_of self.now id).chunks }
     {
-        self.bags[id].chunks.len()
+        self.bags.slot(id).chunks.len()
     }
 
     /// One of the chunks of a bag.
@@ -266,7 +266,7 @@ impl Store {
         requires range { k < length (bag_of self.now id).chunks }
         ensures { (d : ChunkPos) → result ≡ slice_index_or (bag_of self.now id).chunks k d }
     {
-        chunk_at(self.bags[id].chunks.as_slice(), k)
+        chunk_at(self.bags.slot(id).chunks.as_slice(), k)
     }
 }
 

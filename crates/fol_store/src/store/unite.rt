@@ -60,7 +60,10 @@ impl Store {
     {
         let _bags = &self.bags;
         match self.prepare_both(from, into) {
-            Ok(lists) => self.pour(from as usize, into as usize, lists),
+            Ok(lists) => {
+                self.pour(from as usize, into as usize, lists);
+                self.release(from as usize);
+            }
             Err(_) => self.dissolve(from, into),
         }
     }
@@ -153,7 +156,7 @@ impl Store {
         requires { (bag_of self.now id).here ≡ true }
         ensures { result.now ≡ (bag_of self.now id).chunks }
     {
-        self.bags[id].chunks.as_slice()
+        self.bags.slot(id).chunks.as_slice()
     }
 
     /// What lies on the chunks of a whole bag goes into another one, whose lists are those of both. If memory runs out, the other has to

@@ -10,12 +10,9 @@ use Rattle.fol_store.proofs.rows.add_bags.Goals as goal
 
 pub loop-bag-preserved : goal.loop-bag-preserved
 loop-bag-preserved c =
-    let blocks = rw c.body_of.ensures at c.in-Ok.ensures.blocks in
-    let entities = rw c.body_of.ensures at c.in-Ok.ensures.entities in
-    let tasks = rw c.body_of.ensures at c.in-Ok.ensures.tasks in
     record {
-      blocks = blocks ∙ ap (λ (l : List BlockAt). l ++ blocks_of c.in-Some.bag.body) c.loop-bag.invariant.blocks ∙ flat_map_more (λ (b : Slot). blocks_of b.body) c.args.rows.now.blocks.items c.loop-bag.yielded c.in-Some.bag;
-      entities = entities ∙ ap (λ (l : List Entity). l ++ entities_of c.in-Some.bag.body) c.loop-bag.invariant.entities ∙ flat_map_more (λ (b : Slot). entities_of b.body) c.args.rows.now.entities.items c.loop-bag.yielded c.in-Some.bag;
-      tasks = tasks ∙ ap (λ (l : List TaskRow). l ++ tasks_of c.in-Some.bag.body) c.loop-bag.invariant.tasks ∙ flat_map_more (λ (b : Slot). tasks_of b.body) c.args.rows.now.tasks.items c.loop-bag.yielded c.in-Some.bag;
-      listed = All-push (λ (b : Slot). IsListed b.body) c.loop-bag.yielded c.in-Some.bag c.loop-bag.invariant.listed (rw (← c.body_of.ensures) c.in-Ok.ensures.listed);
+      blocks = c.in-Ok.ensures.blocks ∙ ap (λ (l : List BlockAt). l ++ blocks_of c.in-Some.bag.body) c.loop-bag.invariant.blocks ∙ flat_map_more (λ (b : Slot). blocks_of b.body) c.args.rows.now.blocks.items c.loop-bag.yielded c.in-Some.bag;
+      entities = c.in-Ok.ensures.entities ∙ ap (λ (l : List Entity). l ++ entities_of c.in-Some.bag.body) c.loop-bag.invariant.entities ∙ flat_map_more (λ (b : Slot). entities_of b.body) c.args.rows.now.entities.items c.loop-bag.yielded c.in-Some.bag;
+      tasks = c.in-Ok.ensures.tasks ∙ ap (λ (l : List TaskRow). l ++ tasks_of c.in-Some.bag.body) c.loop-bag.invariant.tasks ∙ flat_map_more (λ (b : Slot). tasks_of b.body) c.args.rows.now.tasks.items c.loop-bag.yielded c.in-Some.bag;
+      listed = All-push (λ (b : Slot). IsListed b.body) c.loop-bag.yielded c.in-Some.bag c.loop-bag.invariant.listed c.in-Ok.ensures.listed;
     }

@@ -4,17 +4,16 @@ use Rattle.fol_store.specs.contracts.store.Store.{the_view}
 use Rattle.fol_store.specs.declared.slot.Slot.{Slot}
 use Rattle.fol_store.specs.Slots.{slot_in}
 use Rattle.fol_store.specs.Stock.{slot, bag_of, place}
-use Rattle.fol_store.proofs.BagSteps.{here_range}
+use Rattle.fol_store.proofs.BagSteps.{here_range, here_open, first_open}
 use Rattle.fol_store.proofs.Coming.{Followed, came, unlisted, set_twice, wider}
 use Rattle.fol_store.proofs.Drawing.{with_parts}
 use Rattle.fol_store.proofs.store.Store.admit.Goals as goal
 
-pub admit-requires-clause-there : goal.admit-requires-clause-there
+pub admit-requires-clause-open : goal.admit-requires-clause-open
 unfolding bag_of
-admit-requires-clause-there c =
+admit-requires-clause-open c =
     let here : (slot (the_view c.self.inside) c.args.id).here ≡ true = rw (← c.self.view_is) at c.requires.here in
-    let l : c.args.id < length c.self.inside.bags.items = here_range c.self.inside.bags.items c.args.id here in
-    omega arith
+    here_open c.self.inside.bags.items c.args.id here
 
 pub admit-requires-clause-order : goal.admit-requires-clause-order
 unfolding bag_of
@@ -27,7 +26,11 @@ admit-requires-clause-handed c =
     let listed : (slot (the_view c.self.inside) c.args.id).listed ≡ true = rw (← c.self.view_is) at c.requires.listed in
     (c.self.invariant.bags c.args.id).handed (rw (here, listed) refl)
 
-with_chunk : (c : goal.In-Ok-set) → Followed (the_view c.self.inside) (with_parts (the_view c.self.inside) c.self.inside.spots.items c.admit.new.bags.items c.set.new.self (vec_capacity c.self.inside.arrivals - vec_len c.self.inside.arrivals) (vec_capacity c.admit.new.bags - vec_len c.admit.new.bags)) c.args.id (wider (the_view c.self.inside) c.args.id c.args.c)
+pub unlist-requires : goal.unlist-requires
+unfolding bag_of
+unlist-requires c = first_open c.args.id _ _ _ (c.admit.ensures.slots c.args.id) (rw (← c.self.view_is) at c.requires.here)
+
+with_chunk : (c : goal.In-Ok-set) → Followed (the_view c.self.inside) (with_parts (the_view c.self.inside) c.self.inside.spots.items c.admit.new.bags.items c.set.new.self (vec_capacity c.self.inside.arrivals - vec_len c.self.inside.arrivals) c.admit.new.bags.free) c.args.id (wider (the_view c.self.inside) c.args.id c.args.c)
 unfolding bag_of
 with_chunk c =
     let here : (slot (the_view c.self.inside) c.args.id).here ≡ true = rw (← c.self.view_is) at c.requires.here in
@@ -35,26 +38,26 @@ with_chunk c =
     let there : c.args.place ≡ place (the_view c.self.inside) c.args.c = rw (← c.self.view_is) at c.requires.there in
     let d : Slot = slot_in c.admit.new.bags.items c.args.id in
     came (the_view c.self.inside) c.admit.new.bags.items c.set.new.self _ _ c.args.id c.args.c d.listed d.chunks d.handed d.touched
-    c.admit.ensures.slots c.self.invariant (omega arith) (here_range c.self.inside.bags.items c.args.id here) here (omega arith) (omega (arith, c.admit.ensures.len, c.admit.ensures.capacity))
+    c.admit.ensures.slots c.self.invariant (omega arith) (here_range c.self.inside.bags.items c.args.id here) here (omega arith) (omega (arith, c.admit.ensures.len, c.admit.ensures.free))
     listed c.args.place there c.requires.none c.in-Ok-set.ensures.ok c.in-Ok.ensures.order c.in-Ok.ensures.has c.in-Ok.ensures.handed c.in-Ok.ensures.noted
 
-without_place : (c : goal.After-unlist) → Followed (the_view c.self.inside) (with_parts (the_view c.self.inside) c.self.inside.spots.items c.unlist.new.bags.items c.set.new.self (vec_capacity c.self.inside.arrivals - vec_len c.self.inside.arrivals) (vec_capacity c.unlist.new.bags - vec_len c.unlist.new.bags)) c.args.id (wider (the_view c.self.inside) c.args.id c.args.c)
+without_place : (c : goal.After-unlist) → Followed (the_view c.self.inside) (with_parts (the_view c.self.inside) c.self.inside.spots.items c.unlist.new.bags.items c.set.new.self (vec_capacity c.self.inside.arrivals - vec_len c.self.inside.arrivals) c.unlist.new.bags.free) c.args.id (wider (the_view c.self.inside) c.args.id c.args.c)
 unfolding bag_of
 without_place c =
     let here : (slot (the_view c.self.inside) c.args.id).here ≡ true = rw (← c.self.view_is) at c.requires.here in
     let d : Slot = slot_in c.admit.new.bags.items c.args.id in
     unlisted (the_view c.self.inside) c.unlist.new.bags.items c.set.new.self _ _ c.args.id c.args.c false d.chunks d.handed d.touched
     (set_twice c.args.id (slot (the_view c.self.inside)) (slot_in c.admit.new.bags.items) (slot_in c.unlist.new.bags.items) _ (λ (z : Slot). let y : Slot = record z { listed = false } in y) c.admit.ensures.slots c.unlist.ensures.slots)
-    c.self.invariant (omega arith) (here_range c.self.inside.bags.items c.args.id here) here (omega arith) (omega (arith, c.admit.ensures.len, c.admit.ensures.capacity, c.unlist.ensures.len, c.unlist.ensures.capacity))
+    c.self.invariant (omega arith) (here_range c.self.inside.bags.items c.args.id here) here (omega arith) (omega (arith, c.admit.ensures.len, c.admit.ensures.free, c.unlist.ensures.len, c.unlist.ensures.free))
     refl c.in-Err-set.ensures.err c.admit.ensures.kept
 
-without_room : (c : goal.In-Err) → Followed (the_view c.self.inside) (with_parts (the_view c.self.inside) c.self.inside.spots.items c.admit.new.bags.items c.self.inside.places (vec_capacity c.self.inside.arrivals - vec_len c.self.inside.arrivals) (vec_capacity c.admit.new.bags - vec_len c.admit.new.bags)) c.args.id (wider (the_view c.self.inside) c.args.id c.args.c)
+without_room : (c : goal.In-Err) → Followed (the_view c.self.inside) (with_parts (the_view c.self.inside) c.self.inside.spots.items c.admit.new.bags.items c.self.inside.places (vec_capacity c.self.inside.arrivals - vec_len c.self.inside.arrivals) c.admit.new.bags.free) c.args.id (wider (the_view c.self.inside) c.args.id c.args.c)
 unfolding bag_of
 without_room c =
     let here : (slot (the_view c.self.inside) c.args.id).here ≡ true = rw (← c.self.view_is) at c.requires.here in
     let d : Slot = slot_in c.admit.new.bags.items c.args.id in
     unlisted (the_view c.self.inside) c.admit.new.bags.items c.self.inside.places _ _ c.args.id c.args.c d.listed d.chunks d.handed d.touched
-    c.admit.ensures.slots c.self.invariant (omega arith) (here_range c.self.inside.bags.items c.args.id here) here (omega arith) (omega (arith, c.admit.ensures.len, c.admit.ensures.capacity))
+    c.admit.ensures.slots c.self.invariant (omega arith) (here_range c.self.inside.bags.items c.args.id here) here (omega arith) (omega (arith, c.admit.ensures.len, c.admit.ensures.free))
     c.in-Err.ensures.unlisted (λ q. refl) c.admit.ensures.kept
 
 pub invariant_of-self : goal.invariant_of-self

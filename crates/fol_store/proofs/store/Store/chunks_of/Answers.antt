@@ -3,18 +3,17 @@ use Rattle.fol_store.specs.contracts.store.Store.{the_view}
 use Rattle.fol_store.specs.declared.slot.Slot.{Slot}
 use Rattle.fol_store.specs.Bag.{Bag}
 use Rattle.fol_store.specs.Stock.{slot, bag_of, no_slot}
-use Rattle.fol_store.proofs.BagSteps.{here_range, bag_slot, get_or-any}
+use Rattle.fol_store.proofs.BagSteps.{here_open, bag_slot}
 use Rattle.fol_store.proofs.store.Store.chunks_of.Goals as goal
 
-pub index-requires : goal.index-requires
-index-requires c =
+pub slot-requires : goal.slot-requires
+slot-requires c =
     let h : (slot (the_view c.self.inside) c.args.id).here ≡ true = sym (ap (λ (b : Bag). b.here) (bag_slot (the_view c.self.inside) c.args.id)) ∙ (rw (← c.self.view_is) at c.requires) in
-    let l : c.args.id < length c.self.inside.bags.items = here_range c.self.inside.bags.items c.args.id h in
-    omega arith
+    here_open c.self.inside.bags.items c.args.id h
 
 pub returns : goal.returns
 returns c =
     let h : (slot (the_view c.self.inside) c.args.id).here ≡ true = sym (ap (λ (b : Bag). b.here) (bag_slot (the_view c.self.inside) c.args.id)) ∙ (rw (← c.self.view_is) at c.requires) in
-    let e : c.index.result.now ≡ slot (the_view c.self.inside) c.args.id = c.index.ensures ∙ get_or-any c.self.inside.bags.items c.args.id c.index.result.now no_slot (here_range c.self.inside.bags.items c.args.id h) in
+    let e : c.slot.result.now ≡ slot (the_view c.self.inside) c.args.id = c.slot.ensures in
     let list : c.as_slice.result.now ≡ (bag_of (the_view c.self.inside) c.args.id).chunks = c.as_slice.ensures ∙ ap (λ (b : Slot). b.chunks) e ∙ sym (ap (λ (b : Bag). b.chunks) (bag_slot (the_view c.self.inside) c.args.id)) in
     rw (← c.self.view_is) list

@@ -3,24 +3,24 @@ use Rattle.std.specs.Vec.{vec_capacity}
 use Rattle.fol_store.specs.contracts.store.Store.{the_view}
 use Rattle.fol_store.specs.declared.slot.Slot.{Slot}
 use Rattle.fol_store.specs.Bag.{Bag, no_bag}
-use Rattle.fol_store.specs.Stock.{Stock, slot}
-use Rattle.fol_store.proofs.BagSteps.{OneStep, with_bags, one_step, closed_bag, here_range, bag_slot}
+use Rattle.fol_store.specs.Stock.{Stock, slot, no_slot}
+use Rattle.fol_store.proofs.BagSteps.{OneStep, with_bags, one_step, closed_bag, here_open, bag_slot}
+use Rattle.fol_store.specs.Slots.{slot_in}
 use Rattle.fol_store.proofs.store.Store.close.Goals as goal
 
 pub close-requires : goal.close-requires
 close-requires c =
     let h : (slot (the_view c.self.inside) c.args.id).here ≡ true = sym (ap (λ (b : Bag). b.here) (bag_slot (the_view c.self.inside) c.args.id)) ∙ (rw (← c.self.view_is) at c.requires.here) in
-    let l : c.args.id < length c.self.inside.bags.items = here_range c.self.inside.bags.items c.args.id h in
-    omega arith
+    here_open c.self.inside.bags.items c.args.id h
 
 -- the store afterwards
 abbrev after : goal.After-close → Stock
-after c = with_bags (the_view c.self.inside) c.close.new.bags.items (vec_capacity c.self.inside.arrivals - vec_len c.self.inside.arrivals) (vec_capacity c.close.new.bags - vec_len c.close.new.bags)
+after c = with_bags (the_view c.self.inside) c.close.new.bags.items (vec_capacity c.self.inside.arrivals - vec_len c.self.inside.arrivals) c.close.new.bags.free
 
 step : (c : goal.After-close) → OneStep (the_view c.self.inside) (after c) c.args.id (no_bag)
 step c =
     let long : length c.close.new.bags.items ≡ length c.self.inside.bags.items = omega arith in
-    one_step (the_view c.self.inside) c.close.new.bags.items _ _ c.args.id (let d : Slot = record { body = (slot (the_view c.self.inside) c.args.id).body; here = false; taken = false; listed = false; calm = false; chunks = []; handed = []; touched = []; since = [] } in d) c.close.ensures.slots (no_bag) c.self.invariant (λ k. refl) long (c.self.invariant.bag_times c.args.id) (λ columns. closed_bag (after c) c.args.id _ refl refl refl) refl
+    one_step (the_view c.self.inside) c.close.new.bags.items _ _ c.args.id (let d : Slot = record no_slot { body = (slot_in c.close.new.bags.items c.args.id).body } in d) c.close.ensures.slots (no_bag) c.self.invariant c.close.ensures.things long (c.close.ensures.timely (c.self.invariant.bag_times c.args.id)) (λ columns. closed_bag (after c) c.args.id _ refl refl refl) refl
 
 pub invariant_of-self : goal.invariant_of-self
 invariant_of-self c = (step c).sound

@@ -5,26 +5,25 @@ use Rattle.fol_store.specs.declared.slot.Slot.{Slot}
 use Rattle.fol_store.specs.Bag.{Bag}
 use Rattle.fol_store.specs.Stock.{slot, no_slot, due_of}
 use Rattle.fol_store.specs.Things.{IsTimely}
-use Rattle.fol_store.proofs.BagSteps.{here_range, get_or-any, bag_slot}
+use Rattle.fol_store.proofs.BagSteps.{here_open, bag_slot}
 use Rattle.fol_store.proofs.store.Store.count_due.Goals as goal
 
-pub index-slot-requires : goal.index-slot-requires
-index-slot-requires c =
+pub slot-slot-requires : goal.slot-slot-requires
+slot-slot-requires c =
     let h : (slot (the_view c.self.inside) c.args.id).here ≡ true = sym (ap (λ (b : Bag). b.here) (bag_slot (the_view c.self.inside) c.args.id)) ∙ (rw (← c.self.view_is) at c.requires) in
-    let l : c.args.id < length c.self.inside.bags.items = here_range c.self.inside.bags.items c.args.id h in
-    omega arith
+    here_open c.self.inside.bags.items c.args.id h
 
 pub overflow_add-slot : goal.overflow_add-slot
 overflow_add-slot c =
     let h : (slot (the_view c.self.inside) c.args.id).here ≡ true = sym (ap (λ (b : Bag). b.here) (bag_slot (the_view c.self.inside) c.args.id)) ∙ (rw (← c.self.view_is) at c.requires) in
-    let e : c.index-slot.result.now ≡ slot (the_view c.self.inside) c.args.id = c.index-slot.ensures ∙ get_or-any c.self.inside.bags.items c.args.id c.index-slot.result.now no_slot (here_range c.self.inside.bags.items c.args.id h) in
+    let e : c.slot-slot.result.now ≡ slot (the_view c.self.inside) c.args.id = c.slot-slot.ensures in
     let timely : IsTimely (slot (the_view c.self.inside) c.args.id).body = c.self.invariant.bag_times c.args.id in
-    let small : c.index-slot.result.now.body.tick ≤ 2 ^ 62 = rw e timely.tick in
+    let small : c.slot-slot.result.now.body.tick ≤ 2 ^ 62 = rw e timely.tick in
     omega arith
 
 pub returns : goal.returns
 unfolding due_of
 returns c =
     let h : (slot (the_view c.self.inside) c.args.id).here ≡ true = sym (ap (λ (b : Bag). b.here) (bag_slot (the_view c.self.inside) c.args.id)) ∙ (rw (← c.self.view_is) at c.requires) in
-    let e : c.index-slot.result.now ≡ slot (the_view c.self.inside) c.args.id = c.index-slot.ensures ∙ get_or-any c.self.inside.bags.items c.args.id c.index-slot.result.now no_slot (here_range c.self.inside.bags.items c.args.id h) in
+    let e : c.slot-slot.result.now ≡ slot (the_view c.self.inside) c.args.id = c.slot-slot.ensures in
     rw (← c.self.view_is) (c.count_due.ensures ∙ ap (λ (b : Slot). due_count (b.body.tick + 1) b.body.queues) e)

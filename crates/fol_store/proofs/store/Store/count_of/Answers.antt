@@ -3,17 +3,16 @@ use Rattle.fol_store.specs.contracts.store.Store.{the_view}
 use Rattle.fol_store.specs.declared.slot.Slot.{Slot}
 use Rattle.fol_store.specs.Bag.{Bag}
 use Rattle.fol_store.specs.Stock.{slot, no_slot}
-use Rattle.fol_store.proofs.BagSteps.{here_range, bag_slot, get_or-any}
+use Rattle.fol_store.proofs.BagSteps.{here_open, bag_slot}
 use Rattle.fol_store.proofs.store.Store.count_of.Goals as goal
 
-pub index-requires : goal.index-requires
-index-requires c =
+pub slot-requires : goal.slot-requires
+slot-requires c =
     let h : (slot (the_view c.self.inside) c.args.id).here ≡ true = sym (ap (λ (b : Bag). b.here) (bag_slot (the_view c.self.inside) c.args.id)) ∙ (rw (← c.self.view_is) at c.requires) in
-    let l : c.args.id < length c.self.inside.bags.items = here_range c.self.inside.bags.items c.args.id h in
-    omega arith
+    here_open c.self.inside.bags.items c.args.id h
 
 pub returns : goal.returns
 returns c =
     let h : (slot (the_view c.self.inside) c.args.id).here ≡ true = sym (ap (λ (b : Bag). b.here) (bag_slot (the_view c.self.inside) c.args.id)) ∙ (rw (← c.self.view_is) at c.requires) in
-    let e : c.index.result.now ≡ slot (the_view c.self.inside) c.args.id = c.index.ensures ∙ get_or-any c.self.inside.bags.items c.args.id c.index.result.now no_slot (here_range c.self.inside.bags.items c.args.id h) in
+    let e : c.slot.result.now ≡ slot (the_view c.self.inside) c.args.id = c.slot.ensures in
     rw (← c.self.view_is) (c.len.ensures ∙ ap (λ (b : Slot). length b.chunks) e ∙ sym (ap (λ (b : Bag). length b.chunks) (bag_slot (the_view c.self.inside) c.args.id)))

@@ -11,6 +11,7 @@ use Rattle.fol_store.proofs.Drawing.{Drawn, with_parts, loses_none, gains_none}
 use Rattle.fol_store.proofs.Spotting.{Spotted, OnePair, from_spot, keeps_gathered, gathers}
 use Rattle.fol_store.proofs.Homes.{single-is, single-self}
 use Rattle.fol_store.proofs.Stepping.{target_here, here_not_taken, others_same}
+use Rattle.fol_store.proofs.BagSteps.{here_open}
 use Rattle.fol_store.proofs.store.Store.draw_spot.Goals as goal
 use Rattle.fol_store.proofs.PlaceSteps.{answer_cases}
 use Rattle.fol_store.specs.Moves.{Loses, Gains, SameThings}
@@ -19,16 +20,21 @@ pub shift_to_bag-requires-clause-order : goal.shift_to_bag-requires-clause-order
 unfolding IsStrictlySortedBy
 shift_to_bag-requires-clause-order c = (tt, tt)
 
+pub shift_to_bag-requires-clause-bag_open : goal.shift_to_bag-requires-clause-bag_open
+shift_to_bag-requires-clause-bag_open c =
+    let target : IsTarget c.args.id c.args.chunks.now (the_view c.self.inside) = rw (← c.self.view_is) at c.requires.target in
+    here_open c.self.inside.bags.items c.args.id (target_here c.args.id c.args.chunks.now (the_view c.self.inside) target)
+
 pub shift_to_bag-requires-clause-apart : goal.shift_to_bag-requires-clause-apart
 shift_to_bag-requires-clause-apart c = λ k x y p q.
     let e : in_spot c.args.i ≡ in_bag c.args.id = c.self.invariant.unique k (in_spot c.args.i) (in_bag c.args.id) x y p q in
     cc
 
 abbrev after : goal.After-shift_to_bag → Stock
-after c = with_parts (the_view c.self.inside) c.shift_to_bag.new.spots.items c.shift_to_bag.new.bags.items c.self.inside.places (vec_capacity c.self.inside.arrivals - vec_len c.self.inside.arrivals) (vec_capacity c.shift_to_bag.new.bags - vec_len c.shift_to_bag.new.bags)
+after c = with_parts (the_view c.self.inside) c.shift_to_bag.new.spots.items c.shift_to_bag.new.bags.items c.self.inside.places (vec_capacity c.self.inside.arrivals - vec_len c.self.inside.arrivals) c.shift_to_bag.new.bags.free
 
 pair : (c : goal.After-shift_to_bag) → (slot_in c.shift_to_bag.new.bags.items c.args.id).body.tick ≡ (slot (the_view c.self.inside) c.args.id).body.tick → (slot_in c.shift_to_bag.new.bags.items c.args.id).body.owed ≡ (slot (the_view c.self.inside) c.args.id).body.owed
-    → OnePair (the_view c.self.inside) c.shift_to_bag.new.spots.items c.shift_to_bag.new.bags.items c.self.inside.places (vec_capacity c.self.inside.arrivals - vec_len c.self.inside.arrivals) (vec_capacity c.shift_to_bag.new.bags - vec_len c.shift_to_bag.new.bags) c.args.i c.args.id c.args.c (slot_in c.shift_to_bag.new.bags.items c.args.id).body (spot_in c.shift_to_bag.new.spots.items c.args.i)
+    → OnePair (the_view c.self.inside) c.shift_to_bag.new.spots.items c.shift_to_bag.new.bags.items c.self.inside.places (vec_capacity c.self.inside.arrivals - vec_len c.self.inside.arrivals) c.shift_to_bag.new.bags.free c.args.i c.args.id c.args.c (slot_in c.shift_to_bag.new.bags.items c.args.id).body (spot_in c.shift_to_bag.new.spots.items c.args.i)
 pair c tick owed =
     let target : IsTarget c.args.id c.args.chunks.now (the_view c.self.inside) = rw (← c.self.view_is) at c.requires.target in
     record {
@@ -41,7 +47,7 @@ pair c tick owed =
       tick = tick;
       owed = owed;
       more_spare = omega arith;
-      more_slots = omega (arith, c.shift_to_bag.ensures.len, c.shift_to_bag.ensures.capacity);
+      more_slots = omega (arith, c.shift_to_bag.ensures.len, c.shift_to_bag.ensures.free);
       at_spot = rw (← c.self.view_is) at c.requires.spot;
       at_bag = rw (← c.self.view_is) at c.requires.home;
       not_taken = here_not_taken c.args.id (the_view c.self.inside) c.self.invariant (target_here c.args.id c.args.chunks.now (the_view c.self.inside) target);

@@ -4,8 +4,8 @@ use Rattle.fol_store.specs.contracts.store.Store.{the_view}
 use Rattle.fol_store.specs.declared.places.Place.{Place}
 use Rattle.fol_store.specs.Bag.{Bag}
 use Rattle.fol_store.specs.Slots.{slot_in, spot_in}
-use Rattle.fol_store.specs.Stock.{slot, in_bag, in_spot}
-use Rattle.fol_store.proofs.BagSteps.{bag_slot}
+use Rattle.fol_store.specs.Stock.{slot, in_bag, in_spot, bag_of}
+use Rattle.fol_store.proofs.BagSteps.{bag_slot, here_open}
 use Rattle.std.specs.List.Sorted.{IsStrictlySortedBy}
 use Rattle.fol_keyed.proofs.Places.{same_chunk-self}
 use Rattle.fol_store.proofs.Drawing.{with_parts, loses_none, gains_none}
@@ -17,12 +17,16 @@ pub shift_from_bag-requires-clause-order : goal.shift_from_bag-requires-clause-o
 unfolding IsStrictlySortedBy
 shift_from_bag-requires-clause-order c = (tt, tt)
 
+pub shift_from_bag-requires-clause-bag_open : goal.shift_from_bag-requires-clause-bag_open
+unfolding bag_of
+shift_from_bag-requires-clause-bag_open c = here_open c.self.inside.bags.items c.args.id (rw (← c.self.view_is) at c.requires.here)
+
 pub shift_from_bag-requires-clause-apart : goal.shift_from_bag-requires-clause-apart
 shift_from_bag-requires-clause-apart c = λ k x y p q.
     let e : in_bag c.args.id ≡ in_spot c.args.i = c.self.invariant.unique k (in_bag c.args.id) (in_spot c.args.i) x y p q in
     cc
 
-moved : (c : goal.After-unname) → Spotted (the_view c.self.inside) (with_parts (the_view c.self.inside) c.shift_from_bag.new.spots.items c.shift_from_bag.new.bags.items c.unname.new.self (vec_capacity c.self.inside.arrivals - vec_len c.self.inside.arrivals) (vec_capacity c.shift_from_bag.new.bags - vec_len c.shift_from_bag.new.bags))
+moved : (c : goal.After-unname) → Spotted (the_view c.self.inside) (with_parts (the_view c.self.inside) c.shift_from_bag.new.spots.items c.shift_from_bag.new.bags.items c.unname.new.self (vec_capacity c.self.inside.arrivals - vec_len c.self.inside.arrivals) c.shift_from_bag.new.bags.free)
 moved c =
     let here : (slot (the_view c.self.inside) c.args.id).here ≡ true = sym (ap (λ (b : Bag). b.here) (bag_slot (the_view c.self.inside) c.args.id)) ∙ (rw (← c.self.view_is) at c.requires.here) in
     let not_listed : (slot (the_view c.self.inside) c.args.id).listed ≡ false = sym (ap (λ (b : Bag). b.listed) (bag_slot (the_view c.self.inside) c.args.id)) ∙ (rw (← c.self.view_is) at c.requires.not_listed) in
@@ -37,14 +41,14 @@ moved c =
       tick = c.in-Ok.ensures.loses.tick;
       owed = c.in-Ok.ensures.loses.owed;
       more_spare = omega arith;
-      more_slots = omega (arith, c.shift_from_bag.ensures.len, c.shift_from_bag.ensures.capacity);
+      more_slots = omega (arith, c.shift_from_bag.ensures.len, c.shift_from_bag.ensures.free);
       at_spot = rw (← c.self.view_is) at c.requires.spot;
       at_bag = rw (← c.self.view_is) at c.requires.home;
       not_taken = here_not_taken c.args.id (the_view c.self.inside) c.self.invariant here;
     })
     c.self.invariant c.unname.ensures not_listed c.in-Ok.ensures.loses c.in-Ok.ensures.gains
 
-stayed : (c : goal.In-Err) → Spotted (the_view c.self.inside) (with_parts (the_view c.self.inside) c.shift_from_bag.new.spots.items c.shift_from_bag.new.bags.items c.self.inside.places (vec_capacity c.self.inside.arrivals - vec_len c.self.inside.arrivals) (vec_capacity c.shift_from_bag.new.bags - vec_len c.shift_from_bag.new.bags))
+stayed : (c : goal.In-Err) → Spotted (the_view c.self.inside) (with_parts (the_view c.self.inside) c.shift_from_bag.new.spots.items c.shift_from_bag.new.bags.items c.self.inside.places (vec_capacity c.self.inside.arrivals - vec_len c.self.inside.arrivals) c.shift_from_bag.new.bags.free)
 stayed c =
     let here : (slot (the_view c.self.inside) c.args.id).here ≡ true = sym (ap (λ (b : Bag). b.here) (bag_slot (the_view c.self.inside) c.args.id)) ∙ (rw (← c.self.view_is) at c.requires.here) in
     from_spot (the_view c.self.inside) c.shift_from_bag.new.spots.items c.shift_from_bag.new.bags.items c.self.inside.places _ _ c.args.i c.args.id c.args.c (slot_in c.shift_from_bag.new.bags.items c.args.id).body (spot_in c.shift_from_bag.new.spots.items c.args.i)
@@ -58,7 +62,7 @@ stayed c =
       tick = c.in-Err.ensures.err.tick;
       owed = c.in-Err.ensures.err.owed;
       more_spare = omega arith;
-      more_slots = omega (arith, c.shift_from_bag.ensures.len, c.shift_from_bag.ensures.capacity);
+      more_slots = omega (arith, c.shift_from_bag.ensures.len, c.shift_from_bag.ensures.free);
       at_spot = rw (← c.self.view_is) at c.requires.spot;
       at_bag = rw (← c.self.view_is) at c.requires.home;
       not_taken = here_not_taken c.args.id (the_view c.self.inside) c.self.invariant here;

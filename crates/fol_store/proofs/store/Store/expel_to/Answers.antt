@@ -15,16 +15,25 @@ use Rattle.fol_store.proofs.Drawing.{with_parts, loses_none, gains_none}
 use Rattle.fol_store.proofs.Leaving.{left_one, narrower}
 use Rattle.fol_store.proofs.Spotting.{Spotted, from_spot}
 use Rattle.fol_store.proofs.Stepping.{here_not_taken}
+use Rattle.fol_store.proofs.BagSteps.{here_open, first_open}
 use Rattle.fol_store.proofs.store.Store.expel_to.Goals as goal
 
 pub shift_from_bag-requires-clause-order : goal.shift_from_bag-requires-clause-order
 unfolding IsStrictlySortedBy
 shift_from_bag-requires-clause-order c = (tt, tt)
 
+pub shift_from_bag-requires-clause-bag_open : goal.shift_from_bag-requires-clause-bag_open
+unfolding bag_of
+shift_from_bag-requires-clause-bag_open c = here_open c.self.inside.bags.items c.args.id (rw (← c.self.view_is) at c.requires.here)
+
 pub shift_from_bag-requires-clause-apart : goal.shift_from_bag-requires-clause-apart
 shift_from_bag-requires-clause-apart c = λ k x y p q.
     let e : in_bag c.args.id ≡ in_spot c.args.i = c.self.invariant.unique k (in_bag c.args.id) (in_spot c.args.i) x y p q in
     cc
+
+pub dismiss-requires-clause-open : goal.dismiss-requires-clause-open
+unfolding bag_of
+dismiss-requires-clause-open c = first_open c.args.id _ _ _ (c.shift_from_bag.ensures.slots c.args.id) (rw (← c.self.view_is) at c.requires.here)
 
 pub dismiss-requires-clause-order : goal.dismiss-requires-clause-order
 unfolding bag_of
@@ -42,7 +51,7 @@ dismiss-requires-clause-handed c =
     let mine : slot_in c.shift_from_bag.new.bags.items c.args.id ≡ record (slot (the_view c.self.inside) c.args.id) { body = (slot_in c.shift_from_bag.new.bags.items c.args.id).body } = c.shift_from_bag.ensures.slots c.args.id ∙ rw (nat_self c.args.id) refl in
     ap (λ (z : Slot). z.handed) mine ∙ (c.self.invariant.bags c.args.id).handed (rw (here, listed) refl) ∙ sym (ap (λ (z : Slot). z.chunks) mine)
 
-moved : (c : goal.After-dismiss) → Followed (the_view c.self.inside) (with_parts (the_view c.self.inside) c.shift_from_bag.new.spots.items c.dismiss.new.bags.items c.unname.new.self (vec_capacity c.self.inside.arrivals - vec_len c.self.inside.arrivals) (vec_capacity c.dismiss.new.bags - vec_len c.dismiss.new.bags)) c.args.id (narrower (the_view c.self.inside) c.args.id c.args.c)
+moved : (c : goal.After-dismiss) → Followed (the_view c.self.inside) (with_parts (the_view c.self.inside) c.shift_from_bag.new.spots.items c.dismiss.new.bags.items c.unname.new.self (vec_capacity c.self.inside.arrivals - vec_len c.self.inside.arrivals) c.dismiss.new.bags.free) c.args.id (narrower (the_view c.self.inside) c.args.id c.args.c)
 unfolding bag_of
 moved c =
     let s : Stock = the_view c.self.inside in
@@ -58,7 +67,7 @@ moved c =
       timely = c.shift_from_bag.ensures.timely;
       spot_timely = c.shift_from_bag.ensures.to_timely;
       more_spare = omega arith;
-      more_slots = omega (arith, c.shift_from_bag.ensures.len, c.shift_from_bag.ensures.capacity, c.dismiss.ensures.len, c.dismiss.ensures.capacity);
+      more_slots = omega (arith, c.shift_from_bag.ensures.len, c.shift_from_bag.ensures.free, c.dismiss.ensures.len, c.dismiss.ensures.free);
       at_spot = rw (← c.self.view_is) at c.requires.spot;
       at_bag = rw (← c.self.view_is) at c.requires.home;
       homes = c.unname.ensures;
@@ -72,7 +81,7 @@ moved c =
     })
     c.self.invariant
 
-stayed : (c : goal.After-from_residual) → Spotted (the_view c.self.inside) (with_parts (the_view c.self.inside) c.shift_from_bag.new.spots.items c.shift_from_bag.new.bags.items c.self.inside.places (vec_capacity c.self.inside.arrivals - vec_len c.self.inside.arrivals) (vec_capacity c.shift_from_bag.new.bags - vec_len c.shift_from_bag.new.bags))
+stayed : (c : goal.After-from_residual) → Spotted (the_view c.self.inside) (with_parts (the_view c.self.inside) c.shift_from_bag.new.spots.items c.shift_from_bag.new.bags.items c.self.inside.places (vec_capacity c.self.inside.arrivals - vec_len c.self.inside.arrivals) c.shift_from_bag.new.bags.free)
 unfolding bag_of
 stayed c =
     let here : (slot (the_view c.self.inside) c.args.id).here ≡ true = rw (← c.self.view_is) at c.requires.here in
@@ -87,7 +96,7 @@ stayed c =
       tick = c.in_err-shift_from_bag.ensures.err.tick;
       owed = c.in_err-shift_from_bag.ensures.err.owed;
       more_spare = omega arith;
-      more_slots = omega (arith, c.shift_from_bag.ensures.len, c.shift_from_bag.ensures.capacity);
+      more_slots = omega (arith, c.shift_from_bag.ensures.len, c.shift_from_bag.ensures.free);
       at_spot = rw (← c.self.view_is) at c.requires.spot;
       at_bag = rw (← c.self.view_is) at c.requires.home;
       not_taken = here_not_taken c.args.id (the_view c.self.inside) c.self.invariant here;

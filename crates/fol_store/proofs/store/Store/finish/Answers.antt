@@ -6,24 +6,23 @@ use Rattle.fol_store.specs.contracts.store.Store.{the_view}
 use Rattle.fol_store.specs.Bag.{Bag}
 use Rattle.fol_store.specs.Stock.{slot, bag_of}
 use Rattle.fol_store.specs.Steps.{IsGathered}
-use Rattle.fol_store.proofs.BagSteps.{with_bags, here_range, bag_slot}
+use Rattle.fol_store.proofs.BagSteps.{with_bags, here_open, bag_slot}
 use Rattle.fol_store.proofs.Settling.{Settled, now_whole}
 use Rattle.fol_store.proofs.store.Store.finish.Goals as goal
 
 pub finish-requires : goal.finish-requires
 finish-requires c =
     let h : (slot (the_view c.self.inside) c.args.id).here ≡ true = sym (ap (λ (b : Bag). b.here) (bag_slot (the_view c.self.inside) c.args.id)) ∙ (rw (← c.self.view_is) at c.requires.here) in
-    let l : c.args.id < length c.self.inside.bags.items = here_range c.self.inside.bags.items c.args.id h in
-    omega arith
+    here_open c.self.inside.bags.items c.args.id h
 
-step : (c : goal.After-finish) → Settled (the_view c.self.inside) (with_bags (the_view c.self.inside) c.finish.new.bags.items (vec_capacity c.self.inside.arrivals - vec_len c.self.inside.arrivals) (vec_capacity c.finish.new.bags - vec_len c.finish.new.bags)) c.args.id (let b : Bag = record (bag_of (the_view c.self.inside) c.args.id) { listed = true; calm = true } in b)
+step : (c : goal.After-finish) → Settled (the_view c.self.inside) (with_bags (the_view c.self.inside) c.finish.new.bags.items (vec_capacity c.self.inside.arrivals - vec_len c.self.inside.arrivals) c.finish.new.bags.free) c.args.id (let b : Bag = record (bag_of (the_view c.self.inside) c.args.id) { listed = true; calm = true } in b)
 unfolding bag_of
 step c =
     let here : (slot (the_view c.self.inside) c.args.id).here ≡ true = rw (← c.self.view_is) at c.requires.here in
     let chunks : (slot (the_view c.self.inside) c.args.id).chunks ≡ c.args.handed.items = rw (← c.self.view_is) at c.requires.chunks in
     let gathered : (q : ChunkPos) → is_recorded c.args.handed.items q ≡ true → IsGathered (the_view c.self.inside) c.args.id q = rw (← c.self.view_is) at c.requires.gathered in
     now_whole (the_view c.self.inside) c.finish.new.bags.items _ _ c.args.id c.args.handed.items c.finish.ensures.slots here (sym chunks)
-    (λ q r. gathered q (sym (ap (λ l. is_recorded l q) chunks) ∙ r)) (omega arith) (omega arith) (omega (arith, c.finish.ensures.len, c.finish.ensures.capacity)) c.self.invariant
+    (λ q r. gathered q (sym (ap (λ l. is_recorded l q) chunks) ∙ r)) (omega arith) (omega arith) (omega (arith, c.finish.ensures.len, c.finish.ensures.free)) c.self.invariant
 
 pub invariant_of-self : goal.invariant_of-self
 invariant_of-self c = (step c).sound

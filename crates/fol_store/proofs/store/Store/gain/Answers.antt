@@ -5,7 +5,6 @@ use Rattle.fol_chunks.specs.Contents.{is_recorded}
 use Rattle.fol_store.specs.contracts.store.Store.{the_view}
 use Rattle.fol_store.specs.Places.{is_bag}
 use Rattle.fol_store.specs.Stock.{slot, place, bag_of, next_of}
-use Rattle.fol_store.proofs.BagSteps.{open_range}
 use Rattle.fol_store.proofs.Filling.{own_at}
 use Rattle.fol_store.proofs.OneMore.{recorded_there}
 use Rattle.fol_store.proofs.Relisting.{has_chunk, more_elsewhere, noted_bag, same_chunks}
@@ -15,25 +14,23 @@ use Rattle.fol_store.proofs.store.Store.gain.Goals as goal
 pub is_ready-requires : goal.is_ready-requires
 unfolding bag_of
 is_ready-requires c =
-    let h : ((slot (the_view c.self.inside) c.args.id).here || (slot (the_view c.self.inside) c.args.id).taken) ≡ true = rw (← c.self.view_is) at c.requires.known in
-    let l : c.args.id < length c.self.inside.bags.items = open_range c.self.inside.bags.items c.args.id h in
-    rw c.as_slice.ensures.value l
+    rw (← c.self.view_is) at c.requires.known
 
 pub note_change-requires-clause-away : goal.note_change-requires-clause-away
 unfolding bag_of
-note_change-requires-clause-away c = rw (← c.self.view_is) (rw c.as_slice.ensures.value at (sym c.is_ready.ensures ∙ c.if-not-is_ready.true))
+note_change-requires-clause-away c = rw (← c.self.view_is) (sym c.is_ready.ensures ∙ c.if-not-is_ready.true)
 
 pub admit-requires-clause-here : goal.admit-requires-clause-here
 unfolding bag_of
-admit-requires-clause-here c = rw (← c.self.view_is) (and_parts (slot (the_view c.self.inside) c.args.id).here (slot (the_view c.self.inside) c.args.id).listed (rw c.as_slice.ensures.value at (sym c.is_ready.ensures ∙ c.if-not-is_ready.false))).0
+admit-requires-clause-here c = rw (← c.self.view_is) (and_parts (slot (the_view c.self.inside) c.args.id).here (slot (the_view c.self.inside) c.args.id).listed (sym c.is_ready.ensures ∙ c.if-not-is_ready.false)).0
 
 pub admit-requires-clause-listed : goal.admit-requires-clause-listed
 unfolding bag_of
-admit-requires-clause-listed c = rw (← c.self.view_is) (and_parts (slot (the_view c.self.inside) c.args.id).here (slot (the_view c.self.inside) c.args.id).listed (rw c.as_slice.ensures.value at (sym c.is_ready.ensures ∙ c.if-not-is_ready.false))).1
+admit-requires-clause-listed c = rw (← c.self.view_is) (and_parts (slot (the_view c.self.inside) c.args.id).here (slot (the_view c.self.inside) c.args.id).listed (sym c.is_ready.ensures ∙ c.if-not-is_ready.false)).1
 
 pub admit-requires-clause-order : goal.admit-requires-clause-order
 unfolding bag_of
-admit-requires-clause-order c = c.requires.order (rw (← c.self.view_is) (and_parts (slot (the_view c.self.inside) c.args.id).here (slot (the_view c.self.inside) c.args.id).listed (rw c.as_slice.ensures.value at (sym c.is_ready.ensures ∙ c.if-not-is_ready.false))).1)
+admit-requires-clause-order c = c.requires.order (rw (← c.self.view_is) (and_parts (slot (the_view c.self.inside) c.args.id).here (slot (the_view c.self.inside) c.args.id).listed (sym c.is_ready.ensures ∙ c.if-not-is_ready.false)).1)
 
 pub returns-then-not-is_ready-clause-own : goal.returns-then-not-is_ready-clause-own
 returns-then-not-is_ready-clause-own c =
@@ -53,7 +50,7 @@ returns-then-is_none-clause-tasks c = same_jobs _ _ c.admit.ensures.same.found
 pub returns-else-not-has_bag-clause-own : goal.returns-else-not-has_bag-clause-own
 unfolding bag_of
 returns-else-not-has_bag-clause-own c =
-    let ready : ((slot (the_view c.self.inside) c.args.id).here && (slot (the_view c.self.inside) c.args.id).listed) ≡ true = rw c.as_slice.ensures.value at (sym c.is_ready.ensures ∙ c.if-not-is_ready.false) in
+    let ready : ((slot (the_view c.self.inside) c.args.id).here && (slot (the_view c.self.inside) c.args.id).listed) ≡ true = sym c.is_ready.ensures ∙ c.if-not-is_ready.false in
     let home : is_bag c.args.id (place (the_view c.self.inside) c.args.c) ≡ true = rw c.at-place.ensures at (sym c.has_bag.ensures ∙ c.if-not-has_bag.false) in
     let has : is_recorded (bag_of c.args.self.now c.args.id).chunks c.args.c ≡ true = rw (← c.self.view_is) (has_chunk (the_view c.self.inside) c.args.id c.args.c c.self.invariant ready home) in
     same_chunks _ (bag_of c.args.self.now c.args.id) c.requires.order (λ q. recorded_there (bag_of c.args.self.now c.args.id).chunks c.args.c q has)

@@ -23,15 +23,15 @@ invariant_of-self c =
 
 pub returns-clause-tasks : goal.returns-clause-tasks
 returns-clause-tasks c =
-    rw (← c.self.view_is, c.push_reserved.ensures.items) (accepted_tasks (the_view c.self.inside) (come c) c.disturb.new.bags.items (vec_capacity c.push_reserved.new.self - vec_len c.push_reserved.new.self) (vec_capacity c.disturb.new.bags - vec_len c.disturb.new.bags) (rw c.at-place.ensures at c.disturb.ensures.slots) (none c) c.self.invariant)
+    rw (← c.self.view_is, c.push_reserved.ensures.items) (accepted_tasks (the_view c.self.inside) (come c) c.disturb.new.bags.items (vec_capacity c.push_reserved.new.self - vec_len c.push_reserved.new.self) c.disturb.new.bags.free (rw c.at-place.ensures at c.disturb.ensures.slots) (none c) c.self.invariant)
 
 pub returns-clause-contents : goal.returns-clause-contents
 returns-clause-contents c =
-    rw (← c.self.view_is, c.push_reserved.ensures.items) (accepted_contents (the_view c.self.inside) (come c) c.disturb.new.bags.items (vec_capacity c.push_reserved.new.self - vec_len c.push_reserved.new.self) (vec_capacity c.disturb.new.bags - vec_len c.disturb.new.bags) (rw c.at-place.ensures at c.disturb.ensures.slots) (none c) c.self.invariant)
+    rw (← c.self.view_is, c.push_reserved.ensures.items) (accepted_contents (the_view c.self.inside) (come c) c.disturb.new.bags.items (vec_capacity c.push_reserved.new.self - vec_len c.push_reserved.new.self) c.disturb.new.bags.free (rw c.at-place.ensures at c.disturb.ensures.slots) (none c) c.self.invariant)
 
 pub returns-clause-bags : goal.returns-clause-bags
 returns-clause-bags c =
-    rw (← c.self.view_is, c.push_reserved.ensures.items) (accepted_bags (the_view c.self.inside) (come c) c.disturb.new.bags.items (vec_capacity c.push_reserved.new.self - vec_len c.push_reserved.new.self) (vec_capacity c.disturb.new.bags - vec_len c.disturb.new.bags) (rw c.at-place.ensures at c.disturb.ensures.slots) (none c) c.self.invariant)
+    rw (← c.self.view_is, c.push_reserved.ensures.items) (accepted_bags (the_view c.self.inside) (come c) c.disturb.new.bags.items (vec_capacity c.push_reserved.new.self - vec_len c.push_reserved.new.self) c.disturb.new.bags.free (rw c.at-place.ensures at c.disturb.ensures.slots) (none c) c.self.invariant)
 
 pub returns-clause-next : goal.returns-clause-next
 unfolding next_of

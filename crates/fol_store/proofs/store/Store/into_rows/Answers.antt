@@ -1,6 +1,16 @@
+use Rattle.std.proofs.Common.{subst}
+use Rattle.fol_store.specs.declared.slot.Slot.{Slot}
+use Rattle.fol_store.specs.Stock.{no_slot}
+use Rattle.fol_store.specs.Things.{IsTimely}
+use Rattle.fol_store.proofs.BagSteps.{get_or-any}
 use Rattle.fol_store.specs.contracts.store.Store.{the_view}
 use Rattle.fol_store.proofs.RowLists.{all_blocks_differ, all_entities_differ, all_tasks_differ, blocks_held, blocks_above, entities_held, tasks_held}
 use Rattle.fol_store.proofs.store.Store.into_rows.Goals as goal
+
+pub list-requires-clause-bags_timely : goal.list-requires-clause-bags_timely
+list-requires-clause-bags_timely c = λ k d l.
+    let P : Slot → Type 0 = λ b. IsTimely b.body in
+    subst P (get_or-any c.self.inside.bags.items k no_slot d l) (c.self.invariant.bag_times k)
 
 pub sort_blocks-requires : goal.sort_blocks-requires
 sort_blocks-requires c = rw c.in-Ok.ensures.blocks (all_blocks_differ (the_view c.self.inside) c.self.invariant c.in-Ok.ensures.spots_listed c.in-Ok.ensures.bags_listed)

@@ -6,7 +6,6 @@ use Rattle.fol_chunks.specs.Contents.{is_recorded}
 use Rattle.fol_store.specs.contracts.store.Store.{the_view}
 use Rattle.fol_store.specs.Places.{is_bag}
 use Rattle.fol_store.specs.Stock.{slot, place, bag_of}
-use Rattle.fol_store.proofs.BagSteps.{open_range}
 use Rattle.fol_store.proofs.Filling.{own_at}
 use Rattle.fol_store.proofs.Noting.{recorded_last}
 use Rattle.fol_store.proofs.OneMore.{recorded_away}
@@ -17,25 +16,23 @@ use Rattle.fol_store.proofs.store.Store.lose.Goals as goal
 pub is_ready-requires : goal.is_ready-requires
 unfolding bag_of
 is_ready-requires c =
-    let h : ((slot (the_view c.self.inside) c.args.id).here || (slot (the_view c.self.inside) c.args.id).taken) ≡ true = rw (← c.self.view_is) at c.requires.known in
-    let l : c.args.id < length c.self.inside.bags.items = open_range c.self.inside.bags.items c.args.id h in
-    rw c.as_slice.ensures.value l
+    rw (← c.self.view_is) at c.requires.known
 
 pub note_change-requires-clause-away : goal.note_change-requires-clause-away
 unfolding bag_of
-note_change-requires-clause-away c = rw (← c.self.view_is) (rw c.as_slice.ensures.value at (sym c.is_ready.ensures ∙ c.if-not-is_ready.true))
+note_change-requires-clause-away c = rw (← c.self.view_is) (sym c.is_ready.ensures ∙ c.if-not-is_ready.true)
 
 pub expel-requires-clause-here : goal.expel-requires-clause-here
 unfolding bag_of
-expel-requires-clause-here c = rw (← c.self.view_is) (and_parts (slot (the_view c.self.inside) c.args.id).here (slot (the_view c.self.inside) c.args.id).listed (rw c.as_slice.ensures.value at (sym c.is_ready.ensures ∙ c.if-not-is_ready.false))).0
+expel-requires-clause-here c = rw (← c.self.view_is) (and_parts (slot (the_view c.self.inside) c.args.id).here (slot (the_view c.self.inside) c.args.id).listed (sym c.is_ready.ensures ∙ c.if-not-is_ready.false)).0
 
 pub expel-requires-clause-listed : goal.expel-requires-clause-listed
 unfolding bag_of
-expel-requires-clause-listed c = rw (← c.self.view_is) (and_parts (slot (the_view c.self.inside) c.args.id).here (slot (the_view c.self.inside) c.args.id).listed (rw c.as_slice.ensures.value at (sym c.is_ready.ensures ∙ c.if-not-is_ready.false))).1
+expel-requires-clause-listed c = rw (← c.self.view_is) (and_parts (slot (the_view c.self.inside) c.args.id).here (slot (the_view c.self.inside) c.args.id).listed (sym c.is_ready.ensures ∙ c.if-not-is_ready.false)).1
 
 pub expel-requires-clause-order : goal.expel-requires-clause-order
 unfolding bag_of
-expel-requires-clause-order c = c.requires.order (rw (← c.self.view_is) (and_parts (slot (the_view c.self.inside) c.args.id).here (slot (the_view c.self.inside) c.args.id).listed (rw c.as_slice.ensures.value at (sym c.is_ready.ensures ∙ c.if-not-is_ready.false))).1)
+expel-requires-clause-order c = c.requires.order (rw (← c.self.view_is) (and_parts (slot (the_view c.self.inside) c.args.id).here (slot (the_view c.self.inside) c.args.id).listed (sym c.is_ready.ensures ∙ c.if-not-is_ready.false)).1)
 
 pub returns-then-not-is_ready-clause-own : goal.returns-then-not-is_ready-clause-own
 returns-then-not-is_ready-clause-own c =
@@ -45,7 +42,7 @@ returns-then-not-is_ready-clause-own c =
 pub returns-else-has_bag-clause-own : goal.returns-else-has_bag-clause-own
 unfolding bag_of
 returns-else-has_bag-clause-own c =
-    let ready : ((slot (the_view c.self.inside) c.args.id).here && (slot (the_view c.self.inside) c.args.id).listed) ≡ true = rw c.as_slice.ensures.value at (sym c.is_ready.ensures ∙ c.if-not-is_ready.false) in
+    let ready : ((slot (the_view c.self.inside) c.args.id).here && (slot (the_view c.self.inside) c.args.id).listed) ≡ true = sym c.is_ready.ensures ∙ c.if-not-is_ready.false in
     let home : is_bag c.args.id (place (the_view c.self.inside) c.args.c) ≡ false = rw c.at.ensures at (sym c.has_bag.ensures ∙ c.if-has_bag.false) in
     let lacks : is_recorded (bag_of c.args.self.now c.args.id).chunks c.args.c ≡ false = rw (← c.self.view_is) (lacks_chunk (the_view c.self.inside) c.args.id c.args.c c.self.invariant ready home) in
     same_chunks _ (bag_of c.args.self.now c.args.id) c.requires.order (λ q. recorded_away (bag_of c.args.self.now c.args.id).chunks c.args.c q lacks)
@@ -58,13 +55,13 @@ returns-then-not-is_ready-clause-away c t w =
 pub returns-then-has_bag-clause-away : goal.returns-then-has_bag-clause-away
 unfolding bag_of
 returns-then-has_bag-clause-away c t w =
-    let ready : ((slot (the_view c.self.inside) c.args.id).here && (slot (the_view c.self.inside) c.args.id).listed) ≡ true = rw c.as_slice.ensures.value at (sym c.is_ready.ensures ∙ c.if-not-is_ready.false) in
+    let ready : ((slot (the_view c.self.inside) c.args.id).here && (slot (the_view c.self.inside) c.args.id).listed) ≡ true = sym c.is_ready.ensures ∙ c.if-not-is_ready.false in
     let home = here_not_taken c.args.id (the_view c.self.inside) c.self.invariant (and_parts (slot (the_view c.self.inside) c.args.id).here (slot (the_view c.self.inside) c.args.id).listed ready).0 in
     absurd (true≢false (sym (rw (← c.self.view_is) at t) ∙ home))
 
 pub returns-else-has_bag-clause-away : goal.returns-else-has_bag-clause-away
 unfolding bag_of
 returns-else-has_bag-clause-away c t w =
-    let ready : ((slot (the_view c.self.inside) c.args.id).here && (slot (the_view c.self.inside) c.args.id).listed) ≡ true = rw c.as_slice.ensures.value at (sym c.is_ready.ensures ∙ c.if-not-is_ready.false) in
+    let ready : ((slot (the_view c.self.inside) c.args.id).here && (slot (the_view c.self.inside) c.args.id).listed) ≡ true = sym c.is_ready.ensures ∙ c.if-not-is_ready.false in
     let home = here_not_taken c.args.id (the_view c.self.inside) c.self.invariant (and_parts (slot (the_view c.self.inside) c.args.id).here (slot (the_view c.self.inside) c.args.id).listed ready).0 in
     absurd (true≢false (sym (rw (← c.self.view_is) at t) ∙ home))

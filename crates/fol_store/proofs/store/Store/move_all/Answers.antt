@@ -6,30 +6,27 @@ use Rattle.fol_store.specs.declared.slot.Slot.{Slot}
 use Rattle.fol_store.specs.Places.{rehomed}
 use Rattle.fol_store.specs.Slots.{slot_in}
 use Rattle.fol_store.specs.Stock.{slot, place}
-use Rattle.fol_store.proofs.BagSteps.{here_range}
+use Rattle.fol_store.proofs.BagSteps.{here_range, here_open, second_open}
 use Rattle.fol_store.proofs.Drawing.{with_parts}
 use Rattle.fol_store.proofs.Parting.{Handed, a_pair, listed_over, same_numbers, shift_and_list, swap_gains, swap_loses}
 use Rattle.fol_store.proofs.store.Store.move_all.Goals as goal
 
-pub swap_bodies-requires-clause-from_there : goal.swap_bodies-requires-clause-from_there
-swap_bodies-requires-clause-from_there c =
+pub swap_bodies-requires-clause-from_open : goal.swap_bodies-requires-clause-from_open
+swap_bodies-requires-clause-from_open c =
     let p = a_pair _ c.args.self.now c.args.from c.args.to c.self.view_is c.requires.here c.requires.unlisted c.requires.fresh c.requires.differ in
-    let l : c.args.from < length c.self.inside.bags.items = here_range c.self.inside.bags.items c.args.from p.here in
-    omega arith
+    here_open c.self.inside.bags.items c.args.from p.here
 
-pub swap_bodies-requires-clause-to_there : goal.swap_bodies-requires-clause-to_there
-swap_bodies-requires-clause-to_there c =
+pub swap_bodies-requires-clause-to_open : goal.swap_bodies-requires-clause-to_open
+swap_bodies-requires-clause-to_open c =
     let p = a_pair _ c.args.self.now c.args.from c.args.to c.self.view_is c.requires.here c.requires.unlisted c.requires.fresh c.requires.differ in
-    let l : c.args.to < length c.self.inside.bags.items = here_range c.self.inside.bags.items c.args.to p.id_here in
-    omega arith
+    here_open c.self.inside.bags.items c.args.to p.id_here
 
 pub list-requires : goal.list-requires
 list-requires c =
     let p = a_pair _ c.args.self.now c.args.from c.args.to c.self.view_is c.requires.here c.requires.unlisted c.requires.fresh c.requires.differ in
-    let l : c.args.to < length c.self.inside.bags.items = here_range c.self.inside.bags.items c.args.to p.id_here in
-    omega (arith, c.swap_bodies.ensures.len)
+    second_open c.args.from c.args.to _ _ _ _ c.requires.differ (c.swap_bodies.ensures.slots c.args.to) p.id_here
 
-moved : (c : goal.After-list) → Handed c.args.to c.args.lists.chunks.items (the_view c.self.inside) (with_parts (the_view c.self.inside) c.self.inside.spots.items c.list.new.bags.items c.rehome.new.self (vec_capacity c.self.inside.arrivals - vec_len c.self.inside.arrivals) (vec_capacity c.list.new.bags - vec_len c.list.new.bags))
+moved : (c : goal.After-list) → Handed c.args.to c.args.lists.chunks.items (the_view c.self.inside) (with_parts (the_view c.self.inside) c.self.inside.spots.items c.list.new.bags.items c.rehome.new.self (vec_capacity c.self.inside.arrivals - vec_len c.self.inside.arrivals) c.list.new.bags.free)
 moved c =
     let s = the_view c.self.inside in
     let p = a_pair s c.args.self.now c.args.from c.args.to c.self.view_is c.requires.here c.requires.unlisted c.requires.fresh c.requires.differ in
@@ -57,7 +54,7 @@ moved c =
       handed_are = c.requires.handed;
       touched_are = c.requires.touched;
       more_spare = omega arith;
-      more_slots = omega (arith, c.swap_bodies.ensures.len, c.swap_bodies.ensures.capacity, c.list.ensures.len, c.list.ensures.capacity);
+      more_slots = omega (arith, c.swap_bodies.ensures.len, c.swap_bodies.ensures.free, c.list.ensures.len, c.list.ensures.free);
     })
     c.self.invariant
 

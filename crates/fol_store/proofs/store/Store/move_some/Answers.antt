@@ -6,7 +6,7 @@ use Rattle.fol_store.specs.declared.slot.Slot.{Slot}
 use Rattle.fol_store.specs.Places.{rehomed}
 use Rattle.fol_store.specs.Slots.{slot_in}
 use Rattle.fol_store.specs.Stock.{slot, place, in_bag}
-use Rattle.fol_store.proofs.BagSteps.{here_range}
+use Rattle.fol_store.proofs.BagSteps.{here_range, here_open, second_open}
 use Rattle.fol_store.proofs.Drawing.{with_parts, loses_none, gains_none}
 use Rattle.fol_store.proofs.Parting.{Handed, a_pair, left_over, listed_over, shift_and_list}
 use Rattle.fol_store.proofs.store.Store.move_some.Goals as goal
@@ -14,14 +14,12 @@ use Rattle.fol_store.proofs.store.Store.move_some.Goals as goal
 pub shift_bags-requires-clause-from_there : goal.shift_bags-requires-clause-from_there
 shift_bags-requires-clause-from_there c =
     let p = a_pair _ c.args.self.now c.args.from c.args.to c.self.view_is c.requires.here c.requires.unlisted c.requires.fresh c.requires.differ in
-    let l : c.args.from < length c.self.inside.bags.items = here_range c.self.inside.bags.items c.args.from p.here in
-    omega arith
+    here_range c.self.inside.bags.items c.args.from p.here
 
-pub shift_bags-requires-clause-to_there : goal.shift_bags-requires-clause-to_there
-shift_bags-requires-clause-to_there c =
+pub shift_bags-requires-clause-to_open : goal.shift_bags-requires-clause-to_open
+shift_bags-requires-clause-to_open c =
     let p = a_pair _ c.args.self.now c.args.from c.args.to c.self.view_is c.requires.here c.requires.unlisted c.requires.fresh c.requires.differ in
-    let l : c.args.to < length c.self.inside.bags.items = here_range c.self.inside.bags.items c.args.to p.id_here in
-    omega arith
+    here_open c.self.inside.bags.items c.args.to p.id_here
 
 pub shift_bags-requires-clause-apart : goal.shift_bags-requires-clause-apart
 shift_bags-requires-clause-apart c = λ k x y p q.
@@ -31,10 +29,9 @@ shift_bags-requires-clause-apart c = λ k x y p q.
 pub list-requires : goal.list-requires
 list-requires c =
     let p = a_pair _ c.args.self.now c.args.from c.args.to c.self.view_is c.requires.here c.requires.unlisted c.requires.fresh c.requires.differ in
-    let l : c.args.to < length c.self.inside.bags.items = here_range c.self.inside.bags.items c.args.to p.id_here in
-    omega (arith, c.shift_bags.ensures.len)
+    second_open c.args.from c.args.to _ _ _ _ c.requires.differ (c.shift_bags.ensures.slots c.args.to) p.id_here
 
-moved : (c : goal.After-list) → Handed c.args.to c.args.lists.chunks.items (the_view c.self.inside) (with_parts (the_view c.self.inside) c.self.inside.spots.items c.list.new.bags.items c.rehome.new.self (vec_capacity c.self.inside.arrivals - vec_len c.self.inside.arrivals) (vec_capacity c.list.new.bags - vec_len c.list.new.bags))
+moved : (c : goal.After-list) → Handed c.args.to c.args.lists.chunks.items (the_view c.self.inside) (with_parts (the_view c.self.inside) c.self.inside.spots.items c.list.new.bags.items c.rehome.new.self (vec_capacity c.self.inside.arrivals - vec_len c.self.inside.arrivals) c.list.new.bags.free)
 moved c =
     let s = the_view c.self.inside in
     let p = a_pair s c.args.self.now c.args.from c.args.to c.self.view_is c.requires.here c.requires.unlisted c.requires.fresh c.requires.differ in
@@ -61,11 +58,11 @@ moved c =
       handed_are = c.requires.handed;
       touched_are = c.requires.touched;
       more_spare = omega arith;
-      more_slots = omega (arith, c.shift_bags.ensures.len, c.shift_bags.ensures.capacity, c.list.ensures.len, c.list.ensures.capacity);
+      more_slots = omega (arith, c.shift_bags.ensures.len, c.shift_bags.ensures.free, c.list.ensures.len, c.list.ensures.free);
     })
     c.self.invariant
 
-stayed : (c : goal.After-drop-lists-in-Err-2) → Handed c.args.to c.args.lists.chunks.items (the_view c.self.inside) (with_parts (the_view c.self.inside) c.self.inside.spots.items c.shift_bags.new.bags.items c.self.inside.places (vec_capacity c.self.inside.arrivals - vec_len c.self.inside.arrivals) (vec_capacity c.shift_bags.new.bags - vec_len c.shift_bags.new.bags))
+stayed : (c : goal.After-drop-lists-in-Err-2) → Handed c.args.to c.args.lists.chunks.items (the_view c.self.inside) (with_parts (the_view c.self.inside) c.self.inside.spots.items c.shift_bags.new.bags.items c.self.inside.places (vec_capacity c.self.inside.arrivals - vec_len c.self.inside.arrivals) c.shift_bags.new.bags.free)
 stayed c =
     let s = the_view c.self.inside in
     let p = a_pair s c.args.self.now c.args.from c.args.to c.self.view_is c.requires.here c.requires.unlisted c.requires.fresh c.requires.differ in
@@ -85,7 +82,7 @@ stayed c =
       };
       pair = p;
       more_spare = omega arith;
-      more_slots = omega (arith, c.shift_bags.ensures.len, c.shift_bags.ensures.capacity);
+      more_slots = omega (arith, c.shift_bags.ensures.len, c.shift_bags.ensures.free);
     })
     c.self.invariant
 

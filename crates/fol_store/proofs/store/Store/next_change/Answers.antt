@@ -5,18 +5,17 @@ use Rattle.fol_store.specs.declared.slot.Slot.{Slot}
 use Rattle.fol_store.specs.Bag.{Bag}
 use Rattle.fol_store.specs.Slots.{slot_in}
 use Rattle.fol_store.specs.Stock.{Stock, slot, bag_of}
-use Rattle.fol_store.proofs.BagSteps.{OneStep, with_bags, one_step, one_kept, here_range, bag_slot}
+use Rattle.fol_store.proofs.BagSteps.{OneStep, with_bags, one_step, one_kept, here_open, bag_slot}
 use Rattle.fol_store.proofs.store.Store.next_change.Goals as goal
 
 pub next_change-requires : goal.next_change-requires
 next_change-requires c =
     let h : (slot (the_view c.self.inside) c.args.id).here ≡ true = sym (ap (λ (b : Bag). b.here) (bag_slot (the_view c.self.inside) c.args.id)) ∙ (rw (← c.self.view_is) at c.requires.here) in
-    let l : c.args.id < length c.self.inside.bags.items = here_range c.self.inside.bags.items c.args.id h in
-    omega arith
+    here_open c.self.inside.bags.items c.args.id h
 
 -- the store afterwards
 abbrev after : goal.After-next_change → Stock
-after c = with_bags (the_view c.self.inside) c.next_change.new.bags.items (vec_capacity c.self.inside.arrivals - vec_len c.self.inside.arrivals) (vec_capacity c.next_change.new.bags - vec_len c.next_change.new.bags)
+after c = with_bags (the_view c.self.inside) c.next_change.new.bags.items (vec_capacity c.self.inside.arrivals - vec_len c.self.inside.arrivals) c.next_change.new.bags.free
 
 -- the bag afterwards, and what contracts see of it
 abbrev popped : goal.After-next_change → Slot

@@ -5,20 +5,18 @@ use Rattle.fol_store.specs.declared.slot.Slot.{Slot}
 use Rattle.fol_store.specs.Bag.{Bag}
 use Rattle.fol_store.specs.Slots.{slot_in}
 use Rattle.fol_store.specs.Stock.{Stock, slot, bag_of}
-use Rattle.fol_store.proofs.BagSteps.{OneStep, with_bags, one_step, one_kept, open_range, bag_slot}
+use Rattle.fol_store.proofs.BagSteps.{OneStep, with_bags, one_step, one_kept, bag_slot}
 use Rattle.fol_store.proofs.Relisting.{away_unlisted}
 use Rattle.fol_store.proofs.store.Store.note_change.Goals as goal
 
 pub note_change-requires : goal.note_change-requires
 unfolding bag_of
 note_change-requires c =
-    let h : ((slot (the_view c.self.inside) c.args.id).here || (slot (the_view c.self.inside) c.args.id).taken) ≡ true = rw (← c.self.view_is) at c.requires.known in
-    let l : c.args.id < length c.self.inside.bags.items = open_range c.self.inside.bags.items c.args.id h in
-    omega arith
+    rw (← c.self.view_is) at c.requires.known
 
 -- the store afterwards
 abbrev after : goal.After-note_change → Stock
-after c = with_bags (the_view c.self.inside) c.note_change.new.bags.items (vec_capacity c.self.inside.arrivals - vec_len c.self.inside.arrivals) (vec_capacity c.note_change.new.bags - vec_len c.note_change.new.bags)
+after c = with_bags (the_view c.self.inside) c.note_change.new.bags.items (vec_capacity c.self.inside.arrivals - vec_len c.self.inside.arrivals) c.note_change.new.bags.free
 
 -- the bag afterwards, and what contracts see of it
 abbrev marked : goal.After-note_change → Slot

@@ -1,5 +1,6 @@
 use Rattle.std.proofs.Common.{◌≡◌, ◌-◌, ◌<◌, ◌&&◌, true, false, not, [], ◌∷◌, ◌++◌, length, sym, ◌∙◌, inl, inr, arith, vec_len, Some}
 use Rattle.std.specs.Vec.{vec_capacity}
+use Rattle.std.proofs.lemmas.Bool.{and_parts}
 use Rattle.fol_model.specs.declared.places.ChunkPos.{ChunkPos}
 use Rattle.fol_chunks.specs.Contents.{is_recorded}
 use Rattle.fol_store.specs.contracts.store.Store.{the_view}
@@ -15,21 +16,20 @@ pub is_stirred-requires : goal.is_stirred-requires
 is_stirred-requires c =
     let home : (place (the_view c.self.inside) c.args.c).bag ≡ Some c.args.id = rw (← c.self.view_is) at c.requires in
     let l : c.args.id < length c.self.inside.bags.items = c.self.invariant.bag_range c.args.c c.args.id home in
-    rw c.as_slice.ensures.value l
+    omega arith
 
 pub touch-requires : goal.touch-requires
 touch-requires c =
-    let home : (place (the_view c.self.inside) c.args.c).bag ≡ Some c.args.id = rw (← c.self.view_is) at c.requires in
-    let l : c.args.id < length c.self.inside.bags.items = c.self.invariant.bag_range c.args.c c.args.id home in
-    omega arith
+    let both : ((slot (the_view c.self.inside) c.args.id).listed && not (slot (the_view c.self.inside) c.args.id).calm) ≡ true = sym c.is_stirred.ensures ∙ c.if-is_stirred.true in
+    (c.self.invariant.bags c.args.id).opened (and_parts (slot (the_view c.self.inside) c.args.id).listed (not (slot (the_view c.self.inside) c.args.id).calm) both).0
 
 stirred : (c : goal.After-touch) → ((slot (the_view c.self.inside) c.args.id).listed && not (slot (the_view c.self.inside) c.args.id).calm) ≡ true
-stirred c = rw c.as_slice.ensures.value at (sym c.is_stirred.ensures ∙ c.if-is_stirred.true)
+stirred c = sym c.is_stirred.ensures ∙ c.if-is_stirred.true
 
-step : (c : goal.After-touch) → Spotted (the_view c.self.inside) (with_bags (the_view c.self.inside) c.touch.new.bags.items (vec_capacity c.self.inside.arrivals - vec_len c.self.inside.arrivals) (vec_capacity c.touch.new.bags - vec_len c.touch.new.bags))
+step : (c : goal.After-touch) → Spotted (the_view c.self.inside) (with_bags (the_view c.self.inside) c.touch.new.bags.items (vec_capacity c.self.inside.arrivals - vec_len c.self.inside.arrivals) c.touch.new.bags.free)
 step c =
     marked_step (the_view c.self.inside) c.touch.new.bags.items _ _ c.args.id (slot_in c.touch.new.bags.items c.args.id).touched c.touch.ensures.slots more
-    (λ l m. absurd (not_both l m (stirred c))) (omega arith) (omega arith) (omega (arith, c.touch.ensures.len, c.touch.ensures.capacity)) c.self.invariant
+    (λ l m. absurd (not_both l m (stirred c))) (omega arith) (omega arith) (omega (arith, c.touch.ensures.len, c.touch.ensures.free)) c.self.invariant
   where
     not_both : (slot (the_view c.self.inside) c.args.id).listed ≡ true → (slot (the_view c.self.inside) c.args.id).calm ≡ true → ((slot (the_view c.self.inside) c.args.id).listed && not (slot (the_view c.self.inside) c.args.id).calm) ≡ true → ⊥
     not_both l m h = let z : false ≡ true = rw (l, m) at h in cc
@@ -57,10 +57,10 @@ pub returns-then-is_stirred-clause-noted : goal.returns-then-is_stirred-clause-n
 returns-then-is_stirred-clause-noted c =
     let home : (place (the_view c.self.inside) c.args.c).bag ≡ Some c.args.id = rw (← c.self.view_is) at c.requires in
     on_ok c.touch.result _ _ c.touch.ensures.noted
-    (λ e. marked_is (the_view c.self.inside) c.touch.new.bags.items (vec_capacity c.self.inside.arrivals - vec_len c.self.inside.arrivals) (vec_capacity c.touch.new.bags - vec_len c.touch.new.bags) c.args.id (slot_in c.touch.new.bags.items c.args.id).touched c.touch.ensures.slots c.args.c home (rw e (recorded_last (slot (the_view c.self.inside) c.args.id).touched c.args.c)))
+    (λ e. marked_is (the_view c.self.inside) c.touch.new.bags.items (vec_capacity c.self.inside.arrivals - vec_len c.self.inside.arrivals) c.touch.new.bags.free c.args.id (slot_in c.touch.new.bags.items c.args.id).touched c.touch.ensures.slots c.args.c home (rw e (recorded_last (slot (the_view c.self.inside) c.args.id).touched c.args.c)))
 
 pub returns-else-is_stirred-clause-noted : goal.returns-else-is_stirred-clause-noted
 returns-else-is_stirred-clause-noted c =
     let home : (place (the_view c.self.inside) c.args.c).bag ≡ Some c.args.id = rw (← c.self.view_is) at c.requires in
-    let e = rw c.as_slice.ensures.value at (sym c.is_stirred.ensures ∙ c.if-is_stirred.false) in
+    let e = sym c.is_stirred.ensures ∙ c.if-is_stirred.false in
     rw (← c.self.view_is) (unstirred_is (the_view c.self.inside) c.args.id c.args.c home e)

@@ -1,4 +1,4 @@
-use Rattle.std.proofs.Common.{◌≡◌, ◌+◌, ◌-◌, length, arith, vec_len}
+use Rattle.std.proofs.Common.{◌≡◌, ◌+◌, ◌-◌, length, arith, vec_len, sym}
 use Rattle.std.specs.Vec.{vec_capacity}
 use Rattle.fol_store.specs.contracts.store.Store.{the_view}
 use Rattle.fol_store.specs.Bag.{new_bag}
@@ -9,15 +9,15 @@ use Rattle.fol_store.proofs.Opening.{OpenStep, open_step}
 use Rattle.fol_store.proofs.store.Store.open.Goals as goal
 
 abbrev after : goal.After-open → Stock
-after c = with_bags (the_view c.self.inside) c.open.new.bags.items (vec_capacity c.self.inside.arrivals - vec_len c.self.inside.arrivals) (vec_capacity c.open.new.bags - vec_len c.open.new.bags)
+after c = with_bags (the_view c.self.inside) c.open.new.self.items (vec_capacity c.self.inside.arrivals - vec_len c.self.inside.arrivals) c.open.new.self.free
 
 step : (c : goal.After-open) → OpenStep (the_view c.self.inside) (after c) c.args.id (new_bag c.args.tick c.args.owed)
 unfolding next_of
 step c =
     let next : c.args.id ≡ length c.self.inside.bags.items = rw (← c.self.view_is) at c.requires.next in
-    let last : vec_len c.self.inside.bags ≡ c.args.id = omega arith in
-    let long : length c.open.new.bags.items ≡ c.args.id + 1 = omega arith in
-    open_step (the_view c.self.inside) c.open.new.bags.items _ _ c.args.id c.args.tick c.args.owed (slot_in c.open.new.bags.items c.args.id).body
+    let last : length c.self.inside.bags.items ≡ c.args.id = sym next in
+    let long : length c.open.new.self.items ≡ c.args.id + 1 = omega arith in
+    open_step (the_view c.self.inside) c.open.new.self.items _ _ c.args.id c.args.tick c.args.owed (slot_in c.open.new.self.items c.args.id).body
     (rw last at c.open.ensures.slots) (rw last at c.open.ensures.body) (rw last at c.open.ensures.tasks) next long c.requires.tick c.self.invariant
 
 pub invariant_of-self : goal.invariant_of-self

@@ -3,19 +3,18 @@ use Rattle.fol_store.specs.contracts.store.Store.{the_view}
 use Rattle.fol_store.specs.declared.slot.Slot.{Slot}
 use Rattle.fol_store.specs.Bag.{Bag}
 use Rattle.fol_store.specs.Stock.{slot, no_slot, shown}
-use Rattle.fol_store.proofs.BagSteps.{here_range, get_or-any, bag_slot}
+use Rattle.fol_store.proofs.BagSteps.{here_open, bag_slot}
 use Rattle.fol_store.proofs.store.Store.owed.Goals as goal
 
-pub index-requires : goal.index-requires
-index-requires c =
+pub slot-requires : goal.slot-requires
+slot-requires c =
     let h : (slot (the_view c.self.inside) c.args.id).here ≡ true = sym (ap (λ (b : Bag). b.here) (bag_slot (the_view c.self.inside) c.args.id)) ∙ (rw (← c.self.view_is) at c.requires) in
-    let l : c.args.id < length c.self.inside.bags.items = here_range c.self.inside.bags.items c.args.id h in
-    omega arith
+    here_open c.self.inside.bags.items c.args.id h
 
-read : (c : goal.After-index) → c.index.result.now ≡ slot (the_view c.self.inside) c.args.id
+read : (c : goal.After-slot) → c.slot.result.now ≡ slot (the_view c.self.inside) c.args.id
 read c =
     let h : (slot (the_view c.self.inside) c.args.id).here ≡ true = sym (ap (λ (b : Bag). b.here) (bag_slot (the_view c.self.inside) c.args.id)) ∙ (rw (← c.self.view_is) at c.requires) in
-    c.index.ensures ∙ get_or-any c.self.inside.bags.items c.args.id c.index.result.now no_slot (here_range c.self.inside.bags.items c.args.id h)
+    c.slot.ensures
 
 pub returns : goal.returns
 returns c =

@@ -8,7 +8,7 @@ use Rattle.fol_store.specs.contracts.store.Store.{the_view}
 use Rattle.fol_store.specs.Places.{rehomed}
 use Rattle.fol_store.specs.Slots.{slot_in}
 use Rattle.fol_store.specs.Stock.{slot, place, in_bag, bag_of}
-use Rattle.fol_store.proofs.BagSteps.{here_range}
+use Rattle.fol_store.proofs.BagSteps.{here_range, here_open}
 use Rattle.fol_store.proofs.Drawing.{with_parts, loses_none, gains_none}
 use Rattle.fol_store.proofs.Joining.{Merged, both_whole, handed_listed, merged_bags}
 use Rattle.fol_store.proofs.store.Store.pour.Goals as goal
@@ -20,24 +20,22 @@ merge-requires-clause-order c =
     let order : IsStrictlySortedBy chunk_cmp (slot (the_view c.self.inside) c.args.from).chunks = (rw (← c.self.view_is) at c.requires.from_order) k.listed in
     rw (handed_listed (the_view c.self.inside) c.args.from c.self.invariant k.here k.listed) order
 
-pub merge-requires-clause-from_there : goal.merge-requires-clause-from_there
-merge-requires-clause-from_there c =
+pub merge-requires-clause-from_open : goal.merge-requires-clause-from_open
+merge-requires-clause-from_open c =
     let k = both_whole _ _ _ _ _ c.self.view_is c.requires.from c.requires.into c.requires.from_whole c.requires.into_whole c.requires.chunks in
-    let l : c.args.from < length c.self.inside.bags.items = here_range c.self.inside.bags.items c.args.from k.here in
-    omega arith
+    here_open c.self.inside.bags.items c.args.from k.here
 
-pub merge-requires-clause-into_there : goal.merge-requires-clause-into_there
-merge-requires-clause-into_there c =
+pub merge-requires-clause-into_open : goal.merge-requires-clause-into_open
+merge-requires-clause-into_open c =
     let k = both_whole _ _ _ _ _ c.self.view_is c.requires.from c.requires.into c.requires.from_whole c.requires.into_whole c.requires.chunks in
-    let l : c.args.into < length c.self.inside.bags.items = here_range c.self.inside.bags.items c.args.into k.id_here in
-    omega arith
+    here_open c.self.inside.bags.items c.args.into k.id_here
 
 pub merge-requires-clause-apart : goal.merge-requires-clause-apart
 merge-requires-clause-apart c = λ k x y p q.
     let e : in_bag c.args.from ≡ in_bag c.args.into = c.self.invariant.unique k (in_bag c.args.from) (in_bag c.args.into) x y p q in
     let f : c.args.from ≡ c.args.into = cc in c.requires.differ f
 
-moved : (c : goal.After-drop-moved) → Merged c.args.from c.args.into (the_view c.self.inside) (with_parts (the_view c.self.inside) c.self.inside.spots.items c.merge.new.bags.items c.rehome.new.self (vec_capacity c.self.inside.arrivals - vec_len c.self.inside.arrivals) (vec_capacity c.merge.new.bags - vec_len c.merge.new.bags))
+moved : (c : goal.After-drop-moved) → Merged c.args.from c.args.into (the_view c.self.inside) (with_parts (the_view c.self.inside) c.self.inside.spots.items c.merge.new.bags.items c.rehome.new.self (vec_capacity c.self.inside.arrivals - vec_len c.self.inside.arrivals) c.merge.new.bags.free)
 moved c =
     let k = both_whole _ _ _ _ _ c.self.view_is c.requires.from c.requires.into c.requires.from_whole c.requires.into_whole c.requires.chunks in
     let all : (slot (the_view c.self.inside) c.args.from).handed ≡ (slot (the_view c.self.inside) c.args.from).chunks = handed_listed (the_view c.self.inside) c.args.from c.self.invariant k.here k.listed in
@@ -61,11 +59,11 @@ moved c =
       twice = λ o. c.requires.handed;
       none_noted = λ o. refl;
       more_spare = omega arith;
-      more_slots = omega (arith, c.merge.ensures.len, c.merge.ensures.capacity);
+      more_slots = omega (arith, c.merge.ensures.len, c.merge.ensures.free);
     })
     c.self.invariant
 
-stayed : (c : goal.In-Err) → Merged c.args.from c.args.into (the_view c.self.inside) (with_parts (the_view c.self.inside) c.self.inside.spots.items c.merge.new.bags.items c.self.inside.places (vec_capacity c.self.inside.arrivals - vec_len c.self.inside.arrivals) (vec_capacity c.merge.new.bags - vec_len c.merge.new.bags))
+stayed : (c : goal.In-Err) → Merged c.args.from c.args.into (the_view c.self.inside) (with_parts (the_view c.self.inside) c.self.inside.spots.items c.merge.new.bags.items c.self.inside.places (vec_capacity c.self.inside.arrivals - vec_len c.self.inside.arrivals) c.merge.new.bags.free)
 stayed c =
     let k = both_whole _ _ _ _ _ c.self.view_is c.requires.from c.requires.into c.requires.from_whole c.requires.into_whole c.requires.chunks in
     merged_bags (the_view c.self.inside) c.merge.new.bags.items c.self.inside.places _ _ c.args.from c.args.into []
@@ -88,7 +86,7 @@ stayed c =
       twice = λ o. (let z : false ≡ true = o in cc);
       none_noted = λ o. (let z : false ≡ true = o in cc);
       more_spare = omega arith;
-      more_slots = omega (arith, c.merge.ensures.len, c.merge.ensures.capacity);
+      more_slots = omega (arith, c.merge.ensures.len, c.merge.ensures.free);
     })
     c.self.invariant
 

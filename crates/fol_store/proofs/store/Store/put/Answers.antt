@@ -5,15 +5,14 @@ use Rattle.fol_store.specs.contracts.store.Store.{the_view}
 use Rattle.fol_store.specs.Bag.{Bag, put_back}
 use Rattle.fol_store.specs.Things.{Key, Thing, things, chunk_at, IsTimely}
 use Rattle.fol_store.specs.Stock.{slot, found, next_of, bag_of}
-use Rattle.fol_store.proofs.BagSteps.{taken_range, bag_slot, bags_shown}
+use Rattle.fol_store.proofs.BagSteps.{taken_open, bag_slot, bags_shown}
 use Rattle.fol_store.proofs.Putting.{filled, there, apart_found, put_sound, put_contents, put_tasks}
 use Rattle.fol_store.proofs.store.Store.put.Goals as goal
 
 pub put_in-requires : goal.put_in-requires
 put_in-requires c =
     let h : (slot (the_view c.self.inside) c.args.id).taken ≡ true = sym (ap (λ (b : Bag). b.taken) (bag_slot (the_view c.self.inside) c.args.id)) ∙ (rw (← c.self.view_is) at c.requires.taken) in
-    let l : c.args.id < length c.self.inside.bags.items = taken_range c.self.inside.bags.items c.args.id h in
-    omega arith
+    taken_open c.self.inside.bags.items c.args.id h
 
 taken : (c : goal.After-put_in) → (slot (the_view c.self.inside) c.args.id).taken ≡ true
 taken c = sym (ap (λ (b : Bag). b.taken) (bag_slot (the_view c.self.inside) c.args.id)) ∙ (rw (← c.self.view_is) at c.requires.taken)
@@ -37,15 +36,15 @@ invariant_of-self c =
 
 pub returns-clause-contents : goal.returns-clause-contents
 returns-clause-contents c =
-    rw (← c.self.view_is) (put_contents (the_view c.self.inside) c.put_in.new.bags.items (vec_capacity c.self.inside.arrivals - vec_len c.self.inside.arrivals) (vec_capacity c.put_in.new.bags - vec_len c.put_in.new.bags) c.args.id c.args.body c.args.chunks.items c.put_in.ensures.slots (same c) (taken c) c.self.invariant (all_there c) (apart c))
+    rw (← c.self.view_is) (put_contents (the_view c.self.inside) c.put_in.new.bags.items (vec_capacity c.self.inside.arrivals - vec_len c.self.inside.arrivals) c.put_in.new.bags.free c.args.id c.args.body c.args.chunks.items c.put_in.ensures.slots (same c) (taken c) c.self.invariant (all_there c) (apart c))
 
 pub returns-clause-tasks : goal.returns-clause-tasks
 returns-clause-tasks c =
-    rw (← c.self.view_is) (put_tasks (the_view c.self.inside) c.put_in.new.bags.items (vec_capacity c.self.inside.arrivals - vec_len c.self.inside.arrivals) (vec_capacity c.put_in.new.bags - vec_len c.put_in.new.bags) c.args.id c.args.body c.args.chunks.items c.put_in.ensures.slots (same c) (taken c) c.self.invariant (all_there c) (apart c))
+    rw (← c.self.view_is) (put_tasks (the_view c.self.inside) c.put_in.new.bags.items (vec_capacity c.self.inside.arrivals - vec_len c.self.inside.arrivals) c.put_in.new.bags.free c.args.id c.args.body c.args.chunks.items c.put_in.ensures.slots (same c) (taken c) c.self.invariant (all_there c) (apart c))
 
 pub returns-clause-bags : goal.returns-clause-bags
 returns-clause-bags c =
-    rw (← c.self.view_is) (bags_shown (the_view c.self.inside) c.put_in.new.bags.items (vec_capacity c.self.inside.arrivals - vec_len c.self.inside.arrivals) (vec_capacity c.put_in.new.bags - vec_len c.put_in.new.bags) c.args.id (filled (the_view c.self.inside) c.put_in.new.bags.items 0 0 c.args.id c.args.body c.args.chunks.items) (put_back c.args.body.tick c.args.body.owed (bag_of (the_view c.self.inside) c.args.id)) c.put_in.ensures.slots (ap (put_back c.args.body.tick c.args.body.owed) (sym (bag_slot (the_view c.self.inside) c.args.id))))
+    rw (← c.self.view_is) (bags_shown (the_view c.self.inside) c.put_in.new.bags.items (vec_capacity c.self.inside.arrivals - vec_len c.self.inside.arrivals) c.put_in.new.bags.free c.args.id (filled (the_view c.self.inside) c.put_in.new.bags.items 0 0 c.args.id c.args.body c.args.chunks.items) (put_back c.args.body.tick c.args.body.owed (bag_of (the_view c.self.inside) c.args.id)) c.put_in.ensures.slots (ap (put_back c.args.body.tick c.args.body.owed) (sym (bag_slot (the_view c.self.inside) c.args.id))))
 
 pub returns-clause-next : goal.returns-clause-next
 unfolding next_of

@@ -9,11 +9,17 @@ use Rattle.fol_store.specs.Steps.{TakesTask}
 use Rattle.fol_store.proofs.Accepting.{fresh_found}
 use Rattle.fol_store.proofs.Totals.{found_none}
 use Rattle.fol_store.proofs.Queuing.{queued_sound, queued_tasks, queued_contents, queued_bags}
+use Rattle.fol_store.proofs.BagSteps.{here_open}
 use Rattle.fol_store.proofs.store.Store.queue_in.Goals as goal
 
 -- the task with its rest
 abbrev come : goal.After-queue → Dated
 come c = record { task = c.args.task; deadline = c.args.delay }
+
+pub queue-requires-clause-open : goal.queue-requires-clause-open
+queue-requires-clause-open c =
+    let takes : TakesTask (the_view c.self.inside) c.args.task.chunk c.args.id = rw (← c.self.view_is) at c.requires.takes in
+    here_open c.self.inside.bags.items c.args.id takes.here
 
 pub queue-requires-clause-fresh : goal.queue-requires-clause-fresh
 queue-requires-clause-fresh c =
@@ -35,17 +41,17 @@ invariant_of-self c =
 pub returns-clause-tasks : goal.returns-clause-tasks
 returns-clause-tasks c =
     let r = slot_in c.queue.new.bags.items c.args.id in
-    rw (← c.self.view_is) (queued_tasks (the_view c.self.inside) c.queue.new.bags.items (vec_capacity c.self.inside.arrivals - vec_len c.self.inside.arrivals) (vec_capacity c.queue.new.bags - vec_len c.queue.new.bags) c.args.id r.body c.queue.ensures.slots c.self.invariant (come c) c.queue.ensures.queued (takes c).home (takes c).here (none c))
+    rw (← c.self.view_is) (queued_tasks (the_view c.self.inside) c.queue.new.bags.items (vec_capacity c.self.inside.arrivals - vec_len c.self.inside.arrivals) c.queue.new.bags.free c.args.id r.body c.queue.ensures.slots c.self.invariant (come c) c.queue.ensures.queued (takes c).home (takes c).here (none c))
 
 pub returns-clause-contents : goal.returns-clause-contents
 returns-clause-contents c =
     let r = slot_in c.queue.new.bags.items c.args.id in
-    rw (← c.self.view_is) (queued_contents (the_view c.self.inside) c.queue.new.bags.items (vec_capacity c.self.inside.arrivals - vec_len c.self.inside.arrivals) (vec_capacity c.queue.new.bags - vec_len c.queue.new.bags) c.args.id r.body c.queue.ensures.slots c.self.invariant (come c) c.queue.ensures.queued (takes c).home (takes c).here (none c))
+    rw (← c.self.view_is) (queued_contents (the_view c.self.inside) c.queue.new.bags.items (vec_capacity c.self.inside.arrivals - vec_len c.self.inside.arrivals) c.queue.new.bags.free c.args.id r.body c.queue.ensures.slots c.self.invariant (come c) c.queue.ensures.queued (takes c).home (takes c).here (none c))
 
 pub returns-clause-bags : goal.returns-clause-bags
 returns-clause-bags c =
     let r = slot_in c.queue.new.bags.items c.args.id in
-    rw (← c.self.view_is) (queued_bags (the_view c.self.inside) c.queue.new.bags.items (vec_capacity c.self.inside.arrivals - vec_len c.self.inside.arrivals) (vec_capacity c.queue.new.bags - vec_len c.queue.new.bags) c.args.id r.body c.queue.ensures.slots c.self.invariant (come c) c.queue.ensures.queued (takes c).home (takes c).here (none c))
+    rw (← c.self.view_is) (queued_bags (the_view c.self.inside) c.queue.new.bags.items (vec_capacity c.self.inside.arrivals - vec_len c.self.inside.arrivals) c.queue.new.bags.free c.args.id r.body c.queue.ensures.slots c.self.invariant (come c) c.queue.ensures.queued (takes c).home (takes c).here (none c))
 
 pub returns-clause-next : goal.returns-clause-next
 unfolding next_of

@@ -3,23 +3,22 @@ use Rattle.std.specs.Vec.{vec_capacity}
 use Rattle.fol_store.specs.contracts.store.Store.{the_view}
 use Rattle.fol_store.specs.Bag.{Bag}
 use Rattle.fol_store.specs.Stock.{slot, bag_of}
-use Rattle.fol_store.proofs.BagSteps.{with_bags, here_range, bag_slot}
+use Rattle.fol_store.proofs.BagSteps.{with_bags, here_open, bag_slot}
 use Rattle.fol_store.proofs.Settling.{Settled, relisted}
 use Rattle.fol_store.proofs.store.Store.relist.Goals as goal
 
 pub relist-requires : goal.relist-requires
 relist-requires c =
     let h : (slot (the_view c.self.inside) c.args.id).here ≡ true = sym (ap (λ (b : Bag). b.here) (bag_slot (the_view c.self.inside) c.args.id)) ∙ (rw (← c.self.view_is) at c.requires.here) in
-    let l : c.args.id < length c.self.inside.bags.items = here_range c.self.inside.bags.items c.args.id h in
-    omega arith
+    here_open c.self.inside.bags.items c.args.id h
 
-step : (c : goal.After-relist) → Settled (the_view c.self.inside) (with_bags (the_view c.self.inside) c.relist.new.bags.items (vec_capacity c.self.inside.arrivals - vec_len c.self.inside.arrivals) (vec_capacity c.relist.new.bags - vec_len c.relist.new.bags)) c.args.id (let b : Bag = record (bag_of (the_view c.self.inside) c.args.id) { chunks = c.args.listed.items } in b)
+step : (c : goal.After-relist) → Settled (the_view c.self.inside) (with_bags (the_view c.self.inside) c.relist.new.bags.items (vec_capacity c.self.inside.arrivals - vec_len c.self.inside.arrivals) c.relist.new.bags.free) c.args.id (let b : Bag = record (bag_of (the_view c.self.inside) c.args.id) { chunks = c.args.listed.items } in b)
 unfolding bag_of
 step c =
     let here : (slot (the_view c.self.inside) c.args.id).here ≡ true = rw (← c.self.view_is) at c.requires.here in
     let not_listed : (slot (the_view c.self.inside) c.args.id).listed ≡ false = rw (← c.self.view_is) at c.requires.not_listed in
     relisted (the_view c.self.inside) c.relist.new.bags.items _ _ c.args.id c.args.listed.items c.relist.ensures.slots here not_listed
-    (rw (← c.self.view_is, ← c.requires.listed) at c.requires.gone) (omega arith) (omega arith) (omega (arith, c.relist.ensures.len, c.relist.ensures.capacity)) c.self.invariant
+    (rw (← c.self.view_is, ← c.requires.listed) at c.requires.gone) (omega arith) (omega arith) (omega (arith, c.relist.ensures.len, c.relist.ensures.free)) c.self.invariant
 
 pub invariant_of-self : goal.invariant_of-self
 invariant_of-self c = (step c).sound

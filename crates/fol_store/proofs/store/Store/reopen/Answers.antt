@@ -3,7 +3,7 @@ use Rattle.std.specs.Vec.{vec_capacity}
 use Rattle.fol_store.specs.contracts.store.Store.{the_view}
 use Rattle.fol_store.specs.Bag.{Bag}
 use Rattle.fol_store.specs.Stock.{Stock, slot, bag_of}
-use Rattle.fol_store.proofs.BagSteps.{with_bags, here_range, bag_slot}
+use Rattle.fol_store.proofs.BagSteps.{with_bags, here_open, bag_slot}
 use Rattle.fol_store.proofs.Settling.{Settled}
 use Rattle.fol_store.proofs.Noting.{reopened_step, reopened_is}
 use Rattle.fol_store.proofs.store.Store.reopen.Goals as goal
@@ -11,8 +11,7 @@ use Rattle.fol_store.proofs.store.Store.reopen.Goals as goal
 pub reopen-requires : goal.reopen-requires
 reopen-requires c =
     let h : (slot (the_view c.self.inside) c.args.id).here ≡ true = sym (ap (λ (b : Bag). b.here) (bag_slot (the_view c.self.inside) c.args.id)) ∙ (rw (← c.self.view_is) at c.requires.here) in
-    let l : c.args.id < length c.self.inside.bags.items = here_range c.self.inside.bags.items c.args.id h in
-    omega arith
+    here_open c.self.inside.bags.items c.args.id h
 
 here : (c : goal.After-reopen) → (slot (the_view c.self.inside) c.args.id).here ≡ true
 unfolding bag_of
@@ -24,10 +23,10 @@ listed c = rw (← c.self.view_is) at c.requires.listed
 
 -- the store afterwards
 abbrev after : goal.After-reopen → Stock
-after c = with_bags (the_view c.self.inside) c.reopen.new.bags.items (vec_capacity c.self.inside.arrivals - vec_len c.self.inside.arrivals) (vec_capacity c.reopen.new.bags - vec_len c.reopen.new.bags)
+after c = with_bags (the_view c.self.inside) c.reopen.new.bags.items (vec_capacity c.self.inside.arrivals - vec_len c.self.inside.arrivals) c.reopen.new.bags.free
 
 step : (c : goal.After-reopen) → Settled (the_view c.self.inside) (after c) c.args.id (let b : Bag = record (bag_of (the_view c.self.inside) c.args.id) { listed = false } in b)
-step c = reopened_step (the_view c.self.inside) c.reopen.new.bags.items _ _ c.args.id c.reopen.ensures.slots (here c) (listed c) c.self.invariant (omega arith) (omega arith) (omega (arith, c.reopen.ensures.len, c.reopen.ensures.capacity))
+step c = reopened_step (the_view c.self.inside) c.reopen.new.bags.items _ _ c.args.id c.reopen.ensures.slots (here c) (listed c) c.self.invariant (omega arith) (omega arith) (omega (arith, c.reopen.ensures.len, c.reopen.ensures.free))
 
 pub invariant_of-self : goal.invariant_of-self
 invariant_of-self c = (step c).sound

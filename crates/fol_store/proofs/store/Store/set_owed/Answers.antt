@@ -4,18 +4,17 @@ use Rattle.fol_store.specs.contracts.store.Store.{the_view}
 use Rattle.fol_store.specs.declared.slot.Slot.{Slot}
 use Rattle.fol_store.specs.Bag.{Bag}
 use Rattle.fol_store.specs.Stock.{Stock, slot, shown, bag_of}
-use Rattle.fol_store.proofs.BagSteps.{OneStep, with_bags, one_step, one_kept, here_range, bag_slot}
+use Rattle.fol_store.proofs.BagSteps.{OneStep, with_bags, one_step, one_kept, here_open, bag_slot}
 use Rattle.fol_store.proofs.store.Store.set_owed.Goals as goal
 
 pub set_owed-requires : goal.set_owed-requires
 set_owed-requires c =
     let h : (slot (the_view c.self.inside) c.args.id).here ≡ true = sym (ap (λ (b : Bag). b.here) (bag_slot (the_view c.self.inside) c.args.id)) ∙ (rw (← c.self.view_is) at c.requires.here) in
-    let l : c.args.id < length c.self.inside.bags.items = here_range c.self.inside.bags.items c.args.id h in
-    omega arith
+    here_open c.self.inside.bags.items c.args.id h
 
 -- the store afterwards
 abbrev after : goal.After-set_owed → Stock
-after c = with_bags (the_view c.self.inside) c.set_owed.new.bags.items (vec_capacity c.self.inside.arrivals - vec_len c.self.inside.arrivals) (vec_capacity c.set_owed.new.bags - vec_len c.set_owed.new.bags)
+after c = with_bags (the_view c.self.inside) c.set_owed.new.bags.items (vec_capacity c.self.inside.arrivals - vec_len c.self.inside.arrivals) c.set_owed.new.bags.free
 
 step : (c : goal.After-set_owed) → OneStep (the_view c.self.inside) (after c) c.args.id (let b : Bag = record (bag_of (the_view c.self.inside) c.args.id) { owed = c.args.owed } in b)
 step c =

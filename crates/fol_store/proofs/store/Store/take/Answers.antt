@@ -9,7 +9,7 @@ use Rattle.fol_store.specs.Things.{Key, things, IsTimely}
 use Rattle.fol_queues.specs.Waiting.{due_count}
 use Rattle.fol_store.specs.Stock.{slot, shown, next_of, bag_of, due_of}
 use Rattle.fol_store.proofs.Totals.{things_none}
-use Rattle.fol_store.proofs.BagSteps.{here_range, bag_slot, bags_shown}
+use Rattle.fol_store.proofs.BagSteps.{here_open, bag_slot, bags_shown}
 use Rattle.fol_store.proofs.Opening.{timely_empty}
 use Rattle.fol_store.proofs.Taking.{emptied, taken_sound, taken_contents, taken_tasks, body_contents, body_tasks}
 use Rattle.fol_store.proofs.store.Store.take.Goals as goal
@@ -17,8 +17,7 @@ use Rattle.fol_store.proofs.store.Store.take.Goals as goal
 pub take_out-requires : goal.take_out-requires
 take_out-requires c =
     let h : (slot (the_view c.self.inside) c.args.id).here ≡ true = sym (ap (λ (b : Bag). b.here) (bag_slot (the_view c.self.inside) c.args.id)) ∙ (rw (← c.self.view_is) at c.requires.here) in
-    let l : c.args.id < length c.self.inside.bags.items = here_range c.self.inside.bags.items c.args.id h in
-    omega arith
+    here_open c.self.inside.bags.items c.args.id h
 
 here : (c : goal.After-take_out) → (slot (the_view c.self.inside) c.args.id).here ≡ true
 here c = sym (ap (λ (b : Bag). b.here) (bag_slot (the_view c.self.inside) c.args.id)) ∙ (rw (← c.self.view_is) at c.requires.here)
@@ -77,26 +76,26 @@ returns-clause-in_time c = (timely c).in_time
 pub returns-clause-moved_contents : goal.returns-clause-moved_contents
 unfolding bag_of
 returns-clause-moved_contents c =
-    rw (← c.self.view_is, c.take_out.ensures.body) (body_contents (the_view c.self.inside) c.take_out.new.bags.items (vec_capacity c.self.inside.arrivals - vec_len c.self.inside.arrivals) (vec_capacity c.take_out.new.bags - vec_len c.take_out.new.bags) c.args.id (rest c) c.take_out.ensures.slots (empty c) c.self.invariant (listed c) (calm c))
+    rw (← c.self.view_is, c.take_out.ensures.body) (body_contents (the_view c.self.inside) c.take_out.new.bags.items (vec_capacity c.self.inside.arrivals - vec_len c.self.inside.arrivals) c.take_out.new.bags.free c.args.id (rest c) c.take_out.ensures.slots (empty c) c.self.invariant (listed c) (calm c))
 
 pub returns-clause-moved_tasks : goal.returns-clause-moved_tasks
 unfolding bag_of
 returns-clause-moved_tasks c =
-    rw (← c.self.view_is, c.take_out.ensures.body) (body_tasks (the_view c.self.inside) c.take_out.new.bags.items (vec_capacity c.self.inside.arrivals - vec_len c.self.inside.arrivals) (vec_capacity c.take_out.new.bags - vec_len c.take_out.new.bags) c.args.id (rest c) c.take_out.ensures.slots (empty c) c.self.invariant (listed c) (calm c))
+    rw (← c.self.view_is, c.take_out.ensures.body) (body_tasks (the_view c.self.inside) c.take_out.new.bags.items (vec_capacity c.self.inside.arrivals - vec_len c.self.inside.arrivals) c.take_out.new.bags.free c.args.id (rest c) c.take_out.ensures.slots (empty c) c.self.invariant (listed c) (calm c))
 
 pub returns-clause-contents : goal.returns-clause-contents
 unfolding bag_of
 returns-clause-contents c =
-    rw (← c.self.view_is) (taken_contents (the_view c.self.inside) c.take_out.new.bags.items (vec_capacity c.self.inside.arrivals - vec_len c.self.inside.arrivals) (vec_capacity c.take_out.new.bags - vec_len c.take_out.new.bags) c.args.id (rest c) c.take_out.ensures.slots (empty c) c.self.invariant (listed c) (calm c))
+    rw (← c.self.view_is) (taken_contents (the_view c.self.inside) c.take_out.new.bags.items (vec_capacity c.self.inside.arrivals - vec_len c.self.inside.arrivals) c.take_out.new.bags.free c.args.id (rest c) c.take_out.ensures.slots (empty c) c.self.invariant (listed c) (calm c))
 
 pub returns-clause-tasks : goal.returns-clause-tasks
 unfolding bag_of
 returns-clause-tasks c =
-    rw (← c.self.view_is) (taken_tasks (the_view c.self.inside) c.take_out.new.bags.items (vec_capacity c.self.inside.arrivals - vec_len c.self.inside.arrivals) (vec_capacity c.take_out.new.bags - vec_len c.take_out.new.bags) c.args.id (rest c) c.take_out.ensures.slots (empty c) c.self.invariant (listed c) (calm c))
+    rw (← c.self.view_is) (taken_tasks (the_view c.self.inside) c.take_out.new.bags.items (vec_capacity c.self.inside.arrivals - vec_len c.self.inside.arrivals) c.take_out.new.bags.free c.args.id (rest c) c.take_out.ensures.slots (empty c) c.self.invariant (listed c) (calm c))
 
 pub returns-clause-bags : goal.returns-clause-bags
 returns-clause-bags c =
-    rw (← c.self.view_is) (bags_shown (the_view c.self.inside) c.take_out.new.bags.items (vec_capacity c.self.inside.arrivals - vec_len c.self.inside.arrivals) (vec_capacity c.take_out.new.bags - vec_len c.take_out.new.bags) c.args.id (emptied (the_view c.self.inside) c.take_out.new.bags.items 0 0 c.args.id (rest c)) (taken_out (bag_of (the_view c.self.inside) c.args.id)) c.take_out.ensures.slots (ap taken_out (sym (bag_slot (the_view c.self.inside) c.args.id))))
+    rw (← c.self.view_is) (bags_shown (the_view c.self.inside) c.take_out.new.bags.items (vec_capacity c.self.inside.arrivals - vec_len c.self.inside.arrivals) c.take_out.new.bags.free c.args.id (emptied (the_view c.self.inside) c.take_out.new.bags.items 0 0 c.args.id (rest c)) (taken_out (bag_of (the_view c.self.inside) c.args.id)) c.take_out.ensures.slots (ap taken_out (sym (bag_slot (the_view c.self.inside) c.args.id))))
 
 pub returns-clause-next : goal.returns-clause-next
 unfolding next_of

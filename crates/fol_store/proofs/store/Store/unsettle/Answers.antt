@@ -4,19 +4,17 @@ use Rattle.fol_store.specs.contracts.store.Store.{the_view}
 use Rattle.fol_store.specs.declared.slot.Slot.{Slot}
 use Rattle.fol_store.specs.Bag.{Bag}
 use Rattle.fol_store.specs.Stock.{Stock, slot, bag_of}
-use Rattle.fol_store.proofs.BagSteps.{OneStep, with_bags, one_step, one_kept, open_range, bag_slot}
+use Rattle.fol_store.proofs.BagSteps.{OneStep, with_bags, one_step, one_kept, bag_slot}
 use Rattle.fol_store.proofs.store.Store.unsettle.Goals as goal
 
 pub unlist-requires : goal.unlist-requires
 unfolding bag_of
 unlist-requires c =
-    let h : ((slot (the_view c.self.inside) c.args.id).here || (slot (the_view c.self.inside) c.args.id).taken) ≡ true = rw (← c.self.view_is) at c.requires.known in
-    let l : c.args.id < length c.self.inside.bags.items = open_range c.self.inside.bags.items c.args.id h in
-    omega arith
+    rw (← c.self.view_is) at c.requires.known
 
 -- the store afterwards
 abbrev after : goal.After-unlist → Stock
-after c = with_bags (the_view c.self.inside) c.unlist.new.bags.items (vec_capacity c.self.inside.arrivals - vec_len c.self.inside.arrivals) (vec_capacity c.unlist.new.bags - vec_len c.unlist.new.bags)
+after c = with_bags (the_view c.self.inside) c.unlist.new.bags.items (vec_capacity c.self.inside.arrivals - vec_len c.self.inside.arrivals) c.unlist.new.bags.free
 
 step : (c : goal.After-unlist) → OneStep (the_view c.self.inside) (after c) c.args.id (let b : Bag = record (bag_of (the_view c.self.inside) c.args.id) { listed = false } in b)
 step c =

@@ -1,13 +1,13 @@
 use Rattle.std.proofs.Common.{◌≡◌, ◌≤◌, ◌^◌, [], sym, ◌∙◌}
 use Rattle.fol_store.proofs.Compacting.{things_empty}
 use Rattle.fol_store.proofs.Opening.{things_of_nothing, timely_empty}
-use Rattle.fol_store.proofs.slots.compact.Goals as goal
+use Rattle.fol_store.proofs.slot.Slot.compact.Goals as goal
 
 pub returns-then-is_empty-clause-same : goal.returns-then-is_empty-clause-same
 returns-then-is_empty-clause-same c =
-    let tasks : c.args.body.queues.tasks ≡ [] = (c.is_empty.ensures.empty.0 c.if-is_empty.true).0 in
+    let tasks : c.args.self.now.body.queues.tasks ≡ [] = (c.is_empty.ensures.empty.0 c.if-is_empty.true).0 in
     record {
-      things = λ k. c.new_data.ensures.things.things k ∙ things_of_nothing c.args.body.tick c.args.body.owed k ∙ sym (things_empty c.args.body tasks (c.is_empty.ensures.nothing c.if-is_empty.true) k);
+      things = λ k. c.new_data.ensures.things.things k ∙ things_of_nothing c.args.self.now.body.tick c.args.self.now.body.owed k ∙ sym (things_empty c.args.self.now.body tasks (c.is_empty.ensures.nothing c.if-is_empty.true) k);
       tick = c.new_data.ensures.things.tick;
       owed = c.new_data.ensures.things.owed;
     }
