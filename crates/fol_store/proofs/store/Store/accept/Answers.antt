@@ -1,7 +1,6 @@
 use Rattle.std.proofs.Common.{ℕ, refl, ◌∙◌, ap, Option, Some}
 use Rattle.fol_model.specs.ActionStep.{at_id}
 use Rattle.fol_model.specs.Job.{Job, queued}
-use Rattle.fol_store.proofs.Stirring.{stirred_same, stirred_disturbed}
 use Rattle.fol_store.proofs.store.Store.accept.Goals as goal
 
 pub queue_in-requires-clause-takes : goal.queue_in-requires-clause-takes

@@ -1,4 +1,4 @@
-use Rattle.std.proofs.Common.{◌≡◌, ◌<◌, ◌||◌, ◌&&◌, true, false, [], List, length, sym, ◌∙◌, ap}
+use Rattle.std.proofs.Common.{◌≡◌, ◌&&◌, true, false, [], List, sym, ◌∙◌, ap}
 use Rattle.std.proofs.lemmas.Bool.{and_parts, true≢false}
 use Rattle.fol_model.specs.declared.places.ChunkPos.{ChunkPos}
 use Rattle.fol_model.specs.Geometry.{same_chunk}

@@ -1,5 +1,4 @@
-use Rattle.std.proofs.Common.{◌≡◌, ◌-◌, length, arith, vec_len}
-use Rattle.std.specs.Vec.{vec_capacity}
+use Rattle.std.proofs.Common.{◌≡◌, length, arith}
 use Rattle.fol_store.specs.contracts.store.Store.{the_view}
 use Rattle.fol_store.specs.Slots.{slot_in}
 use Rattle.fol_store.proofs.Queuing.{same_sound, roomier}

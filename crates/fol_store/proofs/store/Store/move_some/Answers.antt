@@ -1,4 +1,4 @@
-use Rattle.std.proofs.Common.{◌≡◌, ◌-◌, ◌<◌, true, false, List, length, refl, ◌∙◌, ap, arith, vec_len}
+use Rattle.std.proofs.Common.{◌≡◌, ◌-◌, true, false, List, refl, ◌∙◌, ap, arith, vec_len}
 use Rattle.std.specs.Vec.{vec_capacity}
 use Rattle.fol_model.specs.declared.places.ChunkPos.{ChunkPos}
 use Rattle.fol_store.specs.contracts.store.Store.{the_view}

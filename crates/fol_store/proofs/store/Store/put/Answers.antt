@@ -1,4 +1,4 @@
-use Rattle.std.proofs.Common.{◌≡◌, ◌-◌, ◌<◌, true, length, sym, ◌∙◌, ap, arith, vec_len, Some}
+use Rattle.std.proofs.Common.{◌≡◌, ◌-◌, true, length, sym, ◌∙◌, ap, arith, vec_len, Some}
 use Rattle.std.specs.Vec.{vec_capacity}
 use Rattle.fol_chunks.specs.Contents.{is_recorded}
 use Rattle.fol_store.specs.contracts.store.Store.{the_view}

@@ -1,4 +1,4 @@
-use Rattle.std.proofs.Common.{◌≡◌, ◌-◌, length, arith, vec_len, Some, None}
+use Rattle.std.proofs.Common.{◌≡◌, ◌-◌, length, arith, vec_len, None}
 use Rattle.std.specs.Vec.{vec_capacity}
 use Rattle.fol_queues.specs.declared.dated.Dated.{Dated}
 use Rattle.fol_store.specs.contracts.store.Store.{the_view}

@@ -1,4 +1,4 @@
-use Rattle.std.proofs.Common.{◌≡◌, ◌-◌, ◌<◌, [], true, false, length, refl, sym, ◌∙◌, ap, arith, vec_len}
+use Rattle.std.proofs.Common.{◌≡◌, ◌-◌, [], true, false, refl, sym, ◌∙◌, ap, arith, vec_len}
 use Rattle.std.specs.Vec.{vec_capacity}
 use Rattle.fol_store.specs.contracts.store.Store.{the_view}
 use Rattle.fol_store.specs.Bag.{Bag}

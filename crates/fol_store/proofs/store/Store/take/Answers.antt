@@ -1,4 +1,4 @@
-use Rattle.std.proofs.Common.{◌≡◌, ◌+◌, ◌-◌, ◌<◌, ◌≤◌, ◌^◌, ◌&&◌, true, length, refl, sym, ◌∙◌, ap, arith, vec_len, lit≤, None}
+use Rattle.std.proofs.Common.{◌≡◌, ◌+◌, ◌-◌, ◌≤◌, ◌^◌, ◌&&◌, true, length, refl, sym, ◌∙◌, ap, arith, vec_len, lit≤, None}
 use Rattle.std.specs.Vec.{vec_capacity}
 use Rattle.std.proofs.lemmas.Bool.{and_parts}
 use Rattle.fol_data.specs.declared.region_data.RegionData.{RegionData}

@@ -1,8 +1,8 @@
-use Rattle.std.proofs.Common.{◌≡◌, ◌<◌, true, length, refl, sym, ◌∙◌, ap, arith}
+use Rattle.std.proofs.Common.{◌≡◌, true, refl, sym, ◌∙◌, ap}
 use Rattle.fol_store.specs.contracts.store.Store.{the_view}
 use Rattle.fol_store.specs.declared.slot.Slot.{Slot}
 use Rattle.fol_store.specs.Bag.{Bag}
-use Rattle.fol_store.specs.Stock.{slot, no_slot, shown}
+use Rattle.fol_store.specs.Stock.{slot, shown}
 use Rattle.fol_store.specs.Things.{IsTimely}
 use Rattle.fol_store.proofs.BagSteps.{here_open, bag_slot}
 use Rattle.fol_store.proofs.store.Store.tick.Goals as goal
