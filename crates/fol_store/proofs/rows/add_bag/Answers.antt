@@ -12,6 +12,6 @@ unfolding IsDistinct IsStrictlySortedBy
 returns-in-None-clause-listed c =
     let P : Slot → Type 0 = λ b. IsListed b.body in
     subst P (sym (c.in-None.ensures.none refl)) (record {
-      contents = record { blocks_differ = tt; blocks_full = All-nil (λ (x : BlockAt). 0 < x.id); entities_order = tt };
+      contents = record { blocks_differ = tt; blocks_full = All-nil (λ (x : BlockAt). 0 < x.id); entities_differ = tt };
       tasks = tt;
     })
