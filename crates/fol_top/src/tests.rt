@@ -113,70 +113,121 @@ fn is_plain(came: &Came, code: u8, text: &[u8]) -> bool {
         && (code == 0 || came.out.bytes().is_empty())
 }
 
-fn is_line(came: &Came, code: u8, line: u64, cause: Cause, text: &[u8]) -> bool {
-    came.status
-        == Status {
-            code,
-            line,
-            cause: Some(cause),
-        }
+fn is_numbered(came: &Came, code: u8, line: u64, cause: Option<Cause>, text: &[u8]) -> bool {
+    came.status == Status { code, line, cause }
         && came.err.bytes() == text
         && came.out.bytes().is_empty()
 }
 
-fn is_numbered(came: &Came, code: u8, line: u64, text: &[u8]) -> bool {
-    came.status
-        == Status {
-            code,
-            line,
-            cause: None,
-        }
-        && came.err.bytes() == text
-        && came.out.bytes().is_empty()
+/// Whether words on the world and the script of one region, where these reads and these puts of the output fail, end in this way.
+fn ends_with<R: Threads + Wait + Sync>(
+    rt: &R,
+    alloc: Global,
+    words: &[&str],
+    failing: (&[u64], &[u64]),
+    code: u8,
+    text: &[u8],
+) -> Result<bool, AllocError> {
+    let texts = (WORLD.as_bytes(), ONE_REGION.as_bytes());
+    let came = run_words(rt, alloc, words, texts, failing)?;
+    Ok(is_plain(&came, code, text))
+}
+
+/// Whether a run of a world and a script writes this.
+fn writes<R: Threads + Wait + Sync>(
+    rt: &R,
+    alloc: Global,
+    words: &[&str],
+    texts: (&str, &str),
+    wanted: &str,
+) -> Result<bool, AllocError> {
+    let texts = (texts.0.as_bytes(), texts.1.as_bytes());
+    let came = run_words(rt, alloc, words, texts, (&[], &[]))?;
+    Ok(is_plain(&came, 0, b"") && came.out.bytes() == wanted.as_bytes())
+}
+
+/// Whether a run of a world and a script tells this line and its cause.
+fn tells<R: Threads + Wait + Sync>(
+    rt: &R,
+    alloc: Global,
+    texts: (&str, &str),
+    code: u8,
+    line: u64,
+    cause: Cause,
+    text: &[u8],
+) -> Result<bool, AllocError> {
+    let came = run_texts(rt, alloc, texts.0, texts.1)?;
+    Ok(is_numbered(&came, code, line, Some(cause), text))
+}
+
+/// Whether a check of the report of one region, in which a part is written otherwise, ends with this code and number.
+fn judges<R: Threads + Wait + Sync>(
+    rt: &R,
+    alloc: Global,
+    change: (&str, &str),
+    code: u8,
+    line: u64,
+    text: &[u8],
+) -> Result<bool, AllocError> {
+    let report = ONE_REGION_REPORT.replace(alloc, change.0, change.1)?;
+    let came = check_report(rt, alloc, report.as_str(), &[])?;
+    Ok(is_numbered(&came, code, line, None, text))
 }
 
 #[test]
 fn a_phase_of_two_ticks_is_reported(rt: HostRuntime) -> Result<(), Fail> {
-    let came = run_texts(&rt, rt.alloc(), WORLD, ONE_REGION)?;
-    assert!(rt; is_plain(&came, 0, b""));
-    assert_eq!(rt; came.out.bytes(), ONE_REGION_REPORT.as_bytes());
+    let words = ["run", "w", "s", "1"];
+    let is_written = writes(
+        &rt,
+        rt.alloc(),
+        &words,
+        (WORLD, ONE_REGION),
+        ONE_REGION_REPORT,
+    )?;
+    assert!(rt; is_written);
     Ok(())
 }
 
 #[test]
 fn a_report_is_written_as_json(rt: HostRuntime) -> Result<(), Fail> {
     let words = ["run", "w", "s", "1", "json"];
-    let texts = (WORLD.as_bytes(), "".as_bytes());
-    let came = run_words(&rt, rt.alloc(), &words, texts, (&[], &[]))?;
-    assert!(rt; is_plain(&came, 0, b""));
-    assert_eq!(rt; came.out.bytes(), EMPTY_JSON.as_bytes());
+    let is_written = writes(&rt, rt.alloc(), &words, (WORLD, ""), EMPTY_JSON)?;
+    assert!(rt; is_written);
     Ok(())
 }
 
 #[test]
 fn a_report_of_a_legal_history_is_legal(rt: HostRuntime) -> Result<(), Fail> {
     let came = check_report(&rt, rt.alloc(), ONE_REGION_REPORT, &[])?;
-    assert!(rt; is_plain(&came, 0, b""));
-    assert_eq!(rt; came.out.bytes(), b"legal\n".as_slice());
-    let unread = check_report(&rt, rt.alloc(), ONE_REGION_REPORT, &[3])?;
-    assert!(rt; is_plain(&unread, 5, b"fol: read fault\n"));
+    assert!(rt; is_plain(&came, 0, b"") && came.out.bytes() == b"legal\n".as_slice());
+    Ok(())
+}
+
+#[test]
+fn a_report_that_is_not_read_is_told(rt: HostRuntime) -> Result<(), Fail> {
+    let came = check_report(&rt, rt.alloc(), ONE_REGION_REPORT, &[3])?;
+    assert!(rt; is_plain(&came, 5, b"fol: read fault\n"));
     Ok(())
 }
 
 #[test]
 fn a_report_of_no_legal_history_is_told(rt: HostRuntime) -> Result<(), Fail> {
-    let alloc = rt.alloc();
-    let tick = ONE_REGION_REPORT.replace(alloc, "tick 2 ran", "tick 3 ran")?;
-    let late = check_report(&rt, alloc, tick.as_str(), &[])?;
-    assert!(rt; is_numbered(&late, 11, 6, b"fol: event 6\n"));
-    let chunks = ONE_REGION_REPORT.replace(alloc, "chunks 1", "chunks 2")?;
-    let large = check_report(&rt, alloc, chunks.as_str(), &[])?;
-    assert!(rt; is_numbered(&large, 12, 12, b"fol: state line 12\n"));
-    let version = ONE_REGION_REPORT.replace(alloc, "report 1", "report 2")?;
-    let second = check_report(&rt, alloc, version.as_str(), &[])?;
-    assert!(rt; is_numbered(&second, 10, 1, b"fol: text line 1\n"));
-    let empty = check_report(&rt, alloc, "", &[])?;
-    assert!(rt; is_numbered(&empty, 10, 1, b"fol: text line 1\n"));
+    let change = ("tick 2 ran", "tick 3 ran");
+    let is_late = judges(&rt, rt.alloc(), change, 11, 6, b"fol: event 6\n")?;
+    assert!(rt; is_late);
+    let change = ("chunks 1", "chunks 2");
+    let is_large = judges(&rt, rt.alloc(), change, 12, 12, b"fol: state line 12\n")?;
+    assert!(rt; is_large);
+    let change = ("report 1", "report 2");
+    let is_second = judges(&rt, rt.alloc(), change, 10, 1, b"fol: text line 1\n")?;
+    assert!(rt; is_second);
+    Ok(())
+}
+
+#[test]
+fn an_empty_report_is_told(rt: HostRuntime) -> Result<(), Fail> {
+    let came = check_report(&rt, rt.alloc(), "", &[])?;
+    assert!(rt; is_numbered(&came, 10, 1, None, b"fol: text line 1\n"));
     Ok(())
 }
 
@@ -192,15 +243,36 @@ fn a_made_session_is_summed_up_without_the_shelf(rt: HostRuntime) -> Result<(), 
 #[test]
 fn devices_that_fail_are_told(rt: HostRuntime) -> Result<(), Fail> {
     let words = ["run", "w", "s", "1"];
-    let texts = (WORLD.as_bytes(), ONE_REGION.as_bytes());
-    let unread = run_words(&rt, rt.alloc(), &words, texts, (&[1], &[]))?;
-    assert!(rt; is_plain(&unread, 5, b"fol: read fault\n"));
-    let half_read = run_words(&rt, rt.alloc(), &words, texts, (&[2], &[]))?;
-    assert!(rt; is_plain(&half_read, 5, b"fol: read fault\n"));
-    let unwritten = run_words(&rt, rt.alloc(), &words, texts, (&[], &[1]))?;
-    assert!(rt; is_plain(&unwritten, 6, b"fol: write fault\n"));
-    let not_held = run_words(&rt, rt.alloc(), &["run", "w", "x", "1"], texts, (&[], &[]))?;
-    assert!(rt; is_plain(&not_held, 5, b"fol: read fault\n"));
+    let is_unread = ends_with(
+        &rt,
+        rt.alloc(),
+        &words,
+        (&[1], &[]),
+        5,
+        b"fol: read fault\n",
+    )?;
+    assert!(rt; is_unread);
+    let is_half_read = ends_with(
+        &rt,
+        rt.alloc(),
+        &words,
+        (&[2], &[]),
+        5,
+        b"fol: read fault\n",
+    )?;
+    assert!(rt; is_half_read);
+    let is_unwritten = ends_with(
+        &rt,
+        rt.alloc(),
+        &words,
+        (&[], &[1]),
+        6,
+        b"fol: write fault\n",
+    )?;
+    assert!(rt; is_unwritten);
+    let words = ["run", "w", "x", "1"];
+    let is_not_held = ends_with(&rt, rt.alloc(), &words, (&[], &[]), 5, b"fol: read fault\n")?;
+    assert!(rt; is_not_held);
     Ok(())
 }
 
@@ -236,7 +308,6 @@ fn a_fault_in_telling_changes_no_status(rt: HostRuntime) -> Result<(), Fail> {
 
 #[test]
 fn words_that_are_no_command_read_nothing(rt: HostRuntime) -> Result<(), Fail> {
-    let texts = (WORLD.as_bytes(), ONE_REGION.as_bytes());
     let rows: [&[&str]; 21] = [
         &[],
         &["run", "w", "s", "0"],
@@ -261,25 +332,32 @@ fn words_that_are_no_command_read_nothing(rt: HostRuntime) -> Result<(), Fail> {
         &["make", "1", "1"],
     ];
     for words in rows {
-        let came = run_words(&rt, rt.alloc(), words, texts, (&[1, 2], &[]))?;
-        assert!(rt; is_plain(&came, 2, b"fol: words\n"));
+        let is_told = ends_with(&rt, rt.alloc(), words, (&[1, 2], &[]), 2, b"fol: words\n")?;
+        assert!(rt; is_told);
     }
     Ok(())
 }
 
 #[test]
 fn a_bad_line_is_told_with_its_cause(rt: HostRuntime) -> Result<(), Fail> {
-    let empty = run_texts(&rt, rt.alloc(), "", "")?;
-    assert!(rt; is_line(&empty, 3, 1, Cause::Missing, b"fol: world line 1 missing\n"));
-    let twice = run_texts(
+    let missing = b"fol: world line 1 missing\n";
+    let is_missing = tells(&rt, rt.alloc(), ("", ""), 3, 1, Cause::Missing, missing)?;
+    assert!(rt; is_missing);
+    let world = "world 1\ngrid 0 1 1 2 1 6\nblock 0 0 0 1\nblock 0 0 0 1\n";
+    let twice = b"fol: world line 4 twice\n";
+    let is_twice = tells(&rt, rt.alloc(), (world, ""), 3, 4, Cause::Twice, twice)?;
+    assert!(rt; is_twice);
+    let open = b"fol: script line 2 missing\n";
+    let is_open = tells(
         &rt,
         rt.alloc(),
-        "world 1\ngrid 0 1 1 2 1 6\nblock 0 0 0 1\nblock 0 0 0 1\n",
-        "",
+        (WORLD, "run 1"),
+        4,
+        2,
+        Cause::Missing,
+        open,
     )?;
-    assert!(rt; is_line(&twice, 3, 4, Cause::Twice, b"fol: world line 4 twice\n"));
-    let open = run_texts(&rt, rt.alloc(), WORLD, "run 1")?;
-    assert!(rt; is_line(&open, 4, 2, Cause::Missing, b"fol: script line 2 missing\n"));
+    assert!(rt; is_open);
     Ok(())
 }
 
