@@ -1,9 +1,10 @@
 //! What only a run can show.
 
-ghost use Rattle.std.specs.Prelude.{◌≡◌, true};
-ghost use Rattle.fol_store.specs.Bag.{is_whole};
+ghost use Rattle.std.specs.Prelude.{◌≡◌, ◌≤◌, true, IfOk, OnOk, None};
+ghost use Rattle.fol_model.specs.ActionStep.{at_id};
+ghost use Rattle.fol_store.specs.Bag.{is_whole, new_bag, no_bag};
 ghost use Rattle.fol_store.specs.Relisted.{IsInOrder};
-ghost use Rattle.fol_store.specs.Stock.{bag_of};
+ghost use Rattle.fol_store.specs.Stock.{bag_of, jobs_of, next_of};
 
 use crate::{Rows, Store};
 use fol_model::{Action, BlockAt, BlockPos, ChunkPos, Entity, Grid, Opening, Sequence, Task};
@@ -75,12 +76,52 @@ fn task(number: u64, chunk: ChunkPos) -> Task
     }
 }
 
-/// The numbers and the rests of the tasks.
-fn rests(alloc: Global, rows: &Rows) -> Result<Vec<(u64, u32)>, AllocError> {
+/// The store of that world, with no task, in which region 1 has a bag with no chunk.
+fn world(alloc: Global) -> Result<Store, AllocError>
+    ensures tasks { IfOk result (λ s. jobs_of s ≡ λ n. None) }
+    ensures bags { IfOk result (λ s. bag_of s ≡ at_id (λ id. no_bag) 1 (new_bag 40 2)) }
+    ensures next { IfOk result (λ s. next_of s ≡ 2) }
+    ensures spare { IfOk result (λ s. 3 ≤ s.spare) }
+    ensures slots { IfOk result (λ s. 2 ≤ s.slots) }
+{
+    let opening = opening(alloc)?;
+    let mut store = Store::new(alloc, &opening)?;
+    store.reserve(3, 3)?;
+    store.open(1, 40, 2);
+    Ok(store)
+}
+
+/// Takes a bag out; whether it has these chunks and this block.
+fn takes(store: &mut Store, id: u64, chunks: &[ChunkPos], block: BlockAt) -> bool
+    requires here { (bag_of store.old id).here ≡ true }
+    requires whole { is_whole (bag_of store.old id) ≡ true }
+{
+    let taken = store.take(id);
+    taken.chunks.as_slice() == chunks && taken.body.chunks.get(block.at) == block.id
+}
+
+/// Whether the numbers and the rests of the tasks are these.
+fn has_rests(rows: &Rows, rests: &[(u64, u32)]) -> bool {
     rows.tasks
         .iter()
         .map(|row| (row.task.number, row.rest))
-        .collect(alloc)
+        .eq(rests.iter().copied())
+}
+
+/// Whether what no worker has is this.
+fn lists(
+    alloc: Global,
+    store: Store,
+    blocks: &[BlockAt],
+    entities: &[Entity],
+    rests: &[(u64, u32)],
+) -> Result<bool, AllocError> {
+    let rows = store.into_rows(alloc)?;
+    Ok(
+        rows.blocks.as_slice() == blocks
+            && rows.entities.as_slice() == entities
+            && has_rests(&rows, rests),
+    )
 }
 
 /// Takes a bag out and puts it back; gives the region's counter.
@@ -94,20 +135,25 @@ fn turn(store: &mut Store, id: u64) -> u64
     tick
 }
 
-/// What went through a bag is all there, and a task that came after the gathering keeps its rest.
-#[test]
-fn keeps_rests_through_a_bag(rt: HostRuntime) -> Result<(), Fail> {
-    let mut store = Store::new(rt.alloc(), &opening(rt.alloc())?)?;
-    store.reserve(1, 1)?;
-    store.open(1, 40, 2);
+/// Has the bag of region 1 turn with both chunks, once a task came after it was gathered.
+fn turn_settled(store: &mut Store) -> Result<u64, AllocError>
+    requires tasks { jobs_of store.old ≡ λ n. None }
+    requires bags { bag_of store.old ≡ at_id (λ id. no_bag) 1 (new_bag 40 2) }
+    requires spare { 1 ≤ store.old.spare }
+{
     store.gather(1, &CHUNKS)?;
     store.accept(task(2, CHUNKS[0]), 5);
     store.settle(1)?;
-    assert_eq!(rt; turn(&mut store, 1), 40);
-    let rows = store.into_rows(rt.alloc())?;
-    assert_eq!(rt; rows.blocks.as_slice(), BLOCKS.as_slice());
-    assert_eq!(rt; rows.entities.as_slice(), ENTITIES.as_slice());
-    assert_eq!(rt; rests(rt.alloc(), &rows)?.as_slice(), [(2, 5)].as_slice());
+    Ok(turn(store, 1))
+}
+
+/// What went through a bag is all there, and a task that came after the gathering keeps its rest.
+#[test]
+fn keeps_rests_through_a_bag(rt: HostRuntime) -> Result<(), Fail> {
+    let mut store = world(rt.alloc())?;
+    assert_eq!(rt; turn_settled(&mut store)?, 40);
+    let is_kept = lists(rt.alloc(), store, &BLOCKS, &ENTITIES, &[(2, 5)])?;
+    assert!(rt; is_kept);
     Ok(())
 }
 
@@ -123,6 +169,20 @@ fn turn_while(store: &mut Store, id: u64, more: ChunkPos, less: ChunkPos)
     store.gain(id, more);
     store.lose(id, less);
     store.put(id, taken.chunks, taken.body);
+}
+
+/// Has the bag of region 1 turn with the first chunk and a task on it, while the second comes and the first leaves.
+fn turn_beside(store: &mut Store) -> Result<(), AllocError>
+    requires tasks { jobs_of store.old ≡ λ n. None }
+    requires bags { bag_of store.old ≡ at_id (λ id. no_bag) 1 (new_bag 40 2) }
+    requires spare { 1 ≤ store.old.spare }
+    ensures here { OnOk result ((bag_of store.new 1).here ≡ true) }
+    ensures order { OnOk result (IsInOrder (bag_of store.new 1)) }
+{
+    store.accept(task(2, CHUNKS[0]), 5);
+    store.gather(1, &CHUNKS[..1])?;
+    turn_while(store, 1, CHUNKS[1], CHUNKS[0]);
+    Ok(())
 }
 
 /// Has a bag whose region has that chunk alone follow one of the chunks that came or left; gives this one.
@@ -144,52 +204,59 @@ fn follow(store: &mut Store, id: u64, only: ChunkPos) -> Option<ChunkPos>
 /// What lies on a chunk that comes while the bag is out goes into it, and what lies on one that leaves goes out of it.
 #[test]
 fn follows_the_chunks_of_a_region(rt: HostRuntime) -> Result<(), Fail> {
-    let mut store = Store::new(rt.alloc(), &opening(rt.alloc())?)?;
-    store.reserve(1, 1)?;
-    store.open(1, 40, 2);
-    store.accept(task(2, CHUNKS[0]), 5);
-    store.gather(1, &CHUNKS[..1])?;
-    turn_while(&mut store, 1, CHUNKS[1], CHUNKS[0]);
+    let mut store = world(rt.alloc())?;
+    turn_beside(&mut store)?;
     assert_eq!(rt; follow(&mut store, 1, CHUNKS[1]), Some(CHUNKS[0]));
     assert_eq!(rt; follow(&mut store, 1, CHUNKS[1]), Some(CHUNKS[1]));
     assert_eq!(rt; follow(&mut store, 1, CHUNKS[1]), None);
     assert!(rt; store.is_listed(1));
     store.settle(1)?;
-    let taken = store.take(1);
-    assert_eq!(rt; taken.chunks.as_slice(), &CHUNKS[1..]);
-    let rows = store.into_rows(rt.alloc())?;
-    assert_eq!(rt; rows.blocks.as_slice(), &BLOCKS[..1]);
-    assert_eq!(rt; rows.entities.as_slice(), &ENTITIES[1..]);
-    assert_eq!(rt; rests(rt.alloc(), &rows)?.as_slice(), [(2, 5)].as_slice());
+    assert!(rt; takes(&mut store, 1, &CHUNKS[1..], BLOCKS[1]));
+    let is_left = lists(rt.alloc(), store, &BLOCKS[..1], &ENTITIES[1..], &[(2, 5)])?;
+    assert!(rt; is_left);
     Ok(())
 }
 
-/// What lies on the chunks of two regions goes out with one bag once they are united.
-#[test]
-fn unites_two_regions(rt: HostRuntime) -> Result<(), Fail> {
-    let mut store = Store::new(rt.alloc(), &opening(rt.alloc())?)?;
-    store.reserve(2, 2)?;
-    store.open(1, 40, 2);
+/// Region 1 has the second chunk, region 2 the first, and each a task; then they are united.
+fn unite(store: &mut Store)
+    requires tasks { jobs_of store.old ≡ λ n. None }
+    requires bags { bag_of store.old ≡ at_id (λ id. no_bag) 1 (new_bag 40 2) }
+    requires next { next_of store.old ≡ 2 }
+    requires spare { 2 ≤ store.old.spare }
+    requires slots { 1 ≤ store.old.slots }
+    ensures here { (bag_of store.new 1).here ≡ true }
+{
     store.gain(1, CHUNKS[1]);
     store.open(2, 41, 3);
     store.gain(2, CHUNKS[0]);
     store.accept(task(2, CHUNKS[0]), 5);
     store.accept(task(3, CHUNKS[1]), 7);
     store.unite(2, 1);
+}
+
+/// What lies on the chunks of two regions goes out with one bag once they are united.
+#[test]
+fn unites_two_regions(rt: HostRuntime) -> Result<(), Fail> {
+    let mut store = world(rt.alloc())?;
+    unite(&mut store);
     assert!(rt; store.is_whole(1));
-    let taken = store.take(1);
-    assert_eq!(rt; taken.chunks.as_slice(), CHUNKS.as_slice());
-    let rows = store.into_rows(rt.alloc())?;
-    assert!(rt; rows.blocks.is_empty() && rows.entities.is_empty() && rows.tasks.is_empty());
+    assert!(rt; takes(&mut store, 1, &CHUNKS, BLOCKS[0]));
+    let is_empty = lists(rt.alloc(), store, &[], &[], &[])?;
+    assert!(rt; is_empty);
     Ok(())
 }
 
-/// A region falls apart: one part is handed its chunk, another takes the region's place, and each has what lies on its chunk.
-#[test]
-fn parts_a_region(rt: HostRuntime) -> Result<(), Fail> {
-    let mut store = Store::new(rt.alloc(), &opening(rt.alloc())?)?;
-    store.reserve(3, 3)?;
-    store.open(1, 40, 2);
+/// Region 1 has both chunks and a task on each, and falls apart: region 2 is handed the first chunk, and region 3 takes its place
+/// with the second; then a task comes on the first.
+fn part(store: &mut Store, alloc: Global) -> Result<(), AllocError>
+    requires tasks { jobs_of store.old ≡ λ n. None }
+    requires bags { bag_of store.old ≡ at_id (λ id. no_bag) 1 (new_bag 40 2) }
+    requires next { next_of store.old ≡ 2 }
+    requires spare { 3 ≤ store.old.spare }
+    requires slots { 2 ≤ store.old.slots }
+    ensures second { OnOk result ((bag_of store.new 2).here ≡ true) }
+    ensures third { OnOk result ((bag_of store.new 3).here ≡ true) }
+{
     store.accept(task(2, CHUNKS[0]), 5);
     store.accept(task(3, CHUNKS[1]), 7);
     store.gather(1, &CHUNKS)?;
@@ -197,21 +264,25 @@ fn parts_a_region(rt: HostRuntime) -> Result<(), Fail> {
     store.unsettle(2);
     store.open(3, 40, 2);
     store.unsettle(3);
-    let west = Vec::from_slice(rt.alloc(), &CHUNKS[..1])?;
+    let west = Vec::from_slice(alloc, &CHUNKS[..1])?;
     store.hand_over(1, 2, west);
-    let east = Vec::from_slice(rt.alloc(), &CHUNKS[1..])?;
+    let east = Vec::from_slice(alloc, &CHUNKS[1..])?;
     store.succeed(1, 3, east);
     store.accept(task(4, CHUNKS[0]), 9);
+    Ok(())
+}
+
+/// A region falls apart: one part is handed its chunk, another takes the region's place, and each has what lies on its chunk.
+#[test]
+fn parts_a_region(rt: HostRuntime) -> Result<(), Fail> {
+    let mut store = world(rt.alloc())?;
+    part(&mut store, rt.alloc())?;
     assert!(rt; store.is_listed(2));
     assert!(rt; store.is_listed(3));
     store.settle(2)?;
     store.settle(3)?;
-    let first = store.take(2);
-    assert_eq!(rt; first.chunks.as_slice(), &CHUNKS[..1]);
-    assert_eq!(rt; first.body.chunks.get(BLOCKS[0].at), BLOCKS[0].id);
-    let rows = store.into_rows(rt.alloc())?;
-    assert_eq!(rt; rows.blocks.as_slice(), &BLOCKS[1..]);
-    assert_eq!(rt; rows.entities.as_slice(), &ENTITIES[..1]);
-    assert_eq!(rt; rests(rt.alloc(), &rows)?.as_slice(), [(3, 7)].as_slice());
+    assert!(rt; takes(&mut store, 2, &CHUNKS[..1], BLOCKS[0]));
+    let is_left = lists(rt.alloc(), store, &BLOCKS[1..], &ENTITIES[..1], &[(3, 7)])?;
+    assert!(rt; is_left);
     Ok(())
 }
