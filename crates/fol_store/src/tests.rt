@@ -1,6 +1,6 @@
 //! What only a run can show.
 
-ghost use Rattle.std.specs.Prelude.{◌≡◌, ◌≤◌, true, IfOk, OnOk, None};
+ghost use Rattle.std.specs.Prelude.{◌≡◌, ◌≤◌, true, IfOk, None};
 ghost use Rattle.fol_model.specs.ActionStep.{at_id};
 ghost use Rattle.fol_store.specs.Bag.{is_whole, new_bag, no_bag};
 ghost use Rattle.fol_store.specs.Relisted.{IsInOrder};
@@ -76,6 +76,16 @@ fn task(number: u64, chunk: ChunkPos) -> Task
     }
 }
 
+/// The store of that world.
+fn laid(alloc: Global) -> Result<Store, AllocError>
+    ensures tasks { IfOk result (λ s. jobs_of s ≡ λ n. None) }
+    ensures bags { IfOk result (λ s. bag_of s ≡ λ id. no_bag) }
+    ensures next { IfOk result (λ s. next_of s ≡ 1) }
+{
+    let opening = opening(alloc)?;
+    Store::new(alloc, &opening)
+}
+
 /// The store of that world, with no task, in which region 1 has a bag with no chunk.
 fn world(alloc: Global) -> Result<Store, AllocError>
     ensures tasks { IfOk result (λ s. jobs_of s ≡ λ n. None) }
@@ -84,20 +94,37 @@ fn world(alloc: Global) -> Result<Store, AllocError>
     ensures spare { IfOk result (λ s. 3 ≤ s.spare) }
     ensures slots { IfOk result (λ s. 2 ≤ s.slots) }
 {
-    let opening = opening(alloc)?;
-    let mut store = Store::new(alloc, &opening)?;
+    let mut store = laid(alloc)?;
     store.reserve(3, 3)?;
     store.open(1, 40, 2);
     Ok(store)
 }
 
-/// Takes a bag out; whether it has these chunks and this block.
+/// Takes a bag out if it is whole; whether it was, with these chunks and this block.
 fn takes(store: &mut Store, id: u64, chunks: &[ChunkPos], block: BlockAt) -> bool
     requires here { (bag_of store.old id).here ≡ true }
-    requires whole { is_whole (bag_of store.old id) ≡ true }
 {
+    if !store.is_whole(id) {
+        return false;
+    }
     let taken = store.take(id);
     taken.chunks.as_slice() == chunks && taken.body.chunks.get(block.at) == block.id
+}
+
+/// Settles a bag if it is listed, and takes it out; whether it was, with these chunks and this block.
+fn takes_settled(
+    store: &mut Store,
+    id: u64,
+    chunks: &[ChunkPos],
+    block: BlockAt,
+) -> Result<bool, AllocError>
+    requires here { (bag_of store.old id).here ≡ true }
+{
+    if !store.is_listed(id) {
+        return Ok(false);
+    }
+    store.settle(id)?;
+    Ok(takes(store, id, chunks, block))
 }
 
 /// Whether the numbers and the rests of the tasks are these.
@@ -151,8 +178,9 @@ fn turn_settled(store: &mut Store) -> Result<u64, AllocError>
 #[test]
 fn keeps_rests_through_a_bag(rt: HostRuntime) -> Result<(), Fail> {
     let mut store = world(rt.alloc())?;
-    assert_eq!(rt; turn_settled(&mut store)?, 40);
+    let tick = turn_settled(&mut store)?;
     let is_kept = lists(rt.alloc(), store, &BLOCKS, &ENTITIES, &[(2, 5)])?;
+    assert_eq!(rt; tick, 40);
     assert!(rt; is_kept);
     Ok(())
 }
@@ -171,20 +199,6 @@ fn turn_while(store: &mut Store, id: u64, more: ChunkPos, less: ChunkPos)
     store.put(id, taken.chunks, taken.body);
 }
 
-/// Has the bag of region 1 turn with the first chunk and a task on it, while the second comes and the first leaves.
-fn turn_beside(store: &mut Store) -> Result<(), AllocError>
-    requires tasks { jobs_of store.old ≡ λ n. None }
-    requires bags { bag_of store.old ≡ at_id (λ id. no_bag) 1 (new_bag 40 2) }
-    requires spare { 1 ≤ store.old.spare }
-    ensures here { OnOk result ((bag_of store.new 1).here ≡ true) }
-    ensures order { OnOk result (IsInOrder (bag_of store.new 1)) }
-{
-    store.accept(task(2, CHUNKS[0]), 5);
-    store.gather(1, &CHUNKS[..1])?;
-    turn_while(store, 1, CHUNKS[1], CHUNKS[0]);
-    Ok(())
-}
-
 /// Has a bag whose region has that chunk alone follow one of the chunks that came or left; gives this one.
 fn follow(store: &mut Store, id: u64, only: ChunkPos) -> Option<ChunkPos>
     requires here { (bag_of store.old id).here ≡ true }
@@ -201,18 +215,30 @@ fn follow(store: &mut Store, id: u64, only: ChunkPos) -> Option<ChunkPos>
     Some(c)
 }
 
+/// The bag of region 1 turns with the first chunk and a task on it, while the second comes and the first leaves; whether it
+/// follows these two, and then has what lies on the second.
+fn follows(store: &mut Store) -> Result<bool, AllocError>
+    requires tasks { jobs_of store.old ≡ λ n. None }
+    requires bags { bag_of store.old ≡ at_id (λ id. no_bag) 1 (new_bag 40 2) }
+    requires spare { 1 ≤ store.old.spare }
+{
+    store.accept(task(2, CHUNKS[0]), 5);
+    store.gather(1, &CHUNKS[..1])?;
+    turn_while(store, 1, CHUNKS[1], CHUNKS[0]);
+    let first = follow(store, 1, CHUNKS[1]);
+    let second = follow(store, 1, CHUNKS[1]);
+    let third = follow(store, 1, CHUNKS[1]);
+    let is_followed = first == Some(CHUNKS[0]) && second == Some(CHUNKS[1]) && third.is_none();
+    Ok(is_followed && takes_settled(store, 1, &CHUNKS[1..], BLOCKS[1])?)
+}
+
 /// What lies on a chunk that comes while the bag is out goes into it, and what lies on one that leaves goes out of it.
 #[test]
 fn follows_the_chunks_of_a_region(rt: HostRuntime) -> Result<(), Fail> {
     let mut store = world(rt.alloc())?;
-    turn_beside(&mut store)?;
-    assert_eq!(rt; follow(&mut store, 1, CHUNKS[1]), Some(CHUNKS[0]));
-    assert_eq!(rt; follow(&mut store, 1, CHUNKS[1]), Some(CHUNKS[1]));
-    assert_eq!(rt; follow(&mut store, 1, CHUNKS[1]), None);
-    assert!(rt; store.is_listed(1));
-    store.settle(1)?;
-    assert!(rt; takes(&mut store, 1, &CHUNKS[1..], BLOCKS[1]));
+    let is_followed = follows(&mut store)?;
     let is_left = lists(rt.alloc(), store, &BLOCKS[..1], &ENTITIES[1..], &[(2, 5)])?;
+    assert!(rt; is_followed);
     assert!(rt; is_left);
     Ok(())
 }
@@ -239,23 +265,21 @@ fn unite(store: &mut Store)
 fn unites_two_regions(rt: HostRuntime) -> Result<(), Fail> {
     let mut store = world(rt.alloc())?;
     unite(&mut store);
-    assert!(rt; store.is_whole(1));
-    assert!(rt; takes(&mut store, 1, &CHUNKS, BLOCKS[0]));
+    let is_united = takes(&mut store, 1, &CHUNKS, BLOCKS[0]);
     let is_empty = lists(rt.alloc(), store, &[], &[], &[])?;
+    assert!(rt; is_united);
     assert!(rt; is_empty);
     Ok(())
 }
 
 /// Region 1 has both chunks and a task on each, and falls apart: region 2 is handed the first chunk, and region 3 takes its place
-/// with the second; then a task comes on the first.
-fn part(store: &mut Store, alloc: Global) -> Result<(), AllocError>
+/// with the second; then a task comes on the first. Whether both bags are listed, and that of region 2 has what lies on its chunk.
+fn parts(store: &mut Store, alloc: Global) -> Result<bool, AllocError>
     requires tasks { jobs_of store.old ≡ λ n. None }
     requires bags { bag_of store.old ≡ at_id (λ id. no_bag) 1 (new_bag 40 2) }
     requires next { next_of store.old ≡ 2 }
     requires spare { 3 ≤ store.old.spare }
     requires slots { 2 ≤ store.old.slots }
-    ensures second { OnOk result ((bag_of store.new 2).here ≡ true) }
-    ensures third { OnOk result ((bag_of store.new 3).here ≡ true) }
 {
     store.accept(task(2, CHUNKS[0]), 5);
     store.accept(task(3, CHUNKS[1]), 7);
@@ -269,20 +293,20 @@ fn part(store: &mut Store, alloc: Global) -> Result<(), AllocError>
     let east = Vec::from_slice(alloc, &CHUNKS[1..])?;
     store.succeed(1, 3, east);
     store.accept(task(4, CHUNKS[0]), 9);
-    Ok(())
+    if !store.is_listed(3) {
+        return Ok(false);
+    }
+    store.settle(3)?;
+    takes_settled(store, 2, &CHUNKS[..1], BLOCKS[0])
 }
 
 /// A region falls apart: one part is handed its chunk, another takes the region's place, and each has what lies on its chunk.
 #[test]
 fn parts_a_region(rt: HostRuntime) -> Result<(), Fail> {
     let mut store = world(rt.alloc())?;
-    part(&mut store, rt.alloc())?;
-    assert!(rt; store.is_listed(2));
-    assert!(rt; store.is_listed(3));
-    store.settle(2)?;
-    store.settle(3)?;
-    assert!(rt; takes(&mut store, 2, &CHUNKS[..1], BLOCKS[0]));
+    let is_parted = parts(&mut store, rt.alloc())?;
     let is_left = lists(rt.alloc(), store, &BLOCKS[1..], &ENTITIES[..1], &[(3, 7)])?;
+    assert!(rt; is_parted);
     assert!(rt; is_left);
     Ok(())
 }

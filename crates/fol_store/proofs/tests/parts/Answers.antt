@@ -5,7 +5,7 @@ use Rattle.std.proofs.lemmas.List.Elements.{All-cons, All-nil}
 use Rattle.fol_model.specs.declared.places.ChunkPos.{ChunkPos}
 use Rattle.fol_model.specs.Geometry.{is_chunk}
 use Rattle.fol_model.specs.Universe.{chunk_cmp}
-use Rattle.fol_store.proofs.tests.part.Goals as goal
+use Rattle.fol_store.proofs.tests.parts.Goals as goal
 
 pub gather-requires-clause-order : goal.gather-requires-clause-order
 unfolding IsStrictlySortedBy chunk_cmp

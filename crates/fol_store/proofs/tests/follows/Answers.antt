@@ -4,7 +4,7 @@ use Rattle.std.specs.List.Sorted.{IsStrictlySortedBy}
 use Rattle.std.proofs.lemmas.List.Elements.{All-cons, All-nil}
 use Rattle.fol_model.specs.declared.places.ChunkPos.{ChunkPos}
 use Rattle.fol_model.specs.Geometry.{is_chunk}
-use Rattle.fol_store.proofs.tests.turn_beside.Goals as goal
+use Rattle.fol_store.proofs.tests.follows.Goals as goal
 
 pub gather-requires-clause-order : goal.gather-requires-clause-order
 unfolding IsStrictlySortedBy
