@@ -5,7 +5,7 @@ ghost use Rattle.fol_model.specs.ActionStep.{at_block};
 ghost use Rattle.fol_chunks.specs.Contents.{flat_of, size_of};
 
 use crate::Chunks;
-use fol_model::{BlockPos, ChunkPos, Entity};
+use fol_model::{BlockAt, BlockPos, ChunkPos, Entity};
 use std::alloc::{AllocError, Global};
 use std::test::Fail;
 
@@ -32,38 +32,58 @@ fn step(chunks: &mut Chunks) {
     chunks.step_entities(&CHUNKS);
 }
 
+/// Makes room and puts an entity in; whether none with its id was there.
+fn put(chunks: &mut Chunks, entity: Entity) -> Result<bool, AllocError> {
+    chunks.reserve(1)?;
+    let there = chunks.take_entity(entity.id);
+    chunks.put_entity(entity);
+    Ok(there.is_none())
+}
+
+/// Whether entity 1 is put in, walks to the border in one step, stays there in the next, and is gone once it is taken out.
+fn walks(chunks: &mut Chunks, alloc: Global) -> Result<bool, AllocError> {
+    let is_first = put(chunks, walker(1, 15, 16))?;
+    step(chunks);
+    let crossed = chunks.find(1);
+    step(chunks);
+    let stayed = chunks.find(1);
+    let taken = chunks.take_entity(1);
+    let again = chunks.take_entity(1);
+    Ok(
+        is_first
+            && crossed == Some(block(31, 0))
+            && stayed == Some(block(31, 0))
+            && taken == Some(walker(1, 31, 16))
+            && again.is_none()
+            && count_entities(alloc, chunks)? == 0,
+    )
+}
+
 /// An entity crosses the border of a chunk, and stays at the border of the recorded chunks.
 #[test]
 fn entities_walk_within_recorded_chunks(rt: HostRuntime) -> Result<(), Fail> {
     let mut chunks = Chunks::new(rt.alloc());
-    chunks.reserve(1)?;
-    assert_eq!(rt; chunks.take_entity(1), None);
-    chunks.put_entity(walker(1, 15, 16));
-    step(&mut chunks);
-    assert_eq!(rt; chunks.find(1), Some(block(31, 0)));
-    step(&mut chunks);
-    assert_eq!(rt; chunks.find(1), Some(block(31, 0)));
-    assert_eq!(rt; chunks.take_entity(1), Some(walker(1, 31, 16)));
-    assert_eq!(rt; chunks.take_entity(1), None);
-    assert_eq!(rt; count_entities(rt.alloc(), &chunks)?, 0);
+    let is_right = walks(&mut chunks, rt.alloc())?;
+    assert!(rt; is_right);
     Ok(())
+}
+
+/// Whether two entities are put in, of which one has no speed, and are listed by id after a step.
+fn walks_beside(chunks: &mut Chunks, alloc: Global) -> Result<bool, AllocError> {
+    let is_first = put(chunks, walker(2, 15, 16))?;
+    let is_second = put(chunks, walker(1, 5, 0))?;
+    step(chunks);
+    let list = chunks.entities_by_id(alloc)?;
+    let wanted = [walker(1, 5, 0), walker(2, 31, 16)];
+    Ok(is_first && is_second && list.as_slice() == wanted.as_slice())
 }
 
 /// An entity without a speed stays while another one walks, and both are listed by id.
 #[test]
 fn entities_without_a_speed_stay(rt: HostRuntime) -> Result<(), Fail> {
     let mut chunks = Chunks::new(rt.alloc());
-    chunks.reserve(2)?;
-    assert_eq!(rt; chunks.take_entity(2), None);
-    chunks.put_entity(walker(2, 15, 16));
-    assert_eq!(rt; chunks.take_entity(1), None);
-    chunks.put_entity(walker(1, 5, 0));
-    step(&mut chunks);
-    let list = chunks.entities_by_id(rt.alloc())?;
-    assert_eq!(rt;
-        list.as_slice(),
-        [walker(1, 5, 0), walker(2, 31, 16)].as_slice()
-    );
+    let is_right = walks_beside(&mut chunks, rt.alloc())?;
+    assert!(rt; is_right);
     Ok(())
 }
 
@@ -78,43 +98,59 @@ fn step_in_corner(chunks: &mut Chunks) {
     chunks.step_entities(&CORNER);
 }
 
+/// Whether entity 1 walks to the border of the three chunks in one step and stays there in the next.
+fn walks_in_corner(chunks: &mut Chunks) -> bool {
+    step_in_corner(chunks);
+    let crossed = chunks.find(1);
+    step_in_corner(chunks);
+    crossed == Some(block(31, 0)) && chunks.find(1) == Some(block(31, 0))
+}
+
 /// An entity walks within chunks that are no rectangle too.
 #[test]
 fn entities_walk_within_any_chunks(rt: HostRuntime) -> Result<(), Fail> {
     let mut chunks = with_walker(rt.alloc())?;
-    step_in_corner(&mut chunks);
-    assert_eq!(rt; chunks.find(1), Some(block(31, 0)));
-    step_in_corner(&mut chunks);
-    assert_eq!(rt; chunks.find(1), Some(block(31, 0)));
+    assert!(rt; walks_in_corner(&mut chunks));
     Ok(())
+}
+
+/// Whether the blocks with a number are these two.
+fn lists(
+    alloc: Global,
+    chunks: &Chunks,
+    first: BlockAt,
+    second: BlockAt,
+) -> Result<bool, AllocError> {
+    let mut listed = Vec::new(alloc);
+    chunks.add_blocks_to(&mut listed)?;
+    Ok(listed.len() == 2 && listed.contains(&first) && listed.contains(&second))
+}
+
+/// Whether numbers are read as they are set, replaced and taken away, and listed.
+fn sets_and_lists(chunks: &mut Chunks, alloc: Global) -> Result<bool, AllocError> {
+    let here = block(5, 0);
+    let away = block(-20, 3);
+    chunks.reserve(8)?;
+    chunks.set(here, 7);
+    chunks.set(away, 9);
+    chunks.set(here, 8);
+    let is_set = chunks.get(here) == 8 && chunks.get(block(5, 1)) == 0;
+    let is_listed = lists(
+        alloc,
+        chunks,
+        BlockAt { at: away, id: 9 },
+        BlockAt { at: here, id: 8 },
+    )?;
+    chunks.set(here, 0);
+    Ok(is_set && is_listed && chunks.get(here) == 0 && count_blocks(alloc, chunks)? == 1)
 }
 
 /// A number is set, replaced and taken away, and the blocks are listed.
 #[test]
 fn blocks_are_set_and_listed(rt: HostRuntime) -> Result<(), Fail> {
     let mut chunks = Chunks::new(rt.alloc());
-    chunks.reserve(8)?;
-    chunks.set(block(5, 0), 7);
-    chunks.set(block(-20, 3), 9);
-    chunks.set(block(5, 0), 8);
-    assert_eq!(rt; chunks.get(block(5, 0)), 8);
-    assert_eq!(rt; chunks.get(block(5, 1)), 0);
-    let mut listed = Vec::new(rt.alloc());
-    chunks.add_blocks_to(&mut listed)?;
-    assert_eq!(rt; listed.len(), 2);
-    assert!(rt;
-        listed
-            .iter()
-            .any(|row| row.at == block(-20, 3) && row.id == 9)
-    );
-    assert!(rt;
-        listed
-            .iter()
-            .any(|row| row.at == block(5, 0) && row.id == 8)
-    );
-    chunks.set(block(5, 0), 0);
-    assert_eq!(rt; chunks.get(block(5, 0)), 0);
-    assert_eq!(rt; count_blocks(rt.alloc(), &chunks)?, 1);
+    let is_right = sets_and_lists(&mut chunks, rt.alloc())?;
+    assert!(rt; is_right);
     Ok(())
 }
 
@@ -150,20 +186,27 @@ fn scattered(i: u32) -> BlockPos
     block((n % 192) as i32, (n / 192) as i32)
 }
 
+/// Whether many blocks have their numbers once they are set, once one of them loses its own, and once all are set again.
+fn keeps_many(chunks: &mut Chunks, alloc: Global) -> Result<bool, AllocError> {
+    let here = block(5, 0);
+    set_many(chunks)?;
+    let all = count_blocks(alloc, chunks)?;
+    let is_set = chunks.get(here) == 9 && chunks.get(block(84, 15)) == 0;
+    chunks.reserve(2)?;
+    chunks.set(here, 0);
+    let is_taken = chunks.get(here) == 0;
+    let others = count_blocks(alloc, chunks)?;
+    set_many(chunks)?;
+    let again = count_blocks(alloc, chunks)?;
+    Ok(is_set && is_taken && all == 3000 && others == 2999 && again == 3000)
+}
+
 /// Many blocks keep their numbers, also where one loses its own and gets another.
 #[test]
 fn many_blocks_are_kept(rt: HostRuntime) -> Result<(), Fail> {
     let mut chunks = Chunks::new(rt.alloc());
-    set_many(&mut chunks)?;
-    assert_eq!(rt; count_blocks(rt.alloc(), &chunks)?, 3000);
-    assert_eq!(rt; chunks.get(block(5, 0)), 9);
-    assert_eq!(rt; chunks.get(block(84, 15)), 0);
-    chunks.reserve(2)?;
-    chunks.set(block(5, 0), 0);
-    assert_eq!(rt; chunks.get(block(5, 0)), 0);
-    assert_eq!(rt; count_blocks(rt.alloc(), &chunks)?, 2999);
-    set_many(&mut chunks)?;
-    assert_eq!(rt; count_blocks(rt.alloc(), &chunks)?, 3000);
+    let is_right = keeps_many(&mut chunks, rt.alloc())?;
+    assert!(rt; is_right);
     Ok(())
 }
 
@@ -188,16 +231,25 @@ fn with_walker(alloc: Global) -> Result<Chunks, AllocError>
     Ok(chunks)
 }
 
+/// Whether the one block of the first is moved to the second, in which the one entity stays.
+fn moves(chunks: &mut Chunks, into: &mut Chunks, alloc: Global) -> Result<bool, AllocError>
+    requires standing { (flat_of chunks.old).standing ≡ λ k. None }
+    requires blocks { (flat_of into.old).blocks ≡ λ b. 0 }
+{
+    into.reserve(chunks.size_listed(&CHUNKS))?;
+    chunks.move_listed(&CHUNKS, into);
+    let left = count_blocks(alloc, chunks)?;
+    let entities = count_entities(alloc, into)?;
+    Ok(left == 0 && entities == 1 && into.get(block(20, 0)) == 9)
+}
+
 /// What lies in a list of chunks is moved to what is there.
 #[test]
 fn a_list_moves_with_its_chunks(rt: HostRuntime) -> Result<(), Fail> {
     let mut chunks = with_block(rt.alloc(), block(20, 0), 9)?;
     let mut into = with_walker(rt.alloc())?;
-    into.reserve(chunks.size_listed(&CHUNKS))?;
-    chunks.move_listed(&CHUNKS, &mut into);
-    assert_eq!(rt; count_blocks(rt.alloc(), &chunks)?, 0);
-    assert_eq!(rt; into.get(block(20, 0)), 9);
-    assert_eq!(rt; count_entities(rt.alloc(), &into)?, 1);
+    let is_right = moves(&mut chunks, &mut into, rt.alloc())?;
+    assert!(rt; is_right);
     Ok(())
 }
 
@@ -217,19 +269,28 @@ fn with_pair(alloc: Global, first: BlockPos, second: BlockPos) -> Result<Chunks,
     Ok(chunks)
 }
 
+/// Whether no block is left here, and four are there, those of the lists of the chunks and fresh ones, before and after room is made.
+fn met(chunks: &Chunks, into: &mut Chunks, alloc: Global) -> Result<bool, AllocError> {
+    let left = count_blocks(alloc, chunks)?;
+    let fresh = count_blocks(alloc, into)?;
+    into.reserve(1)?;
+    let laid = count_blocks(alloc, into)?;
+    Ok(
+        (left, fresh, laid) == (0, 4, 4)
+            && into.get(block(5, 0)) == 9
+            && into.get(block(6, 0)) == 9
+            && into.get(block(20, 0)) == 9
+            && into.get(block(22, 0)) == 9,
+    )
+}
+
 /// Blocks of one chunk that come from two regions are all there, those of the list of the chunk and fresh ones.
 #[test]
 fn blocks_meet_in_their_chunks(rt: HostRuntime) -> Result<(), Fail> {
     let mut chunks = with_pair(rt.alloc(), block(20, 0), block(5, 0))?;
     let mut into = with_pair(rt.alloc(), block(22, 0), block(6, 0))?;
     chunks.move_listed(&CHUNKS, &mut into);
-    assert_eq!(rt; count_blocks(rt.alloc(), &chunks)?, 0);
-    assert_eq!(rt; count_blocks(rt.alloc(), &into)?, 4);
-    into.reserve(1)?;
-    assert_eq!(rt; count_blocks(rt.alloc(), &into)?, 4);
-    assert_eq!(rt; into.get(block(5, 0)), 9);
-    assert_eq!(rt; into.get(block(6, 0)), 9);
-    assert_eq!(rt; into.get(block(20, 0)), 9);
-    assert_eq!(rt; into.get(block(22, 0)), 9);
+    let is_right = met(&chunks, &mut into, rt.alloc())?;
+    assert!(rt; is_right);
     Ok(())
 }
