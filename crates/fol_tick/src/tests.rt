@@ -11,9 +11,11 @@ ghost use Rattle.fol_chunks.specs.Contents.{flat_of};
 ghost use Rattle.fol_tick.specs.Runs.{MayRun, arrivals};
 
 use crate::{HostAnswer, ListHost, run_tick};
+use fol_chunks::Chunks;
 use fol_data::{RegionData, Size, Tick};
 use fol_model::{
     Action, BlockPos, ChunkPos, Entity, Nested, Outcome, Ran, Sequence, Task, TickLog, Unloaded,
+    Wish,
 };
 use std::alloc::{AllocError, Global};
 use std::test::Fail;
@@ -121,20 +123,31 @@ fn one_load(alloc: Global) -> Result<Vec<Task>, AllocError>
     Ok(vec![in alloc; task(1, Action::Load(AWAY))]?)
 }
 
+/// Whether the host finds no memory for the task in the first call, and the next call runs it.
+fn runs_again(alloc: Global, tick: &mut Tick, host: &mut ListHost) -> Result<bool, AllocError>
+    requires { MayRun tick.old }
+{
+    let Err(_) = run_tick(alloc, tick, host) else {
+        return Ok(false);
+    };
+    let is_left = tick.next == 0;
+    run_tick(alloc, tick, host)?;
+    Ok(
+        is_left
+            && tick.log.ran.as_slice() == [done(1)].as_slice()
+            && tick.log.wishes.is_empty()
+            && tick.moved,
+    )
+}
+
 /// The host finds no memory for the only task; the next call runs it.
 #[test]
 fn a_load_that_finds_no_memory_runs_in_the_next_call(rt: HostRuntime) -> Result<(), Fail> {
     let alloc = rt.alloc();
-    let mut tick = tick_of(alloc, one_load(alloc)?)?;
     let mut host = ListHost::of(vec![in alloc; HostAnswer::NoMemory]?);
-    let Err(_) = run_tick(alloc, &mut tick, &mut host) else {
-        return Err(Fail::from("the host found no memory"));
-    };
-    assert_eq!(rt; tick.next, 0);
-    run_tick(alloc, &mut tick, &mut host)?;
-    assert_eq!(rt; tick.log.ran.as_slice(), [done(1)].as_slice());
-    assert!(rt; tick.log.wishes.is_empty());
-    assert!(rt; tick.moved);
+    let mut tick = tick_of(alloc, one_load(alloc)?)?;
+    let is_right = runs_again(alloc, &mut tick, &mut host)?;
+    assert!(rt; is_right);
     Ok(())
 }
 
@@ -180,43 +193,60 @@ fn plain_tasks(alloc: Global) -> Result<Vec<Task>, AllocError>
     ]?)
 }
 
+/// The outcomes of these tasks.
+const OUTCOMES: [Outcome; 8] = [
+    Outcome::Foreign,
+    Outcome::Done,
+    Outcome::Done,
+    Outcome::Foreign,
+    Outcome::Done,
+    Outcome::Absent,
+    Outcome::Done,
+    Outcome::NoTicket,
+];
+
+/// Whether these are the outcomes, and the only wish is the arrival of the entity that was sent.
+fn tells_all(log: &TickLog) -> bool {
+    let outcomes = log.ran.as_slice().iter().map(|entry| entry.outcome);
+    let wishes = log.wishes.as_slice();
+    outcomes.eq(OUTCOMES.iter().copied())
+        && wishes.len() == 1
+        && wishes[0].delay == 1
+        && wishes[0].back == Some(walker(1).at)
+}
+
+/// Whether the blocks have the numbers that were set and copied, and the entity that arrived stands alone, at the border.
+fn is_moved(alloc: Global, chunks: &Chunks) -> Result<bool, AllocError> {
+    let mut blocks = Vec::new(alloc);
+    chunks.add_blocks_to(&mut blocks)?;
+    let mut entities = Vec::new(alloc);
+    chunks.add_entities_to(&mut entities)?;
+    Ok(
+        (blocks.len(), entities.len()) == (2, 1)
+            && chunks.get(HERE) == 7
+            && chunks.get(BESIDE) == 7
+            && chunks.get(FOREIGN) == 0
+            && chunks.find(1).is_none()
+            && chunks.find(2) == Some(BlockPos { x: 31, y: 64, z: 1 }),
+    )
+}
+
+/// Whether the tick runs, and then tells this and has moved that.
+fn runs_plain(alloc: Global, tick: &mut Tick, host: &mut ListHost) -> Result<bool, AllocError>
+    requires { MayRun tick.old }
+{
+    run_tick(alloc, tick, host)?;
+    Ok(tells_all(&tick.log) && is_moved(alloc, &tick.body.chunks)?)
+}
+
 /// Each task has its outcome, an entity that was sent is gone, and one that arrived moves, but not out of the recorded chunks.
 #[test]
 fn every_plain_action(rt: HostRuntime) -> Result<(), Fail> {
     let alloc = rt.alloc();
-    let mut tick = tick_of(alloc, plain_tasks(alloc)?)?;
     let mut host = ListHost::of(vec![in alloc; HostAnswer::Unload(Unloaded::NoTicket)]?);
-    run_tick(alloc, &mut tick, &mut host)?;
-    let outcomes = [
-        Outcome::Foreign,
-        Outcome::Done,
-        Outcome::Done,
-        Outcome::Foreign,
-        Outcome::Done,
-        Outcome::Absent,
-        Outcome::Done,
-        Outcome::NoTicket,
-    ];
-    let ran = tick.log.ran.as_slice();
-    assert!(rt;
-        ran.iter()
-            .map(|entry| entry.outcome)
-            .eq(outcomes.iter().copied())
-    );
-    let body = &tick.body;
-    assert_eq!(rt; (body.chunks.get(HERE), body.chunks.get(BESIDE)), (7, 7));
-    assert_eq!(rt; body.chunks.get(FOREIGN), 0);
-    let mut blocks = Vec::new(alloc);
-    body.chunks.add_blocks_to(&mut blocks)?;
-    let mut entities = Vec::new(alloc);
-    body.chunks.add_entities_to(&mut entities)?;
-    assert_eq!(rt; (blocks.len(), entities.len()), (2, 1));
-    assert_eq!(rt; body.chunks.find(1), None);
-    assert_eq!(rt; body.chunks.find(2), Some(BlockPos { x: 31, y: 64, z: 1 }));
-    let wishes = tick.log.wishes.as_slice();
-    assert_eq!(rt; wishes.len(), 1);
-    assert_eq!(rt; wishes[0].delay, 1);
-    assert_eq!(rt; wishes[0].back, Some(walker(1).at));
+    let mut tick = tick_of(alloc, plain_tasks(alloc)?)?;
+    let is_right = runs_plain(alloc, &mut tick, &mut host)?;
+    assert!(rt; is_right);
     Ok(())
 }
 
@@ -248,40 +278,49 @@ fn repeats(alloc: Global) -> Result<Vec<Task>, AllocError>
     Ok(vec![in alloc; task(1, set), task(2, posts)]?)
 }
 
+/// Whether the action is a repeat with these numbers.
+fn is_every(action: &Action, period: u32, left: u32) -> bool {
+    match action {
+        Action::Every {
+            period: p,
+            left: l,
+            ..
+        } => *p == period && *l == left,
+        _ => false,
+    }
+}
+
+/// Whether these are the wishes of a set and of a post that repeat, each with its delay.
+fn are_repeats(wishes: &[Wish]) -> bool {
+    wishes.len() == 3
+        && is_every(&wishes[0].action, 2, 2)
+        && wishes[0].delay == 2
+        && matches!(&wishes[1].action, Action::Load(_))
+        && wishes[1].delay == 5
+        && wishes[1].chunk == AWAY
+        && is_every(&wishes[2].action, 4, 1)
+        && wishes[2].delay == 4
+}
+
+/// Whether the tick runs both tasks, and their wishes come in order.
+fn runs_repeats(alloc: Global, tick: &mut Tick, host: &mut ListHost) -> Result<bool, AllocError>
+    requires { MayRun tick.old }
+{
+    run_tick(alloc, tick, host)?;
+    Ok(
+        tick.log.ran.as_slice() == [done(1), done(2)].as_slice()
+            && tick.body.chunks.get(HERE) == 7
+            && are_repeats(tick.log.wishes.as_slice()),
+    )
+}
+
 /// A repeat comes straight behind the post of its inner action, with one run less.
 #[test]
 fn actions_that_repeat(rt: HostRuntime) -> Result<(), Fail> {
     let alloc = rt.alloc();
-    let mut tick = tick_of(alloc, repeats(alloc)?)?;
     let mut host = ListHost::of(Vec::new(alloc));
-    run_tick(alloc, &mut tick, &mut host)?;
-    assert_eq!(rt; tick.log.ran.as_slice(), [done(1), done(2)].as_slice());
-    assert_eq!(rt; tick.body.chunks.get(HERE), 7);
-    let wishes = tick.log.wishes.as_slice();
-    assert_eq!(rt; wishes.len(), 3);
-    assert!(rt;
-        matches!(
-            &wishes[0].action,
-            Action::Every {
-                period: 2,
-                left: 2,
-                ..
-            }
-        )
-    );
-    assert!(rt; matches!(&wishes[1].action, Action::Load(_)));
-    assert!(rt;
-        matches!(
-            &wishes[2].action,
-            Action::Every {
-                period: 4,
-                left: 1,
-                ..
-            }
-        )
-    );
-    let delays = [wishes[0].delay, wishes[1].delay, wishes[2].delay];
-    assert_eq!(rt; delays, [2, 5, 4]);
-    assert_eq!(rt; wishes[1].chunk, AWAY);
+    let mut tick = tick_of(alloc, repeats(alloc)?)?;
+    let is_right = runs_repeats(alloc, &mut tick, &mut host)?;
+    assert!(rt; is_right);
     Ok(())
 }
