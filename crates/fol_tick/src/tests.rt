@@ -18,7 +18,6 @@ use fol_model::{
     Wish,
 };
 use std::alloc::{AllocError, Global};
-use std::test::Fail;
 
 const HERE: BlockPos = BlockPos { x: 3, y: 64, z: 0 };
 
@@ -140,13 +139,17 @@ fn runs_again(alloc: Global, tick: &mut Tick, host: &mut ListHost) -> Result<boo
     )
 }
 
-/// The host finds no memory for the only task; the next call runs it.
-#[test]
-fn a_load_that_finds_no_memory_runs_in_the_next_call(rt: HostRuntime) -> Result<(), Fail> {
-    let alloc = rt.alloc();
+/// Whether a tick of one load does, where the host finds no memory once.
+fn loads_again(alloc: Global) -> Result<bool, AllocError> {
     let mut host = ListHost::of(vec![in alloc; HostAnswer::NoMemory]?);
     let mut tick = tick_of(alloc, one_load(alloc)?)?;
-    let is_right = runs_again(alloc, &mut tick, &mut host)?;
+    runs_again(alloc, &mut tick, &mut host)
+}
+
+/// The host finds no memory for the only task; the next call runs it.
+#[test]
+fn a_load_that_finds_no_memory_runs_in_the_next_call(rt: HostRuntime) -> Result<(), AllocError> {
+    let is_right = loads_again(rt.alloc())?;
     assert!(rt; is_right);
     Ok(())
 }
@@ -239,13 +242,17 @@ fn runs_plain(alloc: Global, tick: &mut Tick, host: &mut ListHost) -> Result<boo
     Ok(tells_all(&tick.log) && is_moved(alloc, &tick.body.chunks)?)
 }
 
-/// Each task has its outcome, an entity that was sent is gone, and one that arrived moves, but not out of the recorded chunks.
-#[test]
-fn every_plain_action(rt: HostRuntime) -> Result<(), Fail> {
-    let alloc = rt.alloc();
+/// Whether a tick of the plain tasks does, where the host knows no ticket.
+fn acts_plainly(alloc: Global) -> Result<bool, AllocError> {
     let mut host = ListHost::of(vec![in alloc; HostAnswer::Unload(Unloaded::NoTicket)]?);
     let mut tick = tick_of(alloc, plain_tasks(alloc)?)?;
-    let is_right = runs_plain(alloc, &mut tick, &mut host)?;
+    runs_plain(alloc, &mut tick, &mut host)
+}
+
+/// Each task has its outcome, an entity that was sent is gone, and one that arrived moves, but not out of the recorded chunks.
+#[test]
+fn every_plain_action(rt: HostRuntime) -> Result<(), AllocError> {
+    let is_right = acts_plainly(rt.alloc())?;
     assert!(rt; is_right);
     Ok(())
 }
@@ -314,13 +321,17 @@ fn runs_repeats(alloc: Global, tick: &mut Tick, host: &mut ListHost) -> Result<b
     )
 }
 
-/// A repeat comes straight behind the post of its inner action, with one run less.
-#[test]
-fn actions_that_repeat(rt: HostRuntime) -> Result<(), Fail> {
-    let alloc = rt.alloc();
+/// Whether a tick of the tasks that repeat does, where no host is called.
+fn acts_again(alloc: Global) -> Result<bool, AllocError> {
     let mut host = ListHost::of(Vec::new(alloc));
     let mut tick = tick_of(alloc, repeats(alloc)?)?;
-    let is_right = runs_repeats(alloc, &mut tick, &mut host)?;
+    runs_repeats(alloc, &mut tick, &mut host)
+}
+
+/// A repeat comes straight behind the post of its inner action, with one run less.
+#[test]
+fn actions_that_repeat(rt: HostRuntime) -> Result<(), AllocError> {
+    let is_right = acts_again(rt.alloc())?;
     assert!(rt; is_right);
     Ok(())
 }
