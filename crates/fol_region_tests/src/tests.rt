@@ -3,7 +3,18 @@
 use fol_model::{ChunkPos, Grid, State};
 use fol_regions::{MergePair, Regions};
 use std::alloc::Global;
+use std::fmt::Debug;
 use std::process::Abort;
+
+/// What was found of a region is what was wanted.
+fn same<T: Debug + PartialEq>(rt: &impl Abort, id: u64, found: &T, wanted: &T) {
+    assert_eq!(rt; *found, *wanted, "the region {id}");
+}
+
+/// Two lists of ids are the same.
+fn same_ids(rt: &impl Abort, found: &[u64], wanted: &[u64], what: &str) {
+    assert_eq!(rt; *found, *wanted, "{what}");
+}
 
 /// No region, on a grid of sections of one chunk with the create radius 1, where a region is cleaned from one dead section in 6 on.
 fn table(rt: &impl Abort, alloc: Global) -> Regions {
@@ -46,25 +57,21 @@ fn region_is(
     waits_for: &[u64],
 ) {
     assert!(rt; 0 < id && id < regions.next_id());
-    assert_eq!(rt; regions.state(id), Some(state), "the state of {id}");
-    assert_eq!(rt;
-        regions.sections(id).len(),
-        sections,
-        "the sections of {id}"
-    );
-    assert_eq!(rt; *regions.waits_for(id), *waits_for, "the pairs of {id}");
+    same(rt, id, &regions.state(id), &Some(state));
+    same(rt, id, &regions.sections(id).len(), &sections);
+    same_ids(rt, regions.waits_for(id), waits_for, "waits for");
 }
 
 /// These are the regions that are not Dead.
 fn live_are(rt: &impl Abort, alloc: Global, regions: &Regions, ids: &[u64]) {
     let live = regions.live(alloc).expect(rt, "memory");
-    assert_eq!(rt; *live.as_slice(), *ids);
+    same_ids(rt, live.as_slice(), ids, "live");
 }
 
 /// The last event made these regions, and ended these.
 fn last_is(rt: &impl Abort, regions: &Regions, created: &[u64], dead: &[u64]) {
-    assert_eq!(rt; *regions.last().created(), *created);
-    assert_eq!(rt; *regions.last().dead(), *dead);
+    same_ids(rt, regions.last().created(), created, "created");
+    same_ids(rt, regions.last().dead(), dead, "dead");
 }
 
 /// The loaded chunks of a region are these.
@@ -77,26 +84,25 @@ fn chunks_are(rt: &impl Abort, alloc: Global, regions: &Regions, id: u64, chunks
 }
 
 /// Loads two chunks that are far apart, and the one between them.
-fn three_chunks(rt: &impl Abort, alloc: Global) -> Regions {
-    let mut regions = table(rt, alloc);
-    load(rt, &mut regions, 0);
-    load(rt, &mut regions, 6);
-    load(rt, &mut regions, 3);
-    regions
+fn load_three(rt: &impl Abort, regions: &mut Regions) {
+    load(rt, regions, 0);
+    load(rt, regions, 6);
+    load(rt, regions, 3);
+}
+
+/// The last of three chunks joined the regions of the others.
+fn both_are_joined(rt: &impl Abort, regions: &Regions) {
+    last_is(rt, regions, &[], &[2]);
+    let merges = [MergePair { from: 2, into: 1 }];
+    assert_eq!(rt; regions.last().merges(), merges.as_slice());
+    region_is(rt, regions, 1, State::Ready, 27, &[]);
 }
 
 #[test]
 fn a_region_between_two_joins_both(rt: HostRuntime) {
-    let regions = three_chunks(&rt, rt.alloc());
-    last_is(&rt, &regions, &[], &[2]);
-    let merges = [MergePair { from: 2, into: 1 }];
-    assert_eq!(rt; regions.last().merges(), merges.as_slice());
-    region_is(&rt, &regions, 1, State::Ready, 27, &[]);
-}
-
-#[test]
-fn lists_the_chunks_of_a_region(rt: HostRuntime) {
-    let regions = three_chunks(&rt, rt.alloc());
+    let mut regions = table(&rt, rt.alloc());
+    load_three(&rt, &mut regions);
+    both_are_joined(&rt, &regions);
     let chunks = [
         ChunkPos { x: 0, z: 0 },
         ChunkPos { x: 3, z: 0 },
@@ -105,15 +111,13 @@ fn lists_the_chunks_of_a_region(rt: HostRuntime) {
     chunks_are(&rt, rt.alloc(), &regions, 1, &chunks);
 }
 
-/// A region that waits for two Ticking ones on both its sides.
-fn one_between_two(rt: &impl Abort, alloc: Global) -> Regions {
-    let mut regions = table(rt, alloc);
-    load(rt, &mut regions, 0);
-    load(rt, &mut regions, 6);
-    begin(rt, &mut regions, 1);
-    begin(rt, &mut regions, 2);
-    load(rt, &mut regions, 3);
-    regions
+/// Makes a region that waits for two Ticking ones on both its sides.
+fn wait_for_two(rt: &impl Abort, regions: &mut Regions) {
+    load(rt, regions, 0);
+    load(rt, regions, 6);
+    begin(rt, regions, 1);
+    begin(rt, regions, 2);
+    load(rt, regions, 3);
 }
 
 /// Ends the ticks of both regions for which the third one waits.
@@ -124,34 +128,43 @@ fn end_both(rt: &impl Abort, regions: &mut Regions) {
     region_is(rt, regions, 1, State::Ready, 27, &[]);
 }
 
+/// A copy says what the table says, and both ticks end in it.
+fn copy_goes_on(rt: &impl Abort, alloc: Global, regions: &Regions) {
+    let mut copy = regions.copy(alloc).expect(rt, "memory");
+    last_is(rt, &copy, &[3], &[]);
+    end_both(rt, &mut copy);
+    live_are(rt, alloc, &copy, &[1]);
+}
+
 #[test]
 fn a_copy_goes_on_by_itself(rt: HostRuntime) {
-    let regions = one_between_two(&rt, rt.alloc());
-    let mut copy = regions.copy(rt.alloc()).expect(&rt, "memory");
-    last_is(&rt, &copy, &[3], &[]);
-    end_both(&rt, &mut copy);
-    live_are(&rt, rt.alloc(), &copy, &[1]);
+    let mut regions = table(&rt, rt.alloc());
+    wait_for_two(&rt, &mut regions);
+    copy_goes_on(&rt, rt.alloc(), &regions);
     region_is(&rt, &regions, 3, State::Transient, 9, &[1, 2]);
 }
 
-/// A region that fell apart at the end of its tick, since its middle chunk was unloaded.
-fn two_parts(rt: &impl Abort, alloc: Global) -> Regions {
-    let mut regions = table(rt, alloc);
-    load(rt, &mut regions, 0);
-    load(rt, &mut regions, 3);
-    load(rt, &mut regions, 6);
+/// Makes a region that falls apart at the end of its tick, since its middle chunk was unloaded.
+fn part_in_two(rt: &impl Abort, regions: &mut Regions) {
+    load(rt, regions, 0);
+    load(rt, regions, 3);
+    load(rt, regions, 6);
     regions.remove(ChunkPos { x: 3, z: 0 });
-    begin(rt, &mut regions, 1);
-    release(rt, &mut regions, 1);
-    regions
+    begin(rt, regions, 1);
+    release(rt, regions, 1);
+}
+
+/// The first region fell into two parts of one size.
+fn parts_are_alike(rt: &impl Abort, regions: &Regions) {
+    last_is(rt, regions, &[2, 3], &[1]);
+    same_ids(rt, regions.last().parts(), &[2, 3], "parts");
+    region_is(rt, regions, 2, State::Ready, 9, &[]);
+    region_is(rt, regions, 3, State::Ready, 9, &[]);
 }
 
 #[test]
 fn a_region_falls_apart(rt: HostRuntime) {
-    let regions = two_parts(&rt, rt.alloc());
-    last_is(&rt, &regions, &[2, 3], &[1]);
-    let parts = [2, 3];
-    assert_eq!(rt; regions.last().parts(), parts.as_slice());
-    region_is(&rt, &regions, 2, State::Ready, 9, &[]);
-    region_is(&rt, &regions, 3, State::Ready, 9, &[]);
+    let mut regions = table(&rt, rt.alloc());
+    part_in_two(&rt, &mut regions);
+    parts_are_alike(&rt, &regions);
 }
