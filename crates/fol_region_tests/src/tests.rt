@@ -1,4 +1,6 @@
 //! What no clause says: that memory is found, and that small worlds come out as worked out by hand.
+//!
+//! A table ends with a call of `drop`, so that what it gives back is proved once, and not again in each test.
 
 use fol_model::{ChunkPos, Grid, State};
 use fol_regions::{MergePair, Regions};
@@ -109,6 +111,7 @@ fn a_region_between_two_joins_both(rt: HostRuntime) {
         ChunkPos { x: 6, z: 0 },
     ];
     chunks_are(&rt, rt.alloc(), &regions, 1, &chunks);
+    drop(regions);
 }
 
 /// Makes a region that waits for two Ticking ones on both its sides.
@@ -134,6 +137,7 @@ fn copy_goes_on(rt: &impl Abort, alloc: Global, regions: &Regions) {
     last_is(rt, &copy, &[3], &[]);
     end_both(rt, &mut copy);
     live_are(rt, alloc, &copy, &[1]);
+    drop(copy);
 }
 
 #[test]
@@ -142,6 +146,7 @@ fn a_copy_goes_on_by_itself(rt: HostRuntime) {
     wait_for_two(&rt, &mut regions);
     copy_goes_on(&rt, rt.alloc(), &regions);
     region_is(&rt, &regions, 3, State::Transient, 9, &[1, 2]);
+    drop(regions);
 }
 
 /// Makes a region that falls apart at the end of its tick, since its middle chunk was unloaded.
@@ -167,4 +172,5 @@ fn a_region_falls_apart(rt: HostRuntime) {
     let mut regions = table(&rt, rt.alloc());
     part_in_two(&rt, &mut regions);
     parts_are_alike(&rt, &regions);
+    drop(regions);
 }
