@@ -1,4 +1,6 @@
 //! The parts of small and of large sets of sections.
+//!
+//! Each test ends with a call of `drop`, so that what a splitter gives back is proved once, and not again in each test.
 
 ghost use Rattle.std.specs.Prelude.{◌≡◌, IsTrue};
 ghost use Rattle.std.specs.List.{All, IsDistinct};
@@ -9,9 +11,8 @@ ghost use Rattle.fol_model.specs.Universe.{section_cmp};
 
 use crate::Splitter;
 use fol_model::SectionPos;
-use std::alloc::{AllocError, Global};
+use std::alloc::Global;
 use std::process::Abort;
-use std::test::Fail;
 
 /// Whether the first section is before the second.
 fn is_before(a: SectionPos, b: SectionPos) -> bool
@@ -45,57 +46,62 @@ fn sizes_are(
     sections: &[SectionPos],
     merge: u8,
     sizes: &[usize],
-) -> Result<(), Fail> {
+) {
     assert!(rt; is_rising(sections) && sections.len() <= 16_384 && 1 <= merge && merge <= 4);
     splitter.parts(sections, merge);
     assert_eq!(rt; splitter.count() as usize, sizes.len());
     for i in 0..splitter.count() {
         assert_eq!(rt; splitter.part(i).len(), sizes[i as usize], "part {i}");
     }
-    Ok(())
 }
 
 #[test]
-fn a_corner_joins_and_a_gap_parts(rt: HostRuntime) -> Result<(), Fail> {
-    let mut splitter = Splitter::new(rt.alloc())?;
+fn a_corner_joins_and_a_gap_parts(rt: HostRuntime) {
+    let mut splitter = Splitter::new(rt.alloc()).expect(&rt, "memory");
     let sections = [
         SectionPos { x: 0, z: 0 },
         SectionPos { x: 1, z: 1 },
         SectionPos { x: 3, z: 1 },
     ];
-    sizes_are(&rt, &mut splitter, &sections, 1, &[2, 1])?;
-    sizes_are(&rt, &mut splitter, &sections, 2, &[3])?;
-    sizes_are(&rt, &mut splitter, &[], 1, &[])?;
-    Ok(())
+    sizes_are(&rt, &mut splitter, &sections, 1, &[2, 1]);
+    sizes_are(&rt, &mut splitter, &sections, 2, &[3]);
+    sizes_are(&rt, &mut splitter, &[], 1, &[]);
+    drop(splitter);
+}
+
+/// Adds each second one of 256 sections of a row.
+fn add_row(rt: &impl Abort, sections: &mut Vec<SectionPos>, z: u8) {
+    for x in 0..128u8 {
+        let s = SectionPos {
+            x: 2 * x as i32 - 100,
+            z: z as i32 - 50,
+        };
+        sections.push(s).expect(rt, "memory");
+    }
 }
 
 /// A square of 128 by 128 sections, each second column left out.
-fn columns(alloc: Global) -> Result<Vec<SectionPos>, AllocError> {
-    let mut sections = Vec::with_capacity(alloc, 16_384)?;
+fn columns(rt: &impl Abort, alloc: Global) -> Vec<SectionPos> {
+    let mut sections = Vec::with_capacity(alloc, 16_384).expect(rt, "memory");
     for z in 0..128u8 {
-        for x in 0..128u8 {
-            sections.push(SectionPos {
-                x: 2 * x as i32 - 100,
-                z: z as i32 - 50,
-            })?;
-        }
+        add_row(rt, &mut sections, z);
     }
-    Ok(sections)
+    sections
 }
 
 #[test]
-fn columns_are_parts_of_their_own(rt: HostRuntime) -> Result<(), Fail> {
-    let mut splitter = Splitter::new(rt.alloc())?;
-    let sections = columns(rt.alloc())?;
-    sizes_are(&rt, &mut splitter, &sections, 1, &[128; 128])?;
-    sizes_are(&rt, &mut splitter, &sections, 2, &[16_384])?;
-    sizes_are(&rt, &mut splitter, &sections, 4, &[16_384])?;
-    Ok(())
+fn columns_are_parts_of_their_own(rt: HostRuntime) {
+    let mut splitter = Splitter::new(rt.alloc()).expect(&rt, "memory");
+    let sections = columns(&rt, rt.alloc());
+    sizes_are(&rt, &mut splitter, &sections, 1, &[128; 128]);
+    sizes_are(&rt, &mut splitter, &sections, 2, &[16_384]);
+    sizes_are(&rt, &mut splitter, &sections, 4, &[16_384]);
+    drop(splitter);
 }
 
 #[test]
-fn runs_are_near_within_the_merge_radius(rt: HostRuntime) -> Result<(), Fail> {
-    let mut splitter = Splitter::new(rt.alloc())?;
+fn runs_are_near_within_the_merge_radius(rt: HostRuntime) {
+    let mut splitter = Splitter::new(rt.alloc()).expect(&rt, "memory");
     // Three runs in one row with gaps of one and of three, and two runs three rows below.
     let sections = [
         SectionPos { x: -4, z: -1 },
@@ -107,9 +113,9 @@ fn runs_are_near_within_the_merge_radius(rt: HostRuntime) -> Result<(), Fail> {
         SectionPos { x: 8, z: 2 },
         SectionPos { x: 9, z: 2 },
     ];
-    sizes_are(&rt, &mut splitter, &sections, 1, &[2, 1, 2, 1, 2])?;
-    sizes_are(&rt, &mut splitter, &sections, 2, &[3, 2, 1, 2])?;
-    sizes_are(&rt, &mut splitter, &sections, 3, &[6, 2])?;
-    sizes_are(&rt, &mut splitter, &sections, 4, &[8])?;
-    Ok(())
+    sizes_are(&rt, &mut splitter, &sections, 1, &[2, 1, 2, 1, 2]);
+    sizes_are(&rt, &mut splitter, &sections, 2, &[3, 2, 1, 2]);
+    sizes_are(&rt, &mut splitter, &sections, 3, &[6, 2]);
+    sizes_are(&rt, &mut splitter, &sections, 4, &[8]);
+    drop(splitter);
 }
