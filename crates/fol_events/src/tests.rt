@@ -1,8 +1,9 @@
 //! What the reader tells of given reports.
 
 use crate::{EventLines, read_events};
-use fol_model::{Accept, Action, Event, Loaded, Outcome, Unloaded};
+use fol_model::{Accept, Action, BlockPos, ChunkPos, Entry, Event, Loaded, Outcome, Ran, Unloaded};
 use std::alloc::{AllocError, Global};
+use std::process::Abort;
 use std::test::Fail;
 
 /// A report with an event of each kind, and the line behind its events.
@@ -22,6 +23,131 @@ const SESSION: &str = "report 1\nevents 13\n\
     finish\n\
     regions 0\n";
 
+/// A report, and its first line that is not as it must be.
+const HEADS_AND_COUNTS: &[(&str, Option<u64>)] = &[
+    ("", Some(1)),
+    ("report 1", Some(1)),
+    ("report 2\nevents 0\n", Some(1)),
+    ("report 1 \nevents 0\n", Some(1)),
+    ("report 1\r\nevents 0\n", Some(1)),
+    ("\nreport 1\nevents 0\n", Some(1)),
+    ("report 1\n", Some(2)),
+    ("report 1\nevents 0", Some(2)),
+    ("report 1\nevents\n", Some(2)),
+    ("report 1\nevents 00\n", Some(2)),
+    ("report 1\nevents -1\n", Some(2)),
+    ("report 1\nevents 0 \n", Some(2)),
+    ("report 1\nevents 16777217\n", Some(2)),
+    ("report 1\nevents 18446744073709551616\n", Some(2)),
+    ("report 1\nregions 0\n", Some(2)),
+    ("report 1\nevents 0\n", None),
+    ("report 1\nevents 0\nanything", None),
+    ("report 1\nevents 16777216\n", Some(3)),
+    ("report 1\nevents 1\nclose", Some(3)),
+    ("report 1\nevents 2\nclose\n", Some(4)),
+    ("report 1\nevents 2\nclose\n\n", Some(4)),
+    ("report 1\nevents 2\nclose\nfinish", Some(4)),
+    ("report 1\nevents 1\nclose\nfinish", None),
+    ("report 1\nevents 3\nclose\nclosed\nclose\n", Some(4)),
+];
+
+/// Lines of events that are no posts and no ends.
+const EVENTS: &[&str] = &[
+    "close",
+    "finish",
+    "stop 4294967295",
+    "open 4294967295",
+    "begin 4294967295 18446744073709551615",
+    "load 0 -1000000 1000000 counted",
+    "load 0 0 0 full 4294967295 4294967295",
+    "unload 0 0 0 noticket",
+    "unload 0 0 0 lowered",
+];
+
+/// Lines of no event, much like these.
+const NO_EVENTS: &[&str] = &[
+    "",
+    "close ",
+    " close",
+    "Close",
+    "stop 4294967296",
+    "stop",
+    "stop 1 1",
+    "open 4294967296",
+    "open -1",
+    "open 01",
+    "begin 1 18446744073709551616",
+    "begin 1  1",
+    "begin 1\t1",
+    "load 0 -1000001 0 counted",
+    "load 0 0 1000001 counted",
+    "load 0 -0 0 counted",
+    "load 0 +1 0 counted",
+    "load -1 0 0 counted",
+    "load 0 0 0 over",
+    "load 0 0 0 lowered",
+    "load 0 0 0 full 4294967296 0",
+    "load 0 0 0 full 1",
+    "load 0 0 0 full 1 1 1",
+    "unload 0 0 0 counted",
+    "unload 0 0 0 lowered 1",
+];
+
+/// Lines of posts.
+const POSTS: &[&str] = &[
+    "post 0 0 0 1 posted 1 load 0 0",
+    "post 0 0 0 1000000 posted 18446744073709551615 load 0 0",
+    "post 0 0 0 1 full 1 2 load 0 0",
+    "post 0 0 0 1 posted 1 set 16000015 255 -16000000 65535",
+    "post 0 0 0 1 posted 1 copy 0 0 0 0 0 0",
+    "post 0 0 0 1 posted 1 send 0 0 0 0",
+    "post 0 0 0 1 posted 1 every 1000000 10000 unload 0 0",
+];
+
+/// Lines of no post, much like these.
+const NO_POSTS: &[&str] = &[
+    "post 0 0 0 0 posted 1 load 0 0",
+    "post 0 0 0 1000001 posted 1 load 0 0",
+    "post 0 0 0 1 posted 18446744073709551616 load 0 0",
+    "post 0 0 0 1 full 1 load 0 0",
+    "post 0 0 0 1 load 0 0",
+    "post 0 0 0 1 posted 1",
+    "post 0 0 0 1 posted 1 run 1",
+    "post 0 0 0 1 posted 1 arrive 1 0 0 0",
+    "post 0 0 0 1 posted 1 set 16000016 0 0 0",
+    "post 0 0 0 1 posted 1 set 0 256 0 0",
+    "post 0 0 0 1 posted 1 set 0 -1 0 0",
+    "post 0 0 0 1 posted 1 set 0 0 0 65536",
+    "post 0 0 0 1 posted 1 copy 0 0 0 0 0",
+    "post 0 0 0 1 posted 1 copy 0 0 0 0 0 0 0",
+    "post 0 0 0 1 posted 1 send 4294967296 0 0 0",
+    "post 0 0 0 1 posted 1 post 0 0 0 unload 0 0",
+    "post 0 0 0 1 posted 1 every 0 1 unload 0 0",
+    "post 0 0 0 1 posted 1 every 1 10001 unload 0 0",
+    "post 0 0 0 1 posted 1 every 1 1 every 1 1 unload 0 0",
+    "post 0 0 0 1 posted 1 post 0 0 1 every 1 1 unload 0 0",
+    "post 0 0 0 1 posted 1 every 1 1 arrive 1 0 0 0",
+];
+
+/// Lines of ends.
+const ENDS: &[&str] = &[
+    "end 1 1 tick 1 ran 0 accepted 0",
+    "end 1 1 tick 1 ran 1 1 absent accepted 0",
+    "end 1 1 tick 1 ran 1 1 full accepted 1 full 1 2",
+];
+
+/// Lines of no end, much like these.
+const NO_ENDS: &[&str] = &[
+    "end 1 1 tick 1 ran 2 1 done accepted 0",
+    "end 1 1 tick 1 ran 0 1 done accepted 0",
+    "end 1 1 tick 1 ran 0 accepted 1",
+    "end 1 1 tick 1 ran 0 accepted 0 posted 1",
+    "end 1 1 tick 1 ran 0",
+    "end 1 1 ticks 1 ran 0 accepted 0",
+    "end 1 1 tick 1 ran 18446744073709551615 accepted 0",
+    "end 1 1 tick 1 ran 0 accepted 18446744073709551615 posted 1",
+];
+
 /// The line that is not as it must be, if there is one.
 fn fault(alloc: Global, text: &str) -> Result<Option<u64>, AllocError> {
     match read_events(alloc, text.as_bytes())? {
@@ -36,133 +162,140 @@ fn line_fault(alloc: Global, line: &str) -> Result<Option<u64>, AllocError> {
     fault(alloc, text.as_str())
 }
 
-/// So many posts, of which the last unloads a chunk.
-fn nested(alloc: Global, head: &str, posts: u8) -> Result<String, AllocError> {
-    let mut line = String::new(alloc);
-    line.push_str(head)?;
-    for _ in 0..posts {
-        line.push_str("post 0 0 1 ")?;
+/// Compares the fault of each report with one of these lines.
+fn expect_lines(rt: &impl Abort, alloc: Global, lines: &[&str], expected: Option<u64>) {
+    for line in lines {
+        assert_eq!(rt; line_fault(alloc, line), Ok(expected), "{line}");
     }
-    line.push_str("unload 0 0")?;
-    Ok(line)
+}
+
+/// Whether this is the load at this place of the session.
+fn is_load(place: usize, caller: u32, chunk: ChunkPos, answer: Loaded) -> bool {
+    match place {
+        0 => caller == 0 && chunk.x == 0 && chunk.z == -4 && answer == Loaded::Counted,
+        1 => {
+            let full = Loaded::Full {
+                present: 16380,
+                wanted: 9,
+            };
+            caller == 7 && chunk.x == -1_000_000 && chunk.z == 1_000_000 && answer == full
+        }
+        _ => false,
+    }
+}
+
+/// Whether this is the action that is asked for at this place of the session.
+fn is_action(place: usize, action: &Action) -> bool {
+    match (place, action) {
+        (
+            2,
+            Action::Every {
+                period: 2,
+                left: 3,
+                action,
+            },
+        ) => matches!(action.get(), Action::Set { id: 4, .. }),
+        (
+            3,
+            Action::Every {
+                period: 3,
+                left: 2,
+                action,
+            },
+        ) => is_post_of_copy(action.get()),
+        (
+            11,
+            Action::Send {
+                entity: u32::MAX,
+                to,
+            },
+        ) => to.x == -16_000_000 && to.y == 255 && to.z == 16_000_015,
+        _ => false,
+    }
+}
+
+/// Whether an action posts a copy for the next tick.
+fn is_post_of_copy(action: &Action) -> bool {
+    match action {
+        Action::Post {
+            delay: 1,
+            action,
+            ..
+        } => matches!(action.get(), Action::Copy { .. }),
+        _ => false,
+    }
+}
+
+/// Whether this is what came of the post at this place of the session.
+fn is_posted(place: usize, caller: u32, delay: u32, answer: Accept) -> bool {
+    match place {
+        2 => caller == 0 && delay == 1 && answer == Accept::Posted(1),
+        3 => {
+            let full = Accept::Full {
+                present: 16383,
+                wanted: 2,
+            };
+            caller == 0 && delay == 2 && answer == full
+        }
+        11 => caller == 3 && delay == 1_000_000 && answer == Accept::Posted(12),
+        _ => false,
+    }
+}
+
+/// Whether these are the tasks that the end of the session ran, and the answers to their posts.
+fn is_end(ran: &[Ran], accepts: &[Accept]) -> bool {
+    ran.len() == 3 && accepts.len() == 2 && ran[2].number == 5 && ran[2].outcome == Outcome::Foreign
 }
 
 /// Whether this is the event at this place of the session.
 fn is_told(place: usize, event: &Event) -> bool {
-    match (place, event) {
-        (
-            0,
-            Event::Load {
-                caller: 0,
-                chunk,
-                answer: Loaded::Counted,
-            },
-        ) => { chunk.x == 0 && chunk.z == -4 }
-        (
-            1,
-            Event::Load {
-                caller: 7,
-                chunk,
-                answer: Loaded::Full {
-                    present: 16380,
-                    wanted: 9,
-                },
-            },
-        ) => { chunk.x == -1_000_000 && chunk.z == 1_000_000 }
-        (
-            2,
-            Event::Post {
-                caller: 0,
-                delay: 1,
-                action: Action::Every {
-                    period: 2,
-                    left: 3,
-                    action,
-                },
-                answer: Accept::Posted(1),
-                ..
-            },
-        ) => { matches!(action.get(), Action::Set { id: 4, .. }) }
-        (
-            3,
-            Event::Post {
-                delay: 2,
-                action: Action::Every {
-                    period: 3,
-                    left: 2,
-                    action,
-                },
-                answer: Accept::Full {
-                    present: 16383,
-                    wanted: 2,
-                },
-                ..
-            },
-        ) => {
-            match action.get() {
-                Action::Post {
-                    delay: 1,
-                    action,
-                    ..
-                } => matches!(action.get(), Action::Copy { .. }),
-                _ => false,
-            }
+    match event {
+        Event::Load {
+            caller,
+            chunk,
+            answer,
+        } => is_load(place, *caller, *chunk, *answer),
+        Event::Unload { caller, answer, .. } => match answer {
+            Unloaded::NoTicket => place == 6 && *caller == 1,
+            Unloaded::Lowered => place == 7 && *caller == 1,
+            Unloaded::Over => false,
+        },
+        Event::Post {
+            caller,
+            delay,
+            action,
+            answer,
+            ..
+        } => is_posted(place, *caller, *delay, *answer) && is_action(place, action),
+        Event::PhaseOpen(ticks) => place == 4 && *ticks == 6,
+        Event::Begin { worker, region } => place == 5 && *worker == 1 && *region == u64::MAX,
+        Event::End {
+            worker,
+            region,
+            tick,
+            ran,
+            accepts,
+        } => {
+            place == 8
+                && *worker == 1
+                && *region == 1
+                && *tick == 4
+                && is_end(ran.as_slice(), accepts.as_slice())
         }
-        (4, Event::PhaseOpen(6)) => true,
-        (
-            5,
-            Event::Begin {
-                worker: 1,
-                region: u64::MAX,
-            },
-        ) => true,
-        (
-            6,
-            Event::Unload {
-                caller: 1,
-                answer: Unloaded::NoTicket,
-                ..
-            },
-        ) => true,
-        (
-            7,
-            Event::Unload {
-                caller: 1,
-                answer: Unloaded::Lowered,
-                ..
-            },
-        ) => true,
-        (
-            8,
-            Event::End {
-                worker: 1,
-                region: 1,
-                tick: 4,
-                ran,
-                accepts,
-            },
-        ) => {
-            ran.len() == 3
-                && accepts.len() == 2
-                && ran.as_slice()[2].number == 5
-                && ran.as_slice()[2].outcome == Outcome::Foreign
-        }
-        (9, Event::PhaseClose) => true,
-        (10, Event::Stop { caller: u32::MAX }) => true,
-        (
-            11,
-            Event::Post {
-                caller: 3,
-                delay: 1_000_000,
-                action: Action::Send {
-                    entity: u32::MAX,
-                    to,
-                },
-                ..
-            },
-        ) => { to.x == -16_000_000 && to.y == 255 && to.z == 16_000_015 }
-        (12, Event::Finish) => true,
-        _ => false,
+        Event::PhaseClose => place == 9,
+        Event::Stop { caller } => place == 10 && *caller == u32::MAX,
+        Event::Finish => place == 12,
+    }
+}
+
+/// Compares entries with the session.
+fn expect_session(rt: &impl Abort, entries: &[Entry]) {
+    assert_eq!(rt; entries.len(), 13);
+    let mut place = 0usize;
+    for entry in entries {
+        assert!(rt; is_told(place, &entry.event), "event {place}");
+        assert_eq!(rt; entry.by, 0);
+        place = place.wrapping_add(1);
     }
 }
 
@@ -170,197 +303,99 @@ fn is_told(place: usize, event: &Event) -> bool {
 fn a_history_is_told(rt: HostRuntime) -> Result<(), Fail> {
     match read_events(rt.alloc(), SESSION.as_bytes())? {
         EventLines::Text(line) => assert_eq!(rt; line, 0),
-        EventLines::Events(entries) => {
-            assert_eq!(rt; entries.len(), 13);
-            let mut place = 0usize;
-            for entry in entries.as_slice() {
-                assert!(rt; is_told(place, &entry.event), "event {place}");
-                assert_eq!(rt; entry.by, 0);
-                place = place.wrapping_add(1);
-            }
-        }
+        EventLines::Events(entries) => expect_session(&rt, entries.as_slice()),
     }
     Ok(())
 }
 
 #[test]
-fn heads_and_counts(rt: HostRuntime) -> Result<(), Fail> {
-    let cases = [
-        ("", Some(1)),
-        ("report 1", Some(1)),
-        ("report 2\nevents 0\n", Some(1)),
-        ("report 1 \nevents 0\n", Some(1)),
-        ("report 1\r\nevents 0\n", Some(1)),
-        ("\nreport 1\nevents 0\n", Some(1)),
-        ("report 1\n", Some(2)),
-        ("report 1\nevents 0", Some(2)),
-        ("report 1\nevents\n", Some(2)),
-        ("report 1\nevents 00\n", Some(2)),
-        ("report 1\nevents -1\n", Some(2)),
-        ("report 1\nevents 0 \n", Some(2)),
-        ("report 1\nevents 16777217\n", Some(2)),
-        ("report 1\nevents 18446744073709551616\n", Some(2)),
-        ("report 1\nregions 0\n", Some(2)),
-        ("report 1\nevents 0\n", None),
-        ("report 1\nevents 0\nanything", None),
-        ("report 1\nevents 16777216\n", Some(3)),
-        ("report 1\nevents 1\nclose", Some(3)),
-        ("report 1\nevents 2\nclose\n", Some(4)),
-        ("report 1\nevents 2\nclose\n\n", Some(4)),
-        ("report 1\nevents 2\nclose\nfinish", Some(4)),
-        ("report 1\nevents 1\nclose\nfinish", None),
-        ("report 1\nevents 3\nclose\nclosed\nclose\n", Some(4)),
-    ];
-    for (text, line) in cases {
-        assert_eq!(rt; fault(rt.alloc(), text)?, line, "{text}");
+fn heads_and_counts(rt: HostRuntime) {
+    for (text, line) in HEADS_AND_COUNTS {
+        assert_eq!(rt; fault(rt.alloc(), text), Ok(*line), "{text}");
     }
-    Ok(())
 }
 
 #[test]
-fn event_lines(rt: HostRuntime) -> Result<(), Fail> {
-    let cases = [
-        ("", false),
-        ("close", true),
-        ("close ", false),
-        (" close", false),
-        ("Close", false),
-        ("finish", true),
-        ("stop 4294967295", true),
-        ("stop 4294967296", false),
-        ("stop", false),
-        ("stop 1 1", false),
-        ("open 4294967295", true),
-        ("open 4294967296", false),
-        ("open -1", false),
-        ("open 01", false),
-        ("begin 4294967295 18446744073709551615", true),
-        ("begin 1 18446744073709551616", false),
-        ("begin 1  1", false),
-        ("begin 1\t1", false),
-        ("load 0 -1000000 1000000 counted", true),
-        ("load 0 -1000001 0 counted", false),
-        ("load 0 0 1000001 counted", false),
-        ("load 0 -0 0 counted", false),
-        ("load 0 +1 0 counted", false),
-        ("load -1 0 0 counted", false),
-        ("load 0 0 0 over", false),
-        ("load 0 0 0 lowered", false),
-        ("load 0 0 0 full 4294967295 4294967295", true),
-        ("load 0 0 0 full 4294967296 0", false),
-        ("load 0 0 0 full 1", false),
-        ("load 0 0 0 full 1 1 1", false),
-        ("unload 0 0 0 noticket", true),
-        ("unload 0 0 0 lowered", true),
-        ("unload 0 0 0 counted", false),
-        ("unload 0 0 0 lowered 1", false),
-    ];
-    for (line, fine) in cases {
-        let expected = if fine { None } else { Some(3) };
-        assert_eq!(rt; line_fault(rt.alloc(), line)?, expected, "{line}");
-    }
-    Ok(())
+fn event_lines(rt: HostRuntime) {
+    expect_lines(&rt, rt.alloc(), EVENTS, None);
+    expect_lines(&rt, rt.alloc(), NO_EVENTS, Some(3));
 }
 
 #[test]
-fn posts_and_ends(rt: HostRuntime) -> Result<(), Fail> {
-    let cases = [
-        ("post 0 0 0 1 posted 1 load 0 0", true),
-        ("post 0 0 0 0 posted 1 load 0 0", false),
-        (
-            "post 0 0 0 1000000 posted 18446744073709551615 load 0 0",
-            true,
-        ),
-        ("post 0 0 0 1000001 posted 1 load 0 0", false),
-        ("post 0 0 0 1 posted 18446744073709551616 load 0 0", false),
-        ("post 0 0 0 1 full 1 2 load 0 0", true),
-        ("post 0 0 0 1 full 1 load 0 0", false),
-        ("post 0 0 0 1 load 0 0", false),
-        ("post 0 0 0 1 posted 1", false),
-        ("post 0 0 0 1 posted 1 run 1", false),
-        ("post 0 0 0 1 posted 1 arrive 1 0 0 0", false),
-        (
-            "post 0 0 0 1 posted 1 set 16000015 255 -16000000 65535",
-            true,
-        ),
-        ("post 0 0 0 1 posted 1 set 16000016 0 0 0", false),
-        ("post 0 0 0 1 posted 1 set 0 256 0 0", false),
-        ("post 0 0 0 1 posted 1 set 0 -1 0 0", false),
-        ("post 0 0 0 1 posted 1 set 0 0 0 65536", false),
-        ("post 0 0 0 1 posted 1 copy 0 0 0 0 0 0", true),
-        ("post 0 0 0 1 posted 1 copy 0 0 0 0 0", false),
-        ("post 0 0 0 1 posted 1 copy 0 0 0 0 0 0 0", false),
-        ("post 0 0 0 1 posted 1 send 0 0 0 0", true),
-        ("post 0 0 0 1 posted 1 send 4294967296 0 0 0", false),
-        ("post 0 0 0 1 posted 1 post 0 0 0 unload 0 0", false),
-        ("post 0 0 0 1 posted 1 every 1000000 10000 unload 0 0", true),
-        ("post 0 0 0 1 posted 1 every 0 1 unload 0 0", false),
-        ("post 0 0 0 1 posted 1 every 1 10001 unload 0 0", false),
-        (
-            "post 0 0 0 1 posted 1 every 1 1 every 1 1 unload 0 0",
-            false,
-        ),
-        (
-            "post 0 0 0 1 posted 1 post 0 0 1 every 1 1 unload 0 0",
-            false,
-        ),
-        ("post 0 0 0 1 posted 1 every 1 1 arrive 1 0 0 0", false),
-        ("end 1 1 tick 1 ran 0 accepted 0", true),
-        ("end 1 1 tick 1 ran 1 1 absent accepted 0", true),
-        ("end 1 1 tick 1 ran 1 1 full accepted 1 full 1 2", true),
-        ("end 1 1 tick 1 ran 2 1 done accepted 0", false),
-        ("end 1 1 tick 1 ran 0 1 done accepted 0", false),
-        ("end 1 1 tick 1 ran 0 accepted 1", false),
-        ("end 1 1 tick 1 ran 0 accepted 0 posted 1", false),
-        ("end 1 1 tick 1 ran 0", false),
-        ("end 1 1 ticks 1 ran 0 accepted 0", false),
-        ("end 1 1 tick 1 ran 18446744073709551615 accepted 0", false),
-        (
-            "end 1 1 tick 1 ran 0 accepted 18446744073709551615 posted 1",
-            false,
-        ),
-    ];
-    for (line, fine) in cases {
-        let expected = if fine { None } else { Some(3) };
-        assert_eq!(rt; line_fault(rt.alloc(), line)?, expected, "{line}");
-    }
-    Ok(())
+fn posts(rt: HostRuntime) {
+    expect_lines(&rt, rt.alloc(), POSTS, None);
+    expect_lines(&rt, rt.alloc(), NO_POSTS, Some(3));
 }
 
 #[test]
-fn seven_posts_nest(rt: HostRuntime) -> Result<(), Fail> {
-    let cases = [
-        ("post 0 0 0 1 posted 1 ", 7, None),
-        ("post 0 0 0 1 posted 1 ", 8, Some(3)),
-        ("post 0 0 0 1 posted 1 every 1 1 ", 7, None),
-        ("post 0 0 0 1 posted 1 every 1 1 ", 8, Some(3)),
-        ("post 0 0 0 1 posted 1 ", 200, Some(3)),
-    ];
-    for (head, posts, expected) in cases {
-        let line = nested(rt.alloc(), head, posts)?;
+fn ends(rt: HostRuntime) {
+    expect_lines(&rt, rt.alloc(), ENDS, None);
+    expect_lines(&rt, rt.alloc(), NO_ENDS, Some(3));
+}
+
+/// The fault of a line with so many posts, of which the last unloads a chunk.
+fn nested_fault(alloc: Global, head: &str, posts: usize) -> Result<Option<u64>, AllocError> {
+    let posts = "post 0 0 1 ".repeat(alloc, posts)?;
+    let line = format!(in alloc; "{head}{posts}unload 0 0")?;
+    line_fault(alloc, line.as_str())
+}
+
+/// The head of a line, so many posts behind it, and the fault.
+const NESTED: &[(&str, usize, Option<u64>)] = &[
+    ("post 0 0 0 1 posted 1 ", 7, None),
+    ("post 0 0 0 1 posted 1 ", 8, Some(3)),
+    ("post 0 0 0 1 posted 1 every 1 1 ", 7, None),
+    ("post 0 0 0 1 posted 1 every 1 1 ", 8, Some(3)),
+    ("post 0 0 0 1 posted 1 ", 200, Some(3)),
+];
+
+#[test]
+fn seven_posts_nest(rt: HostRuntime) {
+    for (head, posts, expected) in NESTED {
         assert_eq!(rt;
-            line_fault(rt.alloc(), line.as_str())?,
-            expected,
+            nested_fault(rt.alloc(), head, *posts),
+            Ok(*expected),
             "{head}{posts}"
         );
     }
-    Ok(())
+}
+
+/// What stands before and behind a number in a line.
+const AROUND_NUMBERS: &[(&str, &str)] = &[
+    ("open ", ""),
+    ("begin 1 ", ""),
+    ("load 0 -", " 0 counted"),
+    ("end 1 1 tick 1 ran ", " 1 done"),
+];
+
+/// The fault of a line with these digits in it.
+fn digits_fault(
+    alloc: Global,
+    digits: &str,
+    before: &str,
+    behind: &str,
+) -> Result<Option<u64>, AllocError> {
+    let line = format!(in alloc; "{before}{digits}{behind}")?;
+    line_fault(alloc, line.as_str())
+}
+
+/// The fault of a report with so many events.
+fn count_fault(alloc: Global, digits: &str) -> Result<Option<u64>, AllocError> {
+    let text = format!(in alloc; "report 1\nevents {digits}\n")?;
+    fault(alloc, text.as_str())
 }
 
 #[test]
 fn numbers_of_a_thousand_digits(rt: HostRuntime) -> Result<(), Fail> {
     let digits = "9".repeat(rt.alloc(), 1000)?;
     let digits = digits.as_str();
-    let lines = [
-        format!(in rt.alloc(); "open {digits}")?,
-        format!(in rt.alloc(); "begin 1 {digits}")?,
-        format!(in rt.alloc(); "load 0 -{digits} 0 counted")?,
-        format!(in rt.alloc(); "end 1 1 tick 1 ran {digits} 1 done")?,
-    ];
-    for line in &lines {
-        assert_eq!(rt; line_fault(rt.alloc(), line.as_str())?, Some(3), "{line}");
+    for (before, behind) in AROUND_NUMBERS {
+        assert_eq!(rt;
+            digits_fault(rt.alloc(), digits, before, behind),
+            Ok(Some(3)),
+            "{before}"
+        );
     }
-    let text = format!(in rt.alloc(); "report 1\nevents {digits}\n")?;
-    assert_eq!(rt; fault(rt.alloc(), text.as_str())?, Some(2));
+    assert_eq!(rt; count_fault(rt.alloc(), digits), Ok(Some(2)));
     Ok(())
 }
