@@ -12,8 +12,10 @@ use crate::{
     StdSink, Text, put_in_pieces,
 };
 use std::alloc::{AllocError, Global};
+use std::path::PathBuf;
+use std::process::{self, Abort};
 use std::test::Fail;
-use std::{env, fs, io, process};
+use std::{env, fs, io};
 
 /// Reads one name and then another, as a program does that has only a `Shelf`.
 fn read_both<F: Shelf>(
@@ -95,30 +97,44 @@ fn sink_of(alloc: Global, room: usize, failing: &[u64]) -> Result<MemSink, Alloc
     ))
 }
 
+/// Reads a file of these bytes, and says whether both of two reads in a row gave them and a lower limit none.
+fn reads_file<F: Shelf>(shelf: &mut F, alloc: Global, path: &str, content: &[u8]) -> [bool; 3] {
+    let (whole, again) = read_both(shelf, alloc, path, path, 5000);
+    let less = shelf.read_whole(alloc, path, 4999);
+    [
+        is_whole(&whole, content),
+        is_whole(&again, content),
+        matches!(less, Read::TooLong),
+    ]
+}
+
+/// Reads where no file is, where a folder is, and where nothing is in a file.
+fn expect_no_files<F: Shelf>(rt: &impl Abort, shelf: &mut F, alloc: Global, path: &str) {
+    let none = shelf.read_whole(alloc, path, 5000).is_failed();
+    assert!(rt; none, "no such file");
+    let folder = shelf.read_whole(alloc, "/", 5000).is_failed();
+    assert!(rt; folder, "a directory");
+    let empty = is_whole(&shelf.read_whole(alloc, "/dev/null", 0), b"");
+    assert!(rt; empty);
+}
+
+/// A path that no other process uses.
+fn own_path(rt: &HostRuntime) -> Result<PathBuf, Fail> {
+    let name = format!(in rt.alloc(); "fol-io-test-{}", process::id(rt.process()))?;
+    Ok(env::temp_dir(rt)?.join(rt.alloc(), name.as_str())?)
+}
+
 #[test]
 fn file_shelf_reads_a_file_up_to_the_limit(rt: HostRuntime) -> Result<(), Fail> {
-    let alloc = rt.alloc();
-    let name = format!(in alloc; "fol-io-test-{}", process::id(rt.process()))?;
-    let path = env::temp_dir(&rt)?.join(alloc, name.as_str())?;
+    let path = own_path(&rt)?;
     let path = path.as_path().to_str().ok_or("a path that is no text")?;
-    let content = vec![in alloc; b'x'; 5000]?;
-    fs::write(&rt, path, content.as_slice())?;
+    let content = [b'x'; 5000];
+    fs::write(&rt, path, &content)?;
     let mut shelf = FileShelf::new(&rt);
-    let (whole, again) = read_both(&mut shelf, alloc, path, path, 5000);
-    let too_long = shelf.read_whole(alloc, path, 4999);
+    let told = reads_file(&mut shelf, rt.alloc(), path, &content);
     fs::remove_file(&rt, path)?;
-    assert!(rt; is_whole(&whole, content.as_slice()));
-    assert!(rt; is_whole(&again, content.as_slice()));
-    assert!(rt; matches!(too_long, Read::TooLong));
-    assert!(rt;
-        shelf.read_whole(alloc, path, 5000).is_failed(),
-        "no such file"
-    );
-    assert!(rt;
-        shelf.read_whole(alloc, "/", 5000).is_failed(),
-        "a directory"
-    );
-    assert!(rt; is_whole(&shelf.read_whole(alloc, "/dev/null", 0), b""));
+    assert_eq!(rt; told, [true, true, true]);
+    expect_no_files(&rt, &mut shelf, rt.alloc(), path);
     Ok(())
 }
 
@@ -128,35 +144,51 @@ fn a_source_that_breaks_in_mid_stream_is_a_fault(rt: HostRuntime) {
         piece: Some(*b"abc"),
     };
     let taken = read_to_limit(rt.alloc(), &mut source, 100);
-    assert!(rt; taken.read.is_failed());
-    assert_eq!(rt; taken.count, 3);
+    assert_eq!(rt; (taken.read.is_failed(), taken.count), (true, 3));
 }
 
 #[test]
 fn std_sinks_write_to_the_streams(rt: HostRuntime) {
     let mut out = StdSink::out(&rt);
     let mut err = StdSink::err(&rt);
-    assert_eq!(rt; put_in_pieces(&mut out, b"to the output\n"), Put::Ok);
-    assert_eq!(rt; err.put(b"to the error\n"), Put::Ok);
-    assert_eq!(rt; err.put(b""), Put::Ok);
+    let puts = [
+        put_in_pieces(&mut out, b"to the output\n"),
+        err.put(b"to the error\n"),
+        err.put(b""),
+    ];
+    assert_eq!(rt; puts, [Put::Ok; 3]);
 }
 
-#[test]
-fn mem_shelf_gives_what_it_holds(rt: HostRuntime) -> Result<(), Fail> {
-    let alloc = rt.alloc();
-    let mut shelf = small_shelf(alloc, &[2, 5])?;
-    let (world, by_number) = read_both(&mut shelf, alloc, "world", "script", 8);
-    assert!(rt;
-        is_whole(&world, b"world 1\n"),
-        "as many bytes as the limit"
-    );
-    assert!(rt; by_number.is_failed(), "the second read fails");
-    let (too_long, not_held) = read_both(&mut shelf, alloc, "world", "nowhere", 7);
-    assert!(rt; matches!(too_long, Read::TooLong));
-    assert!(rt; not_held.is_failed(), "it holds no such name");
-    let (by_both, script) = read_both(&mut shelf, alloc, "no place", "script", 0);
-    assert!(rt; by_both.is_failed(), "the fifth read fails");
-    assert!(rt; is_whole(&script, b""));
+/// Compares a read with the bytes that it must give.
+fn expect_whole(rt: &impl Abort, read: &Read, bytes: &[u8], note: &str) {
+    assert!(rt; is_whole(read, bytes), "{note}");
+}
+
+/// A read that must meet a fault.
+fn expect_failed(rt: &impl Abort, read: &Read, note: &str) {
+    assert!(rt; read.is_failed(), "{note}");
+}
+
+/// A read of more bytes than its limit.
+fn expect_too_long(rt: &impl Abort, read: &Read) {
+    assert!(rt; matches!(read, Read::TooLong));
+}
+
+/// Compares the reads of a small shelf whose second and fifth read fail.
+fn expect_reads(rt: &impl Abort, alloc: Global, shelf: &mut MemShelf) {
+    let (world, by_number) = read_both(shelf, alloc, "world", "script", 8);
+    expect_whole(rt, &world, b"world 1\n", "as many bytes as the limit");
+    expect_failed(rt, &by_number, "the second read fails");
+    let (too_long, not_held) = read_both(shelf, alloc, "world", "nowhere", 7);
+    expect_too_long(rt, &too_long);
+    expect_failed(rt, &not_held, "it holds no such name");
+    let (by_both, script) = read_both(shelf, alloc, "no place", "script", 0);
+    expect_failed(rt, &by_both, "the fifth read fails");
+    expect_whole(rt, &script, b"", "no byte, as the limit");
+}
+
+/// Compares the counts of a shelf after these reads.
+fn expect_faults(rt: &impl Abort, shelf: &MemShelf) {
     assert_eq!(rt; shelf.faults("world"), 0);
     assert_eq!(rt; shelf.faults("script"), 1);
     assert_eq!(rt;
@@ -164,13 +196,18 @@ fn mem_shelf_gives_what_it_holds(rt: HostRuntime) -> Result<(), Fail> {
         2,
         "all names that are not held share one count"
     );
-    Ok(())
 }
 
 #[test]
-fn mem_sink_fails_by_number_and_by_room(rt: HostRuntime) -> Result<(), Fail> {
-    let alloc = rt.alloc();
-    let mut sink = sink_of(alloc, 5, &[2])?;
+fn mem_shelf_gives_what_it_holds(rt: HostRuntime) -> Result<(), Fail> {
+    let mut shelf = small_shelf(rt.alloc(), &[2, 5])?;
+    expect_reads(&rt, rt.alloc(), &mut shelf);
+    expect_faults(&rt, &shelf);
+    Ok(())
+}
+
+/// Puts into an empty sink with a room of five bytes, whose second put fails.
+fn expect_puts(rt: &impl Abort, sink: &mut MemSink) {
     assert_eq!(rt; sink.put(b"ab"), Put::Ok);
     assert_eq!(rt; sink.put(b""), Put::Ok, "an empty piece has no number");
     assert_eq!(rt; sink.put(b"c"), Put::Failed, "the second put");
@@ -182,30 +219,41 @@ fn mem_sink_fails_by_number_and_by_room(rt: HostRuntime) -> Result<(), Fail> {
     assert_eq!(rt; sink.put(b"cde"), Put::Ok, "three bytes fit");
     assert_eq!(rt; sink.bytes(), b"abcde".as_slice());
     assert_eq!(rt; sink.faults(), 2);
-    Ok(())
 }
 
 #[test]
-fn an_output_is_put_in_pieces_of_4096_bytes(rt: HostRuntime) -> Result<(), Fail> {
-    let alloc = rt.alloc();
-    let output = vec![in alloc; b'o'; 10000]?;
+fn mem_sink_fails_by_number_and_by_room(rt: HostRuntime) -> Result<(), Fail> {
+    let mut sink = sink_of(rt.alloc(), 5, &[2])?;
+    expect_puts(&rt, &mut sink);
+    Ok(())
+}
+
+/// Puts an output into an empty sink of this room whose put of this number fails, and tells how many bytes it has then.
+fn put_into(
+    alloc: Global,
+    output: &[u8],
+    room: usize,
+    failing: u64,
+) -> Result<(Put, usize), AllocError> {
+    let mut sink = sink_of(alloc, room, &[failing])?;
+    let put = put_in_pieces(&mut sink, output);
+    Ok((put, sink.bytes().len()))
+}
+
+#[test]
+fn an_output_is_put_in_pieces_of_4096_bytes(rt: HostRuntime) {
+    let output = [b'o'; 10000];
     for (failing, want, received) in [
         (1, Put::Failed, 0),
         (2, Put::Failed, 4096),
         (3, Put::Failed, 8192),
         (4, Put::Ok, 10000),
     ] {
-        let mut sink = sink_of(alloc, 10000, &[failing])?;
-        assert_eq!(rt;
-            put_in_pieces(&mut sink, output.as_slice()),
-            want,
-            "put {failing}"
-        );
-        assert_eq!(rt; sink.bytes().len(), received, "put {failing}");
+        let put = put_into(rt.alloc(), &output, 10000, failing);
+        assert_eq!(rt; put, Ok((want, received)), "put {failing}");
     }
-    let mut sink = sink_of(alloc, 0, &[1])?;
-    assert_eq!(rt; put_in_pieces(&mut sink, b""), Put::Ok, "no put is made");
-    Ok(())
+    let put = put_into(rt.alloc(), b"", 0, 1);
+    assert_eq!(rt; put, Ok((Put::Ok, 0)), "no put is made");
 }
 
 fn pass<G: Gate + Sync>(gate: &G) {
@@ -214,10 +262,12 @@ fn pass<G: Gate + Sync>(gate: &G) {
 
 #[test]
 fn lists_and_gates_are_as_they_were_made(rt: HostRuntime) -> Result<(), Fail> {
-    let alloc = rt.alloc();
-    let file = named(alloc, "world", b"abc")?;
-    assert_eq!(rt; file.name.as_str(), "world");
-    assert_eq!(rt; file.bytes.into_vec().as_slice(), b"abc".as_slice());
+    let NamedBytes { name, bytes, .. } = named(rt.alloc(), "world", b"abc")?;
+    let bytes = bytes.into_vec();
+    assert_eq!(rt;
+        (name.as_str(), bytes.as_slice()),
+        ("world", b"abc".as_slice())
+    );
     pass(&QuietGate);
     Ok(())
 }
