@@ -1,11 +1,10 @@
 //! What only a run can show.
 
-ghost use Rattle.std.specs.Prelude.{◌≡◌};
+ghost use Rattle.std.specs.Prelude.{◌≡◌, []};
 
 use crate::Queues;
 use fol_model::{Action, BlockPos, ChunkPos, Task};
 use std::alloc::{AllocError, Global};
-use std::test::Fail;
 
 fn task(number: u64, x: i32) -> Task
     ensures { result.number ≡ number }
@@ -30,64 +29,78 @@ fn queue_of(alloc: Global, delays: &[u8]) -> Result<Queues, AllocError> {
     Ok(queues)
 }
 
-/// The numbers of the tasks that are taken at `now`.
-fn taken(alloc: Global, queues: &mut Queues, now: u64) -> Result<Vec<u64>, AllocError> {
+/// Whether just the tasks with these numbers are taken at `now`, in this order.
+fn takes(
+    alloc: Global,
+    queues: &mut Queues,
+    now: u64,
+    numbers: &[u64],
+) -> Result<bool, AllocError> {
     let room = queues.count_due(now);
     let mut out = Vec::with_capacity(alloc, room as usize)?;
     queues.take_due(now, &mut out);
-    out.iter().map(|task| task.number).collect(alloc)
+    Ok(
+        out.iter()
+            .map(|task| task.number)
+            .eq(numbers.iter().copied()),
+    )
+}
+
+/// Whether each of these tasks is taken at the first of three times at which it is due.
+fn takes_once(alloc: Global, queues: &mut Queues) -> Result<bool, AllocError> {
+    let is_early = takes(alloc, queues, 0, &[])?;
+    let count = queues.count_due(3);
+    let is_due = takes(alloc, queues, 3, &[2, 4, 5, 7])?;
+    let is_over = takes(alloc, queues, 3, &[])?;
+    let is_late = takes(alloc, queues, 9, &[1, 3, 6])?;
+    Ok(count == 4 && is_early && is_due && is_over && is_late)
 }
 
 /// Nothing is taken before it is due, what is due is taken once, and in order of number.
 #[test]
-fn takes_what_is_due(rt: HostRuntime) -> Result<(), Fail> {
+fn takes_what_is_due(rt: HostRuntime) -> Result<(), AllocError> {
     let mut queues = queue_of(rt.alloc(), &[5, 3, 9, 1, 3, 7, 2])?;
-    assert_eq!(rt;
-        taken(rt.alloc(), &mut queues, 0)?.as_slice(),
-        [].as_slice()
-    );
-    assert_eq!(rt; queues.count_due(3), 4);
-    assert_eq!(rt;
-        taken(rt.alloc(), &mut queues, 3)?.as_slice(),
-        [2, 4, 5, 7].as_slice()
-    );
-    assert_eq!(rt;
-        taken(rt.alloc(), &mut queues, 3)?.as_slice(),
-        [].as_slice()
-    );
-    assert_eq!(rt;
-        taken(rt.alloc(), &mut queues, 9)?.as_slice(),
-        [1, 3, 6].as_slice()
-    );
-    assert_eq!(rt; queues.into_tasks().len(), 0);
+    let is_right = takes_once(rt.alloc(), &mut queues)?;
+    let left = queues.into_tasks().len();
+    assert!(rt; is_right);
+    assert_eq!(rt; left, 0);
     Ok(())
 }
 
 /// All tasks come out with their deadlines.
 #[test]
-fn gives_all_tasks(rt: HostRuntime) -> Result<(), Fail> {
+fn gives_all_tasks(rt: HostRuntime) -> Result<(), AllocError> {
     let tasks = queue_of(rt.alloc(), &[5, 3, 9])?.into_tasks();
-    assert_eq!(rt; tasks.len(), 3);
-    assert!(rt;
-        tasks
+    let is_right = tasks.len() == 3
+        && tasks
             .iter()
-            .any(|task| task.task.number == 2 && task.deadline == 3)
-    );
+            .any(|task| task.task.number == 2 && task.deadline == 3);
+    assert!(rt; is_right);
     Ok(())
+}
+
+/// Whether a task that is due at 3 moves with its chunk, by an offset of 6, and is due at 9.
+fn moves(alloc: Global, queues: &mut Queues, into: &mut Queues) -> Result<bool, AllocError>
+    requires here { queues.old.tasks ≡ [] }
+    requires there { into.old.tasks ≡ [] }
+{
+    let chunks = [ChunkPos { x: 4, z: 0 }];
+    queues.reserve(1)?;
+    queues.accept(task(1, 4), 3, 0);
+    into.reserve(queues.count_listed(&chunks))?;
+    queues.move_listed(&chunks, into, 6);
+    let is_early = takes(alloc, into, 8, &[])?;
+    let is_due = takes(alloc, into, 9, &[1])?;
+    Ok(is_early && is_due)
 }
 
 /// A task goes with its chunk, and its deadline moves by the offset: due at 3 becomes due at 9.
 #[test]
-fn moves_a_list(rt: HostRuntime) -> Result<(), Fail> {
-    let chunks = [ChunkPos { x: 4, z: 0 }];
+fn moves_a_list(rt: HostRuntime) -> Result<(), AllocError> {
     let mut queues = Queues::new(rt.alloc());
-    queues.reserve(1)?;
-    queues.accept(task(1, 4), 3, 0);
     let mut into = Queues::new(rt.alloc());
-    into.reserve(queues.count_listed(&chunks))?;
-    queues.move_listed(&chunks, &mut into, 6);
-    assert_eq!(rt; queues.into_tasks().len(), 0);
-    assert_eq!(rt; taken(rt.alloc(), &mut into, 8)?.len(), 0);
-    assert_eq!(rt; taken(rt.alloc(), &mut into, 9)?.as_slice(), [1].as_slice());
+    let is_right = moves(rt.alloc(), &mut queues, &mut into)?;
+    let left = queues.into_tasks().len();
+    assert!(rt; is_right && left == 0);
     Ok(())
 }
