@@ -1,4 +1,6 @@
 //! What the answers say on small tables, and the border of what fits.
+//!
+//! A table ends with a call of `drop`, so that what it gives back is proved once, and not again in each test.
 
 use crate::{Added, Removed, Sections};
 use fol_model::{ChunkPos, Grid, SectionPos, distance, section_of};
@@ -76,6 +78,7 @@ fn sections_come_and_are_shared(rt: HostRuntime) {
     ];
     filled_is(&rt, &sections, &made);
     count_is(&rt, &sections, 21);
+    drop(sections);
 }
 
 #[test]
@@ -85,6 +88,8 @@ fn holds_fall_and_a_copy_is_the_same(rt: HostRuntime) {
     unload_first(&rt, &mut sections);
     let copy = sections.copy(rt.alloc()).expect(&rt, "memory");
     count_is(&rt, &copy, 21);
+    drop(copy);
+    drop(sections);
 }
 
 /// So many sections with a loaded chunk are near a section, which is present.
@@ -118,6 +123,7 @@ fn dead_sections_leave(rt: HostRuntime) {
     load(&rt, &mut sections, 48, 0);
     sections.remove(ChunkPos { x: 48, z: 0 });
     one_leaves(&rt, rt.alloc(), &mut sections);
+    drop(sections);
 }
 
 /// The loaded chunks of a section are these.
@@ -154,6 +160,7 @@ fn chunks_are_listed(rt: HostRuntime) {
     ];
     let section = SectionPos { x: -1, z: -1 };
     chunks_are(&rt, rt.alloc(), &sections, section, &chunks);
+    drop(sections);
 }
 
 /// The same table as two plain lists, which counts anew at each question.
@@ -291,6 +298,8 @@ fn stay_alike(rt: &impl Abort, alloc: Global, grid: Grid, row: &[(i32, i32); 4])
     load_both(rt, &mut sections, &mut plain, &chunks);
     compare(rt, &sections, &plain);
     unload_both(rt, alloc, &mut sections, &mut plain, &chunks);
+    drop(sections);
+    drop(plain);
 }
 
 #[test]
@@ -320,6 +329,7 @@ fn no_more_than_fit(rt: HostRuntime) {
         adds(&rt, &mut sections, 40 * i as i32, Added::Filled, 289);
     }
     is_full(&rt, &mut sections, 2_240, 16_184, 289);
+    drop(sections);
 }
 
 /// Loads a square of four chunks.
@@ -339,4 +349,5 @@ fn the_last_place_is_used(rt: HostRuntime) {
     }
     adds(&rt, &mut sections, 0, Added::Counted, 0);
     is_full(&rt, &mut sections, 9_000, 16_384, 9);
+    drop(sections);
 }
