@@ -293,8 +293,8 @@ fn expect_session(rt: &impl Abort, entries: &[Entry]) {
     assert_eq!(rt; entries.len(), 13);
     let mut place = 0usize;
     for entry in entries {
-        assert!(rt; is_told(place, &entry.event), "event {place}");
-        assert_eq!(rt; entry.by, 0);
+        let is_as_told = entry.by == 0 && is_told(place, &entry.event);
+        assert!(rt; is_as_told, "event {place}");
         place = place.wrapping_add(1);
     }
 }
@@ -385,17 +385,21 @@ fn count_fault(alloc: Global, digits: &str) -> Result<Option<u64>, AllocError> {
     fault(alloc, text.as_str())
 }
 
-#[test]
-fn numbers_of_a_thousand_digits(rt: HostRuntime) -> Result<(), Fail> {
-    let digits = "9".repeat(rt.alloc(), 1000)?;
-    let digits = digits.as_str();
+/// Compares the fault of each line and of a count with such digits, more than any number has.
+fn expect_too_long(rt: &impl Abort, alloc: Global, digits: &str) {
     for (before, behind) in AROUND_NUMBERS {
         assert_eq!(rt;
-            digits_fault(rt.alloc(), digits, before, behind),
+            digits_fault(alloc, digits, before, behind),
             Ok(Some(3)),
             "{before}"
         );
     }
-    assert_eq!(rt; count_fault(rt.alloc(), digits), Ok(Some(2)));
+    assert_eq!(rt; count_fault(alloc, digits), Ok(Some(2)));
+}
+
+#[test]
+fn numbers_of_a_thousand_digits(rt: HostRuntime) -> Result<(), Fail> {
+    let digits = "9".repeat(rt.alloc(), 1000)?;
+    expect_too_long(&rt, rt.alloc(), digits.as_str());
     Ok(())
 }
