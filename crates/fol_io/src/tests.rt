@@ -187,15 +187,14 @@ fn expect_reads(rt: &impl Abort, alloc: Global, shelf: &mut MemShelf) {
     expect_whole(rt, &script, b"", "no byte, as the limit");
 }
 
-/// Compares the counts of a shelf after these reads.
+/// Compares the counts of a shelf after these reads. All names that are not held share one count.
 fn expect_faults(rt: &impl Abort, shelf: &MemShelf) {
-    assert_eq!(rt; shelf.faults("world"), 0);
-    assert_eq!(rt; shelf.faults("script"), 1);
-    assert_eq!(rt;
+    let faults = [
+        shelf.faults("world"),
+        shelf.faults("script"),
         shelf.faults("nowhere"),
-        2,
-        "all names that are not held share one count"
-    );
+    ];
+    assert_eq!(rt; faults, [0, 1, 2]);
 }
 
 #[test]
@@ -207,24 +206,22 @@ fn mem_shelf_gives_what_it_holds(rt: HostRuntime) -> Result<(), Fail> {
 }
 
 /// Puts into an empty sink with a room of five bytes, whose second put fails.
-fn expect_puts(rt: &impl Abort, sink: &mut MemSink) {
-    assert_eq!(rt; sink.put(b"ab"), Put::Ok);
-    assert_eq!(rt; sink.put(b""), Put::Ok, "an empty piece has no number");
-    assert_eq!(rt; sink.put(b"c"), Put::Failed, "the second put");
-    assert_eq!(rt;
-        sink.put(b"cdef"),
-        Put::Failed,
-        "four bytes into a room of three"
-    );
-    assert_eq!(rt; sink.put(b"cde"), Put::Ok, "three bytes fit");
-    assert_eq!(rt; sink.bytes(), b"abcde".as_slice());
-    assert_eq!(rt; sink.faults(), 2);
+fn put_all(sink: &mut MemSink) -> [Put; 5] {
+    let fits = sink.put(b"ab");
+    let has_no_number = sink.put(b"");
+    let second = sink.put(b"c");
+    let too_long = sink.put(b"cdef");
+    let fits_still = sink.put(b"cde");
+    [fits, has_no_number, second, too_long, fits_still]
 }
 
 #[test]
 fn mem_sink_fails_by_number_and_by_room(rt: HostRuntime) -> Result<(), Fail> {
     let mut sink = sink_of(rt.alloc(), 5, &[2])?;
-    expect_puts(&rt, &mut sink);
+    let puts = put_all(&mut sink);
+    let wanted = [Put::Ok, Put::Ok, Put::Failed, Put::Failed, Put::Ok];
+    assert_eq!(rt; puts, wanted);
+    assert_eq!(rt; (sink.bytes(), sink.faults()), (b"abcde".as_slice(), 2));
     Ok(())
 }
 
