@@ -1,3 +1,4 @@
 pub mod JsonData
 pub mod Spaced
 pub mod Tallies
+pub mod Tails

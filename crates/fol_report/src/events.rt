@@ -7,7 +7,8 @@ ghost use Rattle.fol_report.specs.Spaced.{joined, spaced, tasks_words};
 use crate::actions::put_action;
 use crate::answers::{put_accept, put_all_accepts, put_all_ran, put_loaded, put_unloaded};
 use crate::lines::Line;
-use crate::words::{put_chunk, put_digits, put_number};
+use crate::tail::Tail;
+use crate::words::{put_chunk, put_number};
 use fol_model::{Accept, Action, ChunkPos, Entry, Event, Loaded, Ran, Unloaded};
 use std::alloc::AllocError;
 
@@ -16,9 +17,12 @@ fn put_begin(out: &mut String, worker: u32, region: u64) -> Result<(), AllocErro
     ensures { IfOk result (λ _. string_bytes out.new
         ≡ string_bytes out.old ++ joined (codes "begin" ∷ decimal worker ∷ decimal region ∷ [])) }
 {
-    out.push_str("begin ")?;
-    put_digits(out, worker)?;
-    put_number(out, region)
+    let mut line = Tail::new();
+    line.push_number(region);
+    line.push_word(b" ");
+    line.push_number(worker as u64);
+    line.push_word(b"begin ");
+    line.put(out)
 }
 
 /// Puts the tasks that ran, after their count.
@@ -70,11 +74,14 @@ fn put_ended(out: &mut String, worker: u32, region: u64, tick: u64) -> Result<()
         ≡ string_bytes out.old ++ joined
         (codes "end" ∷ decimal worker ∷ decimal region ∷ codes "tick" ∷ decimal tick ∷ [])) }
 {
-    out.push_str("end ")?;
-    put_digits(out, worker)?;
-    put_number(out, region)?;
-    out.push_str(" tick ")?;
-    put_digits(out, tick)
+    let mut line = Tail::new();
+    line.push_number(tick);
+    line.push_word(b" tick ");
+    line.push_number(region);
+    line.push_word(b" ");
+    line.push_number(worker as u64);
+    line.push_word(b"end ");
+    line.put(out)
 }
 
 /// Puts the line of an end: the other of the two most frequent lines.
@@ -105,7 +112,8 @@ fn put_load(
         ≡ string_bytes out.old ++ joined (codes "load" ∷ decimal caller ∷ chunk_words chunk
         ++ loaded_words answer)) }
 {
-    write!(out, "load {caller}")?;
+    out.push_str("load")?;
+    put_number(out, caller)?;
     put_chunk(out, chunk)?;
     put_loaded(out, answer)
 }
@@ -121,7 +129,8 @@ fn put_unload(
         ≡ string_bytes out.old ++ joined (codes "unload" ∷ decimal caller ∷ chunk_words chunk
         ++ unloaded_words answer)) }
 {
-    write!(out, "unload {caller}")?;
+    out.push_str("unload")?;
+    put_number(out, caller)?;
     put_chunk(out, chunk)?;
     put_unloaded(out, answer)
 }
@@ -139,7 +148,8 @@ fn put_post(
         ≡ string_bytes out.old ++ joined (codes "post" ∷ decimal caller ∷ chunk_words chunk
         ++ decimal delay ∷ accept_words answer ++ action_words action.now)) }
 {
-    write!(out, "post {caller}")?;
+    out.push_str("post")?;
+    put_number(out, caller)?;
     put_chunk(out, chunk)?;
     put_number(out, delay)?;
     put_accept(out, answer)?;

@@ -15,6 +15,7 @@ mod events;
 mod json_form;
 mod lines;
 mod rows;
+mod tail;
 mod text;
 mod words;
 

@@ -25,15 +25,6 @@ pub fn put_number<I: Integer>(out: &mut String, number: I) -> Result<(), AllocEr
     put_word(out, buffer.format(number))
 }
 
-/// Puts a number behind a text that ends with a space.
-pub fn put_digits<I: Integer>(out: &mut String, number: I) -> Result<(), AllocError>
-    ensures { IfOk result (λ _. string_bytes out.new ≡ string_bytes out.old ++ I.text number) }
-{
-    let mut buffer = Buffer::new();
-    out.push_str(buffer.format(number))?;
-    Ok(())
-}
-
 /// Puts the coordinates of a chunk.
 pub fn put_chunk(out: &mut String, at: ChunkPos) -> Result<(), AllocError>
     ensures { IfOk result (λ _. string_bytes out.new

@@ -1,0 +1,8 @@
+use Rattle.std.proofs.Common.{◌-◌, drop, arith, take_all, length-drop, length}
+use Rattle.std.proofs.lemmas.Str.{IsUtf8-from_ascii}
+use Rattle.fol_report.proofs.tail.Tail.put.Goals as goal
+
+pub from_utf8_unchecked-requires : goal.from_utf8_unchecked-requires
+from_utf8_unchecked-requires c =
+    let t = c.self.inside in
+    IsUtf8-from_ascii _ (rw (take_all (80 - t.start) (drop t.start t.bytes) (omega (arith, c.self.invariant.room, length-drop t.start t.bytes))) c.self.invariant.ascii)
