@@ -1,5 +1,5 @@
 -- Lists as spans of one vector, when the vector grows or a span changes.
-use Rattle.std.proofs.Common.{◌≡◌, ◌≢◌, ℕ, zero, suc, ◌+◌, ◌-◌, ◌*◌, ◌≤◌, ◌<◌, refl, sym, ◌∙◌, ap, arith, inl, inr, List, [], ◌∷◌, ◌++◌, length, get_or, take, drop, length-append, length-drop}
+use Rattle.std.proofs.Common.{◌≡◌, ℕ, zero, suc, ◌+◌, ◌-◌, ◌*◌, ◌≤◌, ◌<◌, refl, sym, ◌∙◌, ap, arith, inl, inr, List, [], ◌∷◌, ◌++◌, length, get_or, take, drop, length-append, length-drop}
 use Rattle.std.specs.Prelude.{slice_set, sum_by, replicate}
 use Rattle.std.specs.List.{All, slice_range}
 use Rattle.std.proofs.lemmas.List.{get_or_default, get_or_past, get_or_append_left, get_or-append_right, get_or-replicate, length-replicate, length-take, take-append-drop, take-append-le, drop-append-le, take_all, drop_at, map-set, set-get_or, get_or-map, length-map, length-set, length-take-le, get_or-set_other, get_or-set_same, set-set, map-append}

@@ -1,5 +1,5 @@
 -- What the lists are seen as, after a step on the spans.
-use Rattle.std.proofs.Common.{◌≡◌, ℕ, ◌-◌, ◌≤◌, List, [], ◌∷◌, ◌++◌, refl, sym, ◌∙◌, ap, length, take, drop, ◌<◌, arith}
+use Rattle.std.proofs.Common.{◌≡◌, ℕ, ◌-◌, ◌≤◌, List, [], ◌++◌, sym, ◌∙◌, ap, length, take, drop, ◌<◌, arith}
 use Rattle.fol_lists.specs.declared.spans.Span.{Span}
 use Rattle.std.specs.Prelude.{replicate}
 use Rattle.fol_lists.specs.Numbered.{Numbered, with_numbers}

@@ -8,7 +8,7 @@ ghost use Rattle.fol_lists.specs.Spans.{AreSpans, HasRoom, IsLast, IsSpan, piece
 use crate::spans::Span;
 use std::mem;
 
-/// Writes one list behind those of another vector, and says where it is there.
+/// Writes one list behind those of another vector, and says where it is there. Most lists are empty, and nothing is copied for these.
 fn write<T: Copy>(cells: &[T], span: Span, into: &mut Vec<T>) -> Span
     requires fit { IsSpan (length cells.now) span }
     requires room { length into.old.items + length (piece_of cells.now span)
@@ -19,7 +19,9 @@ fn write<T: Copy>(cells: &[T], span: Span, into: &mut Vec<T>) -> Span
     ensures capacity { vec_capacity into.old ≤ vec_capacity into.new }
 {
     let from = into.len();
-    let _ = into.extend_from_slice(&cells[span.from..span.to]);
+    if span.from < span.to {
+        let _ = into.extend_from_slice(&cells[span.from..span.to]);
+    }
     Span {
         from,
         to: into.len(),

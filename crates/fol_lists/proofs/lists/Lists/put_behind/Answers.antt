@@ -1,4 +1,4 @@
-use Rattle.std.proofs.Common.{arith, take, length}
+use Rattle.std.proofs.Common.{arith, take}
 use Rattle.fol_lists.specs.Numbered.{list_at}
 use Rattle.fol_lists.proofs.Pieces.{total_put, put_is}
 use Rattle.fol_lists.proofs.Views.{numbered_is}

@@ -1,8 +1,8 @@
 use Rattle.std.proofs.Common.{◌≡◌, ◌-◌, ◌++◌, ◌∙◌, arith}
 use Rattle.std.specs.Prelude.{replicate, vec_len}
 use Rattle.fol_lists.specs.declared.spans.Span.{Span}
-use Rattle.fol_lists.proofs.Pieces.{last_added, pieces_added, spans_added, resized}
-use Rattle.fol_lists.proofs.Views.{numbered_is, numbers_enough, numbers_added}
+use Rattle.fol_lists.proofs.Pieces.{last_added, spans_added, resized}
+use Rattle.fol_lists.proofs.Views.{numbers_enough, numbers_added}
 use Rattle.fol_lists.proofs.lists.Lists.reserve_numbers.Goals as goal
 
 pub invariant_of-self-2 : goal.invariant_of-self-2
