@@ -1,6 +1,6 @@
 -- The loaded chunks of a region, counted and listed section by section.
 use Rattle.std.proofs.Common.{◌≡◌, ℕ, zero, suc, ◌+◌, ◌≤◌, ◌<◌, refl, sym, ◌∙◌, ap, arith, Bool, true, false, cond, inl, inr, ◌&&◌, ◌||◌, List, [], ◌∷◌, ◌++◌, length, get_or, take, subst}
-use Rattle.std.specs.Prelude.{nat_eq, nat_lt, count_by, filter}
+use Rattle.std.specs.Prelude.{nat_eq, nat_lt, count_by, filter, sum_by}
 use Rattle.std.specs.List.Sorted.{IsPermutation, IsSortedBy, IsStrictlySortedBy}
 use Rattle.std.specs.Ordering.{is_lt}
 use Rattle.std.specs.declared.cmp.Ordering.TheVariants.{Less}
@@ -8,7 +8,7 @@ use Rattle.std.proofs.lemmas.Bool.{cases_Bool, true≢false, and_parts, and_from
 use Rattle.std.proofs.lemmas.List.{take_all}
 use Rattle.std.proofs.lemmas.List.Kept.{IsStrictlySortedBy-filter}
 use Rattle.std.proofs.lemmas.List.Sorted.{IsPermutation-append_left, IsPermutation-sym, IsPermutation-trans, length_permutation}
-use Rattle.std.proofs.lemmas.List.Sums.{length-filter}
+use Rattle.std.proofs.lemmas.List.Sums.{length-filter, sum_by_more}
 use Rattle.std.proofs.lemmas.Map.Keys.{Less-from_sorted}
 use Rattle.std.proofs.Math.Path.{fun_ext}
 use Rattle.fol_model.specs.declared.places.ChunkPos.{ChunkPos}
@@ -131,7 +131,7 @@ counted_all s b r i h pos l =
     ap (λ xs. count_by (is_loaded_among s xs) all_chunks) (take_all i (rows_of b r) l)
     ∙ ap (λ p. count_by p all_chunks) (fun_ext (λ c. ap (λ v. nat_lt 0 (holds_of s c) && v) (row_members b r pos h (section_of s.grid c))))
 
-pub counted_none : (s : sections.Table) (xs : List SectionPos) → count_by (is_loaded_among s (take 0 xs)) all_chunks ≡ 0
+counted_none : (s : sections.Table) (xs : List SectionPos) → count_by (is_loaded_among s (take 0 xs)) all_chunks ≡ 0
 counted_none s xs = none_at all_chunks
   where
     none_at : (cs : List ChunkPos) → count_by (is_loaded_among s (take 0 xs)) cs ≡ 0
@@ -147,3 +147,19 @@ counted_rows s b r h pos = ap (λ xs. count_by (is_loaded_among s xs) all_chunks
 pub listed_rows : (s : sections.Table) (b : Book) (r : ℕ) → IsBook b → 0 < r → filter (is_loaded_among s (rows_of b r)) all_chunks ≡ filter (is_chunk_of (grid_of s b) r) all_chunks
 unfolding grid_of
 listed_rows s b r h pos = filter_like (is_loaded_among s (rows_of b r)) (is_chunk_of (grid_of s b) r) (λ c. ap (λ v. nat_lt 0 (holds_of s c) && v) (row_members b r pos h (section_of s.grid c))) all_chunks
+
+-- the chunks of a rising list, section by section
+pub counted_sum : (s : sections.Table) (xs : List SectionPos) (d : SectionPos) → IsStrictlySortedBy section_cmp xs → sum_by (loaded_count s) xs ≡ count_by (is_loaded_among s xs) all_chunks
+counted_sum s xs d h = ap (sum_by (loaded_count s)) (sym (all (length xs) (omega arith))) ∙ go (length xs) (omega arith) ∙ ap (λ ys. count_by (is_loaded_among s ys) all_chunks) (all (length xs) (omega arith))
+  where
+    all : (i : ℕ) → length xs ≤ i → take i xs ≡ xs
+    all i l = take_all i xs l
+
+    go : (i : ℕ) → i ≤ length xs → sum_by (loaded_count s) (take i xs) ≡ count_by (is_loaded_among s (take i xs)) all_chunks
+    go zero l = sym (counted_none s xs)
+    go (suc i) l =
+        let e : suc i ≡ i + 1 = omega arith in
+        let before = go i (omega arith) in
+        let sum = sum_by_more (loaded_count s) xs i d (omega arith) in
+        let count = counted_more s xs i d (omega arith) (fresh_section xs h i d (omega arith)) in
+        rw e (omega (arith, before, sum, count))

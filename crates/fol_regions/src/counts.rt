@@ -17,9 +17,5 @@ pub fn count_chunks(sections: &Sections, row: &[SectionPos]) -> u64
         && is_among row.now (section_of sections.now.grid c)) all_chunks }
     ensures few { result ≤ 1024 * length row.now }
 {
-    let mut count = 0;
-    for s in row {
-        count += sections.loaded_in(*s);
-    }
-    count
+    sections.loaded_among(row)
 }

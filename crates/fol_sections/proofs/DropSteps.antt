@@ -112,7 +112,7 @@ module _ (first now : Page) (part : List SectionPos) (i : ℕ) (d : SectionPos) 
 
 -- ---- sections of one page
 -- a section that is listed lies in the page
-listed_on : (first : SectionPos) (part : List SectionPos) → All (IsOnPage first) part → (q : SectionPos) → IsOnPage first q → All (IsOnPage q) part
+pub listed_on : (first : SectionPos) (part : List SectionPos) → All (IsOnPage first) part → (q : SectionPos) → IsOnPage first q → All (IsOnPage q) part
 listed_on first part all q on = All-weaker (IsOnPage first) (IsOnPage q) (λ s a. (a.0 ∙ sym on.0, a.1 ∙ sym on.1)) part all
 
 -- how many of them pass a test of numbers that agree in the page

@@ -19,3 +19,4 @@ pub mod NinePages
 pub mod UsedPages
 pub mod PageStretches
 pub mod DropSteps
+pub mod MarkSteps

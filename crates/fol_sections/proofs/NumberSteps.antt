@@ -1,11 +1,11 @@
 -- The counts after the number of one place was changed.
-use Rattle.std.proofs.Common.{◌≡◌, ℕ, zero, suc, ◌+◌, ◌<◌, refl, sym, ◌∙◌, ap, arith, Bool, true, false, cond, ◌&&◌, ◌||◌, inl, inr, List, [], ◌∷◌, length, take, get_or}
+use Rattle.std.proofs.Common.{◌≡◌, ℕ, zero, suc, ◌<◌, refl, sym, ◌∙◌, ap, arith, Bool, true, false, cond, ◌&&◌, ◌||◌, inl, inr, List, [], ◌∷◌, length, take, get_or}
 use Rattle.std.specs.Prelude.{ℤ, Option, Some, None, is_some}
 use Rattle.std.specs.Option.{unwrap_or}
 use Rattle.std.specs.List.{All, IsDistinct}
 use Rattle.std.specs.Ordering.{int_eq}
 use Rattle.std.proofs.lemmas.Bool.{cases_Bool, or_cases, true≢false, and_from, and_parts}
-use Rattle.std.proofs.lemmas.List.Folds.{list_any_at, list_any_more}
+use Rattle.std.proofs.lemmas.List.Folds.{list_any_at}
 use Rattle.std.proofs.lemmas.Map.Keys.{apart_from_distinct, IsDistinct-tail}
 use Rattle.fol_model.specs.declared.places.ChunkPos.{ChunkPos}
 use Rattle.fol_model.specs.declared.places.SectionPos.{SectionPos}
@@ -67,25 +67,6 @@ fresh (x ∷ xs) zero d h l = refl
 fresh (x ∷ xs) (suc i) d h l =
     let e : same_section (get_or xs i d) x ≡ false = same_section-swap (get_or xs i d) x ∙ apart_from_distinct same_section (x ∷ xs) 0 (suc i) d h (omega arith) l in
     rw e (fresh xs i d (IsDistinct-tail same_section x xs h) (omega arith))
-
--- the first i sections are there with no numbers
-abbrev pub HasFirst : List ((ℤ × ℤ) × Page) → List ((ℤ × ℤ) × Page) → List SectionPos → ℕ → Type 0
-HasFirst before now missing i = (s : SectionPos) → counts_at now s ≡ cond (is_among (take i missing) s) (Some no_counts) (counts_at before s)
-
-pub has_more : (before now after : List ((ℤ × ℤ) × Page)) (missing : List SectionPos) (i : ℕ) (d : SectionPos) → i < length missing → HasFirst before now missing i
-    → ((q : SectionPos) → counts_at after q ≡ cond (same_section (get_or missing i d) q) (Some no_counts) (counts_at now q)) → HasFirst before after missing (i + 1)
-has_more before now after missing i d l has step s =
-    let more = list_any_more (same_section s) missing i d l in
-    let swap = same_section-swap s (get_or missing i d) in
-    step s ∙ ap (λ o. cond (same_section (get_or missing i d) s) (Some no_counts) o) (has s)
-    ∙ joined (same_section (get_or missing i d) s) (is_among (take i missing) s) (counts_at before s)
-    ∙ ap (λ b. cond b (Some no_counts) (counts_at before s)) (sym (more ∙ ap (λ b. is_among (take i missing) s || b) swap))
-  where
-    joined : (same first : Bool) (o : Option Counts) → cond same (Some no_counts) (cond first (Some no_counts) o) ≡ cond (first || same) (Some no_counts) o
-    joined true true o = refl
-    joined true false o = refl
-    joined false true o = refl
-    joined false false o = refl
 
 -- a section with a loaded chunk has a number above 0
 pub chunks_positive : (grid : Grid) (holds : List ((ℤ × ℤ) × ℕ)) (pages : List ((ℤ × ℤ) × Page)) (count : ℕ) (c : ChunkPos) → IsKept grid holds pages count → is_held holds c ≡ true → 0 < chunks_at pages (section_of grid c)

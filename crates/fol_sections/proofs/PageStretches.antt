@@ -1,16 +1,17 @@
 -- Stretches of a list of sections that lie in one page.
-use Rattle.std.proofs.Common.{◌≡◌, ℕ, ◌+◌, ◌<◌, ◌≤◌, sym, ◌∙◌, ap, refl, arith, Bool, true, false, not, List, ◌++◌, length, get_or, take, append_assoc, length-append}
-use Rattle.std.specs.Prelude.{ℤ, pos, Some, None, is_some}
+use Rattle.std.proofs.Common.{◌≡◌, ℕ, suc, ◌+◌, ◌<◌, ◌≤◌, sym, ◌∙◌, ap, refl, arith, Bool, true, false, not, List, [], ◌∷◌, ◌++◌, length, get_or, take, append_assoc, length-append}
+use Rattle.std.specs.Prelude.{ℤ, pos, Some, None, is_some, sum_by}
 use Rattle.std.specs.List.{All, filter}
 use Rattle.std.specs.Option.{option_and_then, unwrap_or}
 use Rattle.std.proofs.lemmas.List.Elements.{filter-append}
 use Rattle.std.proofs.lemmas.List.Filters.{length-filter_both}
 use Rattle.std.proofs.lemmas.List.Folds.{list_any_at}
+use Rattle.std.proofs.lemmas.List.Sums.{sum_by-append, sum_by-cons}
 use Rattle.fol_model.specs.declared.places.SectionPos.{SectionPos}
 use Rattle.fol_model.specs.Geometry.{is_among, same_section}
 use Rattle.fol_laws.proofs.SamePlaces.{same_section-self}
 use Rattle.fol_pages.specs.Pages.{InOnePage}
-use Rattle.fol_sections.specs.Pages.{IsOnPage, counts_at, counts_on, near_at, near_on, no_counts, page_at, page_of}
+use Rattle.fol_sections.specs.Pages.{IsOnPage, chunks_at, chunks_on, counts_at, counts_on, near_at, near_on, no_counts, page_at, page_of}
 use Rattle.fol_sections.specs.declared.pages.Page.{Page}
 use Rattle.fol_sections.proofs.DeadSteps.{filter-like}
 use Rattle.fol_sections.proofs.NumberSteps.{all_among}
@@ -49,7 +50,34 @@ pub filter_stretch : (test : ℕ → Bool) (f g : SectionPos → ℕ) (first : S
     → filter (λ s. test (f s)) xs ≡ filter (λ s. test (g s)) xs
 filter_stretch test f g first xs all same = filter-like (λ s. test (f s)) (λ s. test (g s)) xs (λ s h. ap test (sym (same s (all_among (IsOnPage first) xs s all h))))
 
+-- ---- sums over a stretch
+-- numbers that agree in the page have the same sum over sections there
+pub sum_stretch : (f g : SectionPos → ℕ) (first : SectionPos) (xs : List SectionPos) → All (IsOnPage first) xs → ((q : SectionPos) → IsOnPage first q → g q ≡ f q) → sum_by f xs ≡ sum_by g xs
+sum_stretch f g first [] all same = refl
+sum_stretch f g first (x ∷ xs) all same =
+    let rest = sum_stretch f g first xs (λ k d l. all (suc k) d (omega arith)) same in
+    let one = same x (all 0 x (omega arith)) in
+    omega (arith, rest, one, sum_by-cons f x xs, sum_by-cons g x xs)
+
+pub sum_none : (xs : List SectionPos) → sum_by (λ (s : SectionPos). 0) xs ≡ 0
+sum_none [] = refl
+sum_none (x ∷ xs) = omega (arith, sum_none xs, sum_by-cons (λ (s : SectionPos). 0) x xs)
+
+module _ (entries : List ((ℤ × ℤ) × Page)) (first q : SectionPos) (on : IsOnPage first q) where
+  -- how many loaded chunks a section holds that lies in a page that is there
+  pub chunks_there : (p : Page) → page_at entries (page_of first.x) (page_of first.z) ≡ Some p → chunks_at entries q ≡ chunks_on p q
+  unfolding chunks_at counts_at
+  chunks_there p was = (λ i. (unwrap_or (option_and_then (λ p. counts_on p q) (page_at entries (on.0 i) (on.1 i))) no_counts).loaded) ∙ ap (λ o. (unwrap_or (option_and_then (λ p. counts_on p q) o) no_counts).loaded) was
+
+  -- a section whose page is not there holds none
+  pub chunks_nowhere : page_at entries (page_of first.x) (page_of first.z) ≡ None → chunks_at entries q ≡ 0
+  unfolding chunks_at counts_at
+  chunks_nowhere none = (λ i. (unwrap_or (option_and_then (λ p. counts_on p q) (page_at entries (on.0 i) (on.1 i))) no_counts).loaded) ∙ ap (λ o. (unwrap_or (option_and_then (λ p. counts_on p q) o) no_counts).loaded) none
+
 -- ---- a stretch more
+pub sum_on : (f : SectionPos → ℕ) (rest part after : List SectionPos) → rest ≡ part ++ after → sum_by f rest ≡ sum_by f part + sum_by f after
+sum_on f rest part after split = ap (sum_by f) split ∙ sum_by-append f part after
+
 module _ (p : SectionPos → Bool) (old new rest part after : List SectionPos) (adds : new ≡ old ++ filter p part) (split : rest ≡ part ++ after) where
   pub filter_on : (all : List SectionPos) → old ++ filter p rest ≡ all → new ++ filter p after ≡ all
   filter_on all h =

@@ -5,8 +5,6 @@ use Rattle.std.specs.List.{list_all}
 use Rattle.std.specs.Option.{option_and_then}
 use Rattle.std.proofs.lemmas.Bool.{cases_Bool, or_cases, true≢false}
 use Rattle.fol_model.specs.declared.places.SectionPos.{SectionPos}
-use Rattle.fol_model.specs.Geometry.{same_section}
-use Rattle.fol_laws.proofs.SamePlaces.{same_section-self}
 use Rattle.fol_pages.proofs.PagePlaces.{same_place, at_place}
 use Rattle.fol_sections.specs.Pages.{AllUsed, HasSection, IsOnPage, counts_at, counts_on, has_page, is_here, page_at, page_of}
 use Rattle.fol_sections.specs.Places.{is_same}
@@ -14,20 +12,20 @@ use Rattle.fol_sections.specs.declared.pages.Counts.{Counts}
 use Rattle.fol_sections.specs.declared.pages.Page.{Page}
 use Rattle.fol_sections.proofs.PageSteps.{page_self}
 
--- ---- a section that comes or changes
-module _ (before after : List ((ℤ × ℤ) × Page)) (s : SectionPos) (counts : Counts)
-    (step : (q : SectionPos) → counts_at after q ≡ cond (same_section s q) (Some counts) (counts_at before q)) where
+-- ---- sections that come or change
+module _ (before after : List ((ℤ × ℤ) × Page)) (come : SectionPos → Bool) (counts : Counts)
+    (step : (q : SectionPos) → counts_at after q ≡ cond (come q) (Some counts) (counts_at before q)) where
   still_here : (q : SectionPos) → is_here before q ≡ true → is_here after q ≡ true
   unfolding is_here
-  still_here q h = ap is_some (step q) ∙ elim (cases_Bool (same_section s q)) [ inl e ↦ rw e refl | inr e ↦ rw e h ]
+  still_here q h = ap is_some (step q) ∙ elim (cases_Bool (come q)) [ inl e ↦ rw e refl | inr e ↦ rw e h ]
 
-  here_now : is_here after s ≡ true
+  here_now : (s : SectionPos) → come s ≡ true → is_here after s ≡ true
   unfolding is_here
-  here_now = ap is_some (step s) ∙ ap (λ b. is_some (cond b (Some counts) (counts_at before s))) (same_section-self s)
+  here_now s h = ap is_some (step s) ∙ ap (λ b. is_some (cond b (Some counts) (counts_at before s))) h
 
-  pub used-put : ((x z : ℤ) → has_page after x z ≡ (is_same (page_of s.x) (page_of s.z) x z || has_page before x z)) → AllUsed before → AllUsed after
-  used-put pages used x z h = elim (or_cases (is_same (page_of s.x) (page_of s.z) x z) (has_page before x z) (sym (pages x z) ∙ h)) [
-    | inl e ↦ let k = same_place (page_of s.x) (page_of s.z) x z e in (s, k.0, k.1, here_now)
+  pub used-put : (s : SectionPos) → come s ≡ true → ((x z : ℤ) → has_page after x z ≡ (is_same (page_of s.x) (page_of s.z) x z || has_page before x z)) → AllUsed before → AllUsed after
+  used-put s comes pages used x z h = elim (or_cases (is_same (page_of s.x) (page_of s.z) x z) (has_page before x z) (sym (pages x z) ∙ h)) [
+    | inl e ↦ let k = same_place (page_of s.x) (page_of s.z) x z e in (s, k.0, k.1, here_now s comes)
     | inr e ↦ let w = used x z e in (w.0, w.1, w.2, still_here w.0 w.3)
   ]
 

@@ -16,6 +16,10 @@ no_counts = record { loaded = 0; near = 0 }
 abbrev pub counts_on : Page → SectionPos → Option Counts
 counts_on p s = slice_index_or p.sections (place_of s) None
 
+-- the loaded chunks of a section that lies in the page, 0 where it is not present
+abbrev pub chunks_on : Page → SectionPos → ℕ
+chunks_on p s = (unwrap_or (counts_on p s) no_counts).loaded
+
 -- the sections with a loaded chunk near a section that lies in the page, 0 where it is not present
 abbrev pub near_on : Page → SectionPos → ℕ
 near_on p s = (unwrap_or (counts_on p s) no_counts).near

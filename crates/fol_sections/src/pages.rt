@@ -1,11 +1,11 @@
 //! Present sections in pages of 8 by 8.
 
-ghost use Rattle.std.specs.Prelude.{◌≡◌, ℤ, ◌+◌, ◌<◌, ◌≤◌, not, ◌||◌, false, cond, is_some, Some, None, IsTrue, length, slice_set, replicate};
-ghost use Rattle.std.specs.List.{list_all};
+ghost use Rattle.std.specs.Prelude.{◌≡◌, ℤ, ◌+◌, ◌<◌, ◌≤◌, not, ◌||◌, false, cond, is_some, Some, None, IsTrue, length};
+ghost use Rattle.std.specs.List.{All, list_all};
 ghost use Rattle.std.specs.HashMap.{spare};
 ghost use Rattle.fol_model.specs.declared.places.SectionPos.{SectionPos};
-ghost use Rattle.fol_model.specs.Geometry.{same_section};
-ghost use Rattle.fol_sections.specs.Pages.{AllUsed, HasSection, counts_at, has_page, is_here, chunks_at, counts_on, near_at, near_on, page_of as page};
+ghost use Rattle.fol_model.specs.Geometry.{is_among, same_section};
+ghost use Rattle.fol_sections.specs.Pages.{AllUsed, HasSection, IsOnPage, counts_at, has_page, is_here, chunks_at, chunks_on, counts_on, near_at, near_on, no_counts, page_of as page};
 ghost use Rattle.fol_sections.specs.Places.{is_same};
 
 use fol_model::SectionPos;
@@ -45,6 +45,16 @@ pub fn near_in(page: &Page, s: SectionPos) -> u32
 {
     match page.sections[place_of(s)] {
         Some(counts) => counts.near as u32,
+        None => 0,
+    }
+}
+
+/// How many loaded chunks a section of the page holds; 0 where it is not present.
+pub fn loaded_on(page: &Page, s: SectionPos) -> u64
+    ensures { result ≡ chunks_on page.now s }
+{
+    match page.sections[place_of(s)] {
+        Some(counts) => counts.loaded as u64,
         None => 0,
     }
 }
@@ -103,46 +113,45 @@ fn write(pages: &mut Pages, s: SectionPos, counts: Option<Counts>)
     }
 }
 
-/// A page with one section.
-fn page_with(place: usize, counts: Counts) -> Page
-    requires { place < 64 }
-    ensures { result ≡ record { sections = slice_set (replicate 64 None) place (Some counts) } }
+/// Makes sections of a page present, with no loaded chunk near them.
+fn mark_on(page: &mut Page, part: &[SectionPos])
+    ensures { (q : SectionPos) → All (IsOnPage q) part.now → counts_on page.new q
+        ≡ cond (is_among part.now q) (Some no_counts) (counts_on page.old q) }
 {
-    let mut page = Page {
-        sections: [None; 64],
-    };
-    page.sections[place] = Some(counts);
+    for s in part {
+        page.sections[place_of(*s)] = Some(Counts { loaded: 0, near: 0 });
+    }
+}
+
+/// A page with these sections alone, and no loaded chunk near them.
+fn page_with(part: &[SectionPos]) -> Page
+    ensures { (q : SectionPos) → All (IsOnPage q) part.now → counts_on result q
+        ≡ cond (is_among part.now q) (Some no_counts) None }
+{
+    let mut page = empty_page();
+    mark_on(&mut page, part);
     page
 }
 
-/// Adds the page of a section, with this section alone.
-fn add_page(pages: &mut Pages, s: SectionPos, counts: Counts)
-    requires room { 0 < spare pages.old }
-    requires absent { has_page pages.old.entries (page s.x) (page s.z) ≡ false }
+/// Makes sections present that all lie in the page of `first`, with no loaded chunk near them.
+pub fn put_stretch(pages: &mut Pages, first: SectionPos, part: &[SectionPos])
+    requires some { IsTrue (is_among part.now first) }
+    requires page { All (IsOnPage first) part.now }
+    requires room { has_page pages.old.entries (page first.x) (page first.z) ≡ false
+        → 0 < spare pages.old }
     ensures put { (q : SectionPos) → counts_at pages.new.entries q
-        ≡ cond (same_section s q) (Some counts) (counts_at pages.old.entries q) }
+        ≡ cond (is_among part.now q) (Some no_counts) (counts_at pages.old.entries q) }
     ensures pages { (x z : ℤ) → has_page pages.new.entries x z
-        ≡ (is_same (page s.x) (page s.z) x z || has_page pages.old.entries x z) }
-    ensures room { spare pages.old ≤ spare pages.new + 1 }
-{
-    let _ = pages.insert(page_of(s), page_with(place_of(s), counts));
-}
-
-/// Makes a section present with these numbers.
-pub fn put(pages: &mut Pages, s: SectionPos, counts: Counts)
-    requires room { has_page pages.old.entries (page s.x) (page s.z) ≡ false → 0 < spare pages.old }
-    ensures put { (q : SectionPos) → counts_at pages.new.entries q
-        ≡ cond (same_section s q) (Some counts) (counts_at pages.old.entries q) }
-    ensures pages { (x z : ℤ) → has_page pages.new.entries x z
-        ≡ (is_same (page s.x) (page s.z) x z || has_page pages.old.entries x z) }
+        ≡ (is_same (page first.x) (page first.z) x z || has_page pages.old.entries x z) }
     ensures room { spare pages.old ≤ spare pages.new
-        + cond (has_page pages.old.entries (page s.x) (page s.z)) 0 1 }
+        + cond (has_page pages.old.entries (page first.x) (page first.z)) 0 1 }
     ensures used { AllUsed pages.old.entries → AllUsed pages.new.entries }
 {
-    if pages.contains_key(&page_of(s)) {
-        write(pages, s, Some(counts));
-    } else {
-        add_page(pages, s, counts);
+    match pages.get_mut(&page_of(first)) {
+        Some(page) => mark_on(page, part),
+        None => {
+            let _ = pages.insert(page_of(first), page_with(part));
+        }
     }
 }
 

@@ -1,6 +1,6 @@
 //! A table of holds and present sections.
 
-ghost use Rattle.std.specs.Prelude.{◌≡◌, ℤ, ◌+◌, ◌-◌, ◌*◌, ◌<◌, ◌≤◌, ◌^◌, not, ◌&&◌, ◌||◌, false, None, IsTrue, IfOk, OnOk, [], ◌++◌, length, nat_eq, nat_lt, cond, Some, nat_abs, if◌then◌else◌};
+ghost use Rattle.std.specs.Prelude.{◌≡◌, ℤ, ◌+◌, ◌-◌, ◌*◌, ◌<◌, ◌≤◌, ◌^◌, not, ◌&&◌, ◌||◌, false, None, IsTrue, IfOk, OnOk, [], ◌++◌, length, nat_eq, nat_lt, cond, Some, nat_abs, sum_by, if◌then◌else◌};
 ghost use Rattle.std.specs.List.{All, IsDistinct, count_by, filter};
 ghost use Rattle.std.specs.Vec.{vec_capacity};
 ghost use Rattle.std.specs.HashMap.{spare as room_of};
@@ -14,14 +14,14 @@ ghost use Rattle.fol_model.specs.GridState.{at_chunk};
 
 use crate::chunks::list_section;
 use crate::drops::drop_list;
-use crate::pages::{self, Counts, Pages, is_present, loaded, near};
+use crate::pages::{self, Counts, Pages, is_present, loaded, near, put_stretch};
 use crate::places::{self, Numbers, number};
 use crate::squares::{Wanted, find_missing, find_square};
-use crate::stretches::split_list;
+use crate::stretches::{count_list, split_list};
 use crate::turns::{Turn, turn_square, turned};
 use crate::{Added, Removed};
 use fol_model::{ChunkPos, Grid, MOST_SECTIONS, SectionPos, section_of};
-use fol_pages::NEAR_PAGES;
+use fol_pages::{NEAR_PAGES, stretch_len};
 use std::alloc::{AllocError, Global};
 use std::collections::HashMap;
 use std::marker::Model;
@@ -170,6 +170,15 @@ impl Sections {
         ensures few { result ≤ 1024 }
     {
         loaded(&self.pages, s)
+    }
+
+    /// How many loaded chunks the sections of a list hold, at most 1,024 each.
+    pub fn loaded_among(&self, list: &[SectionPos]) -> u64
+        requires { length list.now ≤ MOST_SECTIONS }
+        ensures value { result ≡ sum_by (loaded_count self.now) list.now }
+        ensures few { result ≤ 1024 * length list.now }
+    {
+        count_list(&self.pages, list)
     }
 
     /// Adds the loaded chunks of a section to a list, by `(z, x)`. The list has room for them, and no memory is taken.
@@ -386,9 +395,11 @@ fn fill(pages: &mut Pages, missing: &[SectionPos])
     ensures room { room_of pages.old ≤ room_of pages.new + 9 }
     ensures used { AllUsed pages.old.entries → AllUsed pages.new.entries }
 {
-    for s in missing {
-        let none = Counts { loaded: 0, near: 0 };
-        pages::put(pages, *s, none);
+    let mut rest = missing;
+    while !rest.is_empty() {
+        let (part, after) = rest.split_at(stretch_len(rest));
+        put_stretch(pages, part[0], part);
+        rest = after;
     }
 }
 

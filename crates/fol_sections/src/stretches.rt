@@ -1,11 +1,11 @@
 //! Stretches of a list of sections that lie in one page, for which the page is looked up once.
 
-ghost use Rattle.std.specs.Prelude.{◌≡◌, ◌+◌, ◌≤◌, ◌++◌, filter, length, nat_eq, nat_lt};
+ghost use Rattle.std.specs.Prelude.{◌≡◌, ◌+◌, ◌<◌, ◌≤◌, ◌^◌, ◌++◌, filter, length, nat_eq, nat_lt, sum_by};
 ghost use Rattle.std.specs.List.{All};
 ghost use Rattle.std.specs.Vec.{vec_capacity};
-ghost use Rattle.fol_sections.specs.Pages.{IsOnPage, near_at, near_on};
+ghost use Rattle.fol_sections.specs.Pages.{IsOnPage, chunks_at, chunks_on, near_at, near_on};
 
-use crate::pages::{Page, Pages, empty_page, near_in};
+use crate::pages::{Page, Pages, empty_page, loaded_on, near_in};
 use fol_model::SectionPos;
 use fol_pages::{page_of, stretch_len};
 
@@ -81,4 +81,43 @@ pub fn split_list(
         split_stretch(pages, part[0], part, living, dead);
         rest = after;
     }
+}
+
+/// How many loaded chunks the sections of a list hold that lie in a page.
+fn count_on(page: &Page, part: &[SectionPos]) -> u64
+    requires { sum_by (chunks_on page.now) part.now < 2 ^ 62 }
+    ensures { result ≡ sum_by (chunks_on page.now) part.now }
+{
+    let mut count = 0;
+    for s in part {
+        count += loaded_on(page, *s);
+    }
+    count
+}
+
+/// How many loaded chunks the sections of a list hold, all in the page of `first`.
+fn count_stretch(pages: &Pages, first: SectionPos, part: &[SectionPos]) -> u64
+    requires page { All (IsOnPage first) part.now }
+    requires few { sum_by (chunks_at pages.now.entries) part.now < 2 ^ 62 }
+    ensures { result ≡ sum_by (chunks_at pages.now.entries) part.now }
+{
+    match pages.get(&page_of(first)) {
+        Some(page) => count_on(page, part),
+        None => 0,
+    }
+}
+
+/// How many loaded chunks the sections of a list hold.
+pub fn count_list(pages: &Pages, list: &[SectionPos]) -> u64
+    requires { sum_by (chunks_at pages.now.entries) list.now < 2 ^ 62 }
+    ensures { result ≡ sum_by (chunks_at pages.now.entries) list.now }
+{
+    let mut count = 0;
+    let mut rest = list;
+    while !rest.is_empty() {
+        let (part, after) = rest.split_at(stretch_len(rest));
+        count += count_stretch(pages, part[0], part);
+        rest = after;
+    }
+    count
 }
