@@ -1,6 +1,8 @@
 //! How many dead sections each region has at most.
 
-ghost use Rattle.std.specs.Prelude.{◌≡◌, ℕ, ◌+◌, ◌<◌, ◌≤◌, ◌&&◌, nat_abs, nat_eq, nat_lt, if◌then◌else◌, count_by, min, IfOk, List, length};
+ghost use Rattle.std.specs.Prelude.{◌≡◌, ℕ, ◌+◌, ◌<◌, ◌≤◌, ◌&&◌, true, nat_abs, nat_eq, nat_lt, if◌then◌else◌, count_by, min, pos, ◌+ℤ◌, IfOk, List, length, slice_index_or};
+ghost use Rattle.std.specs.Int.{int_rem_euclid};
+ghost use Rattle.fol_model.specs.declared.places.SectionPos.{SectionPos};
 ghost use Rattle.fol_model.specs.Universe.{square};
 ghost use Rattle.fol_region_tables.specs.Book.{owner_of};
 ghost use Rattle.fol_regions.specs.Changes.{into};
@@ -9,6 +11,7 @@ ghost use Rattle.fol_regions.specs.Released.{IsPresence};
 
 use crate::MergePair;
 use fol_model::{MOST_SECTIONS, SectionPos};
+use fol_pages::run_len;
 use fol_region_tables::Tables;
 use fol_sections::Sections;
 use std::alloc::{AllocError, Global};
@@ -109,15 +112,60 @@ impl DeadBounds {
     }
 }
 
-/// Notes each section of a list for its region.
+/// Notes each section of a list for its region. Sections that stand side by side in one page share one look-up.
 fn note_list(known: &mut [Known], tables: &Tables, list: &[SectionPos])
     requires { length known.old ≡ MOST_SECTIONS }
-    ensures { (r : ℕ) → min MOST_SECTIONS (most_in known.old r
+    ensures { (r : ℕ) → 0 < r → min MOST_SECTIONS (most_in known.old r
         + count_by (λ s. nat_eq (owner_of tables.now s) r) list.now) ≤ most_in known.new r }
 {
-    for s in list {
-        raise(known, tables.owner(*s));
+    let mut rest = list;
+    while !rest.is_empty() {
+        let (part, after) = rest.split_at(side_len(rest));
+        note_run(known, tables.run(part[0], part.len() as u32));
+        rest = after;
     }
+}
+
+/// Notes a section of each of these regions.
+fn note_run(known: &mut [Known], ids: &[u64])
+    requires { length known.old ≡ MOST_SECTIONS }
+    ensures { (r : ℕ) → min MOST_SECTIONS (most_in known.old r
+        + count_by (λ id. nat_eq id r) ids.now) ≤ most_in known.new r }
+{
+    for id in ids {
+        raise(known, *id);
+    }
+}
+
+/// Whether a section stands that many columns behind another one in its row.
+fn is_beside(first: SectionPos, columns: usize, s: SectionPos) -> bool
+    requires { columns ≤ 8 }
+    ensures { result ≡ true → s ≡ record { x = first.x +ℤ pos columns; z = first.z } }
+{
+    s.z == first.z && s.x as i64 == first.x as i64 + columns as i64
+}
+
+/// How many sections at the head of a list stand side by side in one page.
+fn side_len(list: &[SectionPos]) -> usize
+    requires { 0 < length list.now }
+    ensures some { 0 < result }
+    ensures few { result ≤ length list.now }
+    ensures side { (k : ℕ) (d : SectionPos) → k < result → slice_index_or list.now k d
+        ≡ record {
+          x = (slice_index_or list.now 0 d).x +ℤ pos k;
+          z = (slice_index_or list.now 0 d).z;
+        } }
+    ensures run { (d : SectionPos)
+        → nat_abs (int_rem_euclid (slice_index_or list.now 0 d).x (pos 8)) + result ≤ 8 }
+{
+    let first = list[0];
+    let most = run_len(first.x, list.len().min(8) as u32) as usize;
+    for i in 1..most {
+        if !is_beside(first, i, list[i]) {
+            return i;
+        }
+    }
+    most
 }
 
 /// A region has a dead section more.

@@ -10,5 +10,5 @@ pub returns : goal.returns
 returns c = λ r p.
     let same = ap (count_by (λ s. nat_eq (owner_of c.args.tables.now s) r)) (c.deref.ensures.value ∙ c.find_dead.ensures.dead) ∙ dead_listed c.args.sections.now c.args.tables.now c.requires.presence r p (square c.args.home c.args.radius) in
     let known = with_items_is c.self.inside.known c.note_list.new.known (omega arith) in
-    let n = rw c.deref_mut.ensures.value at (c.note_list.ensures r) in
+    let n = rw c.deref_mut.ensures.value at (c.note_list.ensures r p) in
     rw (known, ← c.self.view_is) (omega (arith, same, n))
