@@ -130,7 +130,7 @@ closed_bag s id b here taken listed =
       opened = λ o. clash (sym o ∙ listed);
       one = rw here refl;
       out = λ o k x q. clash (sym o ∙ taken);
-      handed = λ o. clash (sym o ∙ (rw here refl));
+      handed = λ o p. clash (sym o ∙ (rw here refl));
     }
   where
     clash : {P : Type 0} → true ≡ false → P

@@ -60,12 +60,12 @@ set_twice id f g h a m e k u = k u ∙ pick (nat_eq id u) (e u)
     pick true r = ap m here
     pick false r = r
 
-module _ (s : Stock) (bags : List Slot) (places : PlaceRows) (spare slots id : ℕ) (c : ChunkPos) (listed : Bool) (chunks handed touched : List ChunkPos) where
+module _ (s : Stock) (bags : List Slot) (places : PlaceRows) (spare slots id : ℕ) (c : ChunkPos) (listed : Bool) (chunks touched : List ChunkPos) where
   abbrev t : Stock
   t = with_parts s s.spots bags places spare slots
 
   abbrev d : Slot
-  d = record (slot s id) { listed = listed; calm = false; chunks = chunks; handed = handed; touched = touched }
+  d = record (slot s id) { listed = listed; calm = false; chunks = chunks; touched = touched }
 
   module _ (e : (u : ℕ) → slot t u ≡ (if nat_eq id u then d else slot s u)) (h : IsSound s) (long : length bags ≡ length s.bags) (there : id < length s.bags) (here : (slot s id).here ≡ true)
       (more_spare : s.spare ≤ spare) (more_slots : s.slots ≤ slots) where
@@ -137,7 +137,7 @@ module _ (s : Stock) (bags : List Slot) (places : PlaceRows) (spare slots id : �
           opened = λ o. no (sym off ∙ o);
           one = (h.bags id).one;
           out = λ o k x q. no (sym not_taken ∙ o);
-          handed = λ o. no (never_and (slot s id).here (let f : ((slot s id).here && false) ≡ true = rw off at o in f));
+          handed = λ o p. no (never_and (slot s id).here (let f : ((slot s id).here && false) ≡ true = rw off at o in f));
         })
         (record {
           same = refl;
@@ -152,10 +152,10 @@ module _ (s : Stock) (bags : List Slot) (places : PlaceRows) (spare slots id : �
     -- with the chunk
     pub came : (slot s id).listed ≡ true → (before : Place) → before ≡ place s c → before.bag ≡ None
         → ((q : ChunkPos) → place t q ≡ (if same_chunk c q then (let p : Place = record { spot = before.spot; bag = Some id } in p) else place s q))
-        → IsStrictlySortedBy chunk_cmp chunks → ((q : ChunkPos) → is_recorded chunks q ≡ (is_recorded (slot s id).chunks q || same_chunk c q)) → handed ≡ chunks → touched ≡ (slot s id).touched ++ c ∷ []
+        → IsStrictlySortedBy chunk_cmp chunks → ((q : ChunkPos) → is_recorded chunks q ≡ (is_recorded (slot s id).chunks q || same_chunk c q)) → touched ≡ (slot s id).touched ++ c ∷ []
         → Followed s t id (wider s id c)
     unfolding bag_of
-    came was before is free set order has twice noted =
+    came was before is free set order has noted =
         followed_with spots homes stays
         (record {
           claims = λ o q p. has q ∙ elim (homes q id p) [
@@ -171,7 +171,7 @@ module _ (s : Stock) (bags : List Slot) (places : PlaceRows) (spare slots id : �
           opened = λ o. rw here refl;
           one = (h.bags id).one;
           out = λ o k x q. no (sym not_taken ∙ o);
-          handed = λ o. twice;
+          handed = λ o p. no p;
         })
         (record {
           same = refl;

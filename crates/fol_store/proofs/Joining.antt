@@ -89,9 +89,9 @@ none_shared s v u id e h differ listed id_listed q r = elim (cases_Bool (is_reco
   | inr a ↦ a
 ]
 
--- the chunks of a listed bag that is here are those to be handed out
-pub handed_listed : (s : Stock) (u : ℕ) → IsSound s → (slot s u).here ≡ true → (slot s u).listed ≡ true → (slot s u).handed ≡ (slot s u).chunks
-handed_listed s u h here listed = (h.bags u).handed (rw (here, listed) refl)
+-- the chunks of a whole bag that is here are those to be handed out
+pub handed_listed : (s : Stock) (u : ℕ) → IsSound s → (slot s u).here ≡ true → (slot s u).listed ≡ true → (slot s u).calm ≡ true → (slot s u).handed ≡ (slot s u).chunks
+handed_listed s u h here listed calm = (h.bags u).handed (rw (here, listed) refl) calm
 
 module _ (s : Stock) (bags : List Slot) (places : PlaceRows) (spare slots u id : ℕ) (moved : List ChunkPos) (left come : RegionData) (listed calm : Bool) (chunks handed touched : List ChunkPos) where
   abbrev t : Stock
@@ -161,7 +161,7 @@ module _ (s : Stock) (bags : List Slot) (places : PlaceRows) (spare slots u id :
       opened = λ o. rw d.both.id_here refl;
       one = (h.bags id).one;
       out = λ o k x q. no (sym not_taken ∙ o);
-      handed = λ o. d.twice (rw d.both.id_here at o);
+      handed = λ o p. d.twice (rw d.both.id_here at o);
     }
       where
         near_it : listed ≡ true → (k : Key) (w : Where) (x : Thing k) → column t k w ≡ Some x → is_recorded chunks (chunk_at k x) ≡ true → w ≡ in_bag id

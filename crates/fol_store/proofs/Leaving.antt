@@ -33,12 +33,12 @@ narrower s id c q = is_recorded (bag_of s id).chunks q && not (same_chunk c q)
 no : {P : Type 0} → false ≡ true → P
 no e = absurd (let z : ⊥ = cc in z)
 
-module _ (s : Stock) (spots : List RegionData) (bags : List Slot) (places : PlaceRows) (spare slots i id : ℕ) (c : ChunkPos) (in_it out_of_it : RegionData) (chunks handed : List ChunkPos) where
+module _ (s : Stock) (spots : List RegionData) (bags : List Slot) (places : PlaceRows) (spare slots i id : ℕ) (c : ChunkPos) (in_it out_of_it : RegionData) (chunks : List ChunkPos) where
   abbrev t : Stock
   t = with_parts s spots bags places spare slots
 
   abbrev d : Slot
-  d = record (slot s id) { body = in_it; chunks = chunks; handed = handed }
+  d = record (slot s id) { body = in_it; calm = false; chunks = chunks }
 
   pub record LosesOne : Type 0 where
     pub each_spot : (n : ℕ) → spot t n ≡ (if nat_eq i n then out_of_it else spot s n)
@@ -58,7 +58,6 @@ module _ (s : Stock) (spots : List RegionData) (bags : List Slot) (places : Plac
     pub gains : Gains (c ∷ []) (slot s id).body (spot s i) out_of_it
     pub order : IsStrictlySortedBy chunk_cmp chunks
     pub has : (q : ChunkPos) → is_recorded chunks q ≡ (is_recorded (slot s id).chunks q && not (same_chunk c q))
-    pub twice : handed ≡ chunks
 
   module _ (f : LosesOne) (h : IsSound s) where
     spot_here : spot t i ≡ out_of_it
@@ -122,15 +121,15 @@ module _ (s : Stock) (spots : List RegionData) (bags : List Slot) (places : Plac
             | inl z ↦ no (sym two.1 ∙ ap (same_chunk c) (single-is c (chunk_at k x) z.passes) ∙ same_chunk-self c)
             | inr z ↦ close k w x ((h.bags id).near f.listed k w x z.had two.0)
           ];
-      untouched = (h.bags id).untouched;
+      untouched = λ o p. no p;
       opened = (h.bags id).opened;
       one = (h.bags id).one;
       out = λ o k x q. no (sym not_taken ∙ o);
-      handed = λ o. f.twice;
+      handed = λ o p. no p;
     }
       where
         close : (k : Key) (w : Where) (x : Thing k) → Near id (slot s id) (chunk_at k x) w → Near id d (chunk_at k x) w
-        close k arriving x n = n
+        close k arriving x n = λ z. no z
         close k (in_spot v) x n = n
         close k (in_bag v) x n = n
 

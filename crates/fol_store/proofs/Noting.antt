@@ -101,7 +101,7 @@ module _ (s : Stock) (bags : List Slot) (spare slots id : ℕ) where
           opened = λ o. (h.bags id).opened o;
           one = (h.bags id).one;
           out = λ o k x q. (h.bags id).out o k x (sym (columns k (in_bag id)) ∙ q);
-          handed = λ o. (h.bags id).handed o;
+          handed = λ o p. (h.bags id).handed o p;
         }
 
     pub marked_is : ((u : ℕ) → slot t u ≡ (if nat_eq id u then marked else slot s u)) → (c : ChunkPos) → (place s c).bag ≡ Some id → is_recorded list c ≡ true → IsNoted t c
@@ -143,17 +143,14 @@ module _ (s : Stock) (bags : List Slot) (spare slots id : ℕ) where
           opened = λ o. no o;
           one = (h.bags id).one;
           out = λ o k x q. no (sym not_taken ∙ o);
-          handed = λ o. no (never_and (slot s id).here o);
+          handed = λ o p. no (never_and (slot s id).here o);
         }
 
-    list_is : (slot s id).handed ≡ (slot s id).chunks
-    list_is = (h.bags id).handed (rw (here, listed) refl)
-
-    home : (c : ChunkPos) → is_recorded (slot s id).handed c ≡ true → (place s c).bag ≡ Some id
-    home c r = (h.bags id).held (rw listed refl) c (sym (ap (λ l. is_recorded l c) list_is) ∙ r)
+    home : (c : ChunkPos) → is_recorded (slot s id).chunks c ≡ true → (place s c).bag ≡ Some id
+    home c r = (h.bags id).held (rw listed refl) c r
 
     -- another bag that has its chunks has none of these
-    apart : (u : ℕ) → u ≢ id → ((slot s u).listed || (slot s u).taken) ≡ true → (c : ChunkPos) → is_recorded (slot s id).handed c ≡ true → is_recorded (slot s u).chunks c ≡ false
+    apart : (u : ℕ) → u ≢ id → ((slot s u).listed || (slot s u).taken) ≡ true → (c : ChunkPos) → is_recorded (slot s id).chunks c ≡ true → is_recorded (slot s u).chunks c ≡ false
     apart u n o c r = elim (cases_Bool (is_recorded (slot s u).chunks c)) [
       | inl z ↦
           let f : Some u ≡ Some id = sym ((h.bags u).held o c z) ∙ home c r in
@@ -168,13 +165,13 @@ module _ (s : Stock) (bags : List Slot) (spare slots id : ℕ) where
     other : (u : ℕ) → u ≢ id → slot t u ≡ slot s u
     other u n = slot_other s bags spare slots id taken_from e u (λ z. n (sym z))
 
-    pub reopened_is : s.arrivals ≡ [] → IsReopened id (slot s id).handed (slot s id).touched t
+    pub reopened_is : s.arrivals ≡ [] → IsReopened id (slot s id).chunks (slot s id).touched t
     unfolding bag_of
     reopened_is none = record {
       target = record {
         here = ap (λ (b : Slot). b.here) own ∙ here;
         not_listed = ap (λ (b : Slot). b.listed) own;
-        chunks_are = ap (λ (b : Slot). b.chunks) own ∙ sym list_is;
+        chunks_are = ap (λ (b : Slot). b.chunks) own;
         empty = none;
         free = λ u o c r. elim (cases_eq u id) [
           | inl q ↦
@@ -195,8 +192,8 @@ module _ (s : Stock) (bags : List Slot) (spare slots id : ℕ) where
         columns : SameColumns s t
         columns = one_columns s bags spare slots id taken_from e (λ k. refl)
 
-        only : (c : ChunkPos) → is_recorded (slot s id).handed c ≡ true → is_recorded (slot s id).touched c ≡ false → (k : Key) (w : Where) (x : Thing k) → column s k w ≡ Some x → c ≡ chunk_at k x → w ≡ in_bag id
-        only c r m k w x a b = go w a ((h.bags id).near listed k w x a (ap (λ z. is_recorded (slot s id).chunks z) (sym b) ∙ sym (ap (λ l. is_recorded l c) list_is) ∙ r))
+        only : (c : ChunkPos) → is_recorded (slot s id).chunks c ≡ true → is_recorded (slot s id).touched c ≡ false → (k : Key) (w : Where) (x : Thing k) → column s k w ≡ Some x → c ≡ chunk_at k x → w ≡ in_bag id
+        only c r m k w x a b = go w a ((h.bags id).near listed k w x a (ap (λ z. is_recorded (slot s id).chunks z) (sym b) ∙ r))
           where
             go : (v : Where) → column s k v ≡ Some x → Near id (slot s id) (chunk_at k x) v → v ≡ in_bag id
             go arriving y n = (let z : None ≡ Some x = sym (none_arrives s k none) ∙ y in cc)

@@ -67,5 +67,5 @@ module _ (s : Stock) (bags : List Slot) (spare slots id tick owed : ℕ) (body :
         opened = λ o. refl;
         one = refl;
         out = λ o k x q. never o;
-        handed = λ o. refl;
+        handed = λ o p. refl;
       }

@@ -154,7 +154,7 @@ module _ (s : Stock) (bags : List Slot) (places : PlaceRows) (spare slots u id :
     }
 
 -- ---- all that lies on the chunks goes over, and the second bag is listed for them
-module _ (s : Stock) (bags : List Slot) (places : PlaceRows) (spare slots u id : ℕ) (chunks handed touched : List ChunkPos) (left come : RegionData) where
+module _ (s : Stock) (bags : List Slot) (places : PlaceRows) (spare slots u id : ℕ) (chunks touched : List ChunkPos) (left come : RegionData) where
   abbrev after : Stock
   after = with_parts s s.spots bags places spare slots
 
@@ -162,13 +162,12 @@ module _ (s : Stock) (bags : List Slot) (places : PlaceRows) (spare slots u id :
   first_left = record (slot s u) { body = left; listed = false }
 
   abbrev second_listed : Slot
-  second_listed = record (slot s id) { body = come; listed = true; calm = false; chunks = chunks; handed = handed; touched = touched }
+  second_listed = record (slot s id) { body = come; listed = true; calm = false; chunks = chunks; touched = touched }
 
   pub record ListsBag : Type 0 where
     pub pours : Pours s bags places spare slots u id chunks first_left second_listed
     pub pair : Pair s u id
     pub homes : (q : ChunkPos) → is_recorded chunks q ≡ true → (place s q).bag ≡ Some u
-    pub handed_are : handed ≡ chunks
     pub touched_are : touched ≡ chunks
     pub more_spare : s.spare ≤ spare
     pub more_slots : s.slots ≤ slots
@@ -202,7 +201,7 @@ module _ (s : Stock) (bags : List Slot) (places : PlaceRows) (spare slots u id :
       opened = λ o. rw d.pair.id_here refl;
       one = (h.bags id).one;
       out = λ o k x q. never (sym second_home ∙ o);
-      handed = λ o. d.handed_are;
+      handed = λ o p. never p;
     }
 
     pub listed_over : Handed id chunks s after

@@ -22,6 +22,11 @@ pub on_err : {T E : Type 0} (r : Result T E) (P Q : Type 0) → OnErr r P → (P
 on_err (Ok x) P Q h f = h
 on_err (Err e) P Q h f = f h
 
+-- one of an answer's two clauses holds
+pub ok_or_err : {T E : Type 0} (r : Result T E) (P Q : Type 0) → OnOk r P → OnErr r Q → P ⊎ Q
+ok_or_err (Ok x) P Q h f = inl h
+ok_or_err (Err e) P Q h f = inr f
+
 -- the place that was set
 pub set_places : (old new : List ((ℤ × ℤ) × Place)) (c : ChunkPos) (p : Place)
     → ((a b : ℤ) → known_place new a b ≡ (if (int_eq c.x a && int_eq c.z b) then Some p else known_place old a b))

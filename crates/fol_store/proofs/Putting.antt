@@ -142,7 +142,7 @@ module _ (s : Stock) (bags : List Slot) (spare slots id : ℕ) (body : RegionDat
           opened = λ o. refl;
           one = refl;
           out = λ o k x q. (let z : false ≡ true = o in cc);
-          handed = λ o. same;
+          handed = λ o p. same;
         }
           where
             near_same : (c : ChunkPos) (w : Where) → Near id (slot s id) c w → Near id filled c w

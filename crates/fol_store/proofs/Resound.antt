@@ -65,7 +65,7 @@ kept_bag s t id b d kept fewer more near out h =
       opened = λ o. opens ∙ h.opened (kept.listed o);
       one = rw (kept.here, kept.taken) h.one;
       out = out;
-      handed = λ o. rw (kept.handed, kept.chunks) (h.handed (and_second b.here d.listed b.listed kept.listed (sym (ap (λ z. z && d.listed) kept.here) ∙ o)));
+      handed = λ o p. rw (kept.handed, kept.chunks) (h.handed (and_second b.here d.listed b.listed kept.listed (sym (ap (λ z. z && d.listed) kept.here) ∙ o)) (kept.calm p));
     }
   where
     ap2or : d.here ≡ b.here → d.taken ≡ b.taken → (d.here || d.taken) ≡ (b.here || b.taken)
@@ -103,7 +103,7 @@ module _ (s t : Stock) where
         opened = λ o. opens ∙ h.opened (kept.listed o);
         one = rw (kept.here, kept.taken) h.one;
         out = λ o k x q. h.out (sym kept.taken ∙ o) k x (sym (e k (in_bag id)) ∙ q);
-        handed = λ o. rw (kept.handed, kept.chunks) (h.handed (and_second b.here d.listed b.listed kept.listed (sym (ap (λ z. z && d.listed) kept.here) ∙ o)));
+        handed = λ o p. rw (kept.handed, kept.chunks) (h.handed (and_second b.here d.listed b.listed kept.listed (sym (ap (λ z. z && d.listed) kept.here) ∙ o)) (kept.calm p));
       }
     where
       ap2or : d.here ≡ b.here → d.taken ≡ b.taken → (d.here || d.taken) ≡ (b.here || b.taken)
@@ -160,7 +160,7 @@ module _ (s t : Stock) («from» to : Where) (p : (k : Key) → Thing k → Bool
               | inl c ↦ none_come o (sym c.there)
               | inr c ↦ h.out (sym kept.taken ∙ o) k x c.had
             ];
-        handed = λ o. rw (kept.handed, kept.chunks) (h.handed (and_second b.here d.listed b.listed kept.listed (sym (ap (λ z. z && d.listed) kept.here) ∙ o)));
+        handed = λ o p. rw (kept.handed, kept.chunks) (h.handed (and_second b.here d.listed b.listed kept.listed (sym (ap (λ z. z && d.listed) kept.here) ∙ o)) (kept.calm p));
       }
     where
       ap2or : d.here ≡ b.here → d.taken ≡ b.taken → (d.here || d.taken) ≡ (b.here || b.taken)
@@ -239,5 +239,5 @@ module _ (s t : Stock) («from» to : Where) (p : (k : Key) → Thing k → Bool
                     opened = λ o. clash (sym o ∙ listed);
                     one = rw here refl;
                     out = λ o k x q. clash (sym o ∙ taken);
-                    handed = λ o. clash (sym o ∙ (rw here refl));
+                    handed = λ o p. clash (sym o ∙ (rw here refl));
                   }

@@ -66,7 +66,7 @@ module _ (s : Stock) (bags : List Slot) (spare slots id : ℕ) (list : List Chun
         opened = λ o. no o;
         one = (h.bags id).one;
         out = λ o k x q. no (sym not_taken ∙ o);
-        handed = λ o. no (never_and (slot s id).here o);
+        handed = λ o p. no (never_and (slot s id).here o);
       }
         where
           never_and : (b : Bool) → (b && false) ≡ true → false ≡ true
@@ -95,5 +95,5 @@ module _ (s : Stock) (bags : List Slot) (spare slots id : ℕ) (list : List Chun
         opened = λ o. rw here refl;
         one = (h.bags id).one;
         out = λ o k x q. (h.bags id).out o k x (sym (columns k (in_bag id)) ∙ q);
-        handed = λ o. same;
+        handed = λ o p. same;
       }

@@ -135,7 +135,7 @@ module _ (s : Stock) (bags : List Slot) (spare slots id : ℕ) (body : RegionDat
           opened = λ o. refl;
           one = refl;
           out = λ o k x q. let f : None ≡ Some x = sym (col_here k) ∙ q in cc;
-          handed = λ o. (let f : false ≡ true = o in cc);
+          handed = λ o p. (let f : false ≡ true = o in cc);
         }
 
     pub taken_sound : length bags ≡ length s.bags → IsTimely body → IsSound t

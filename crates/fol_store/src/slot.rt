@@ -31,7 +31,7 @@ pub struct Slot {
     pub calm: bool,
     /// The chunks for which it was gathered.
     pub chunks: Sequence<ChunkPos>,
-    /// The same chunks, to be handed out with the bag.
+    /// The same chunks, to be handed out with the bag, where it is listed and calm.
     pub handed: Sequence<ChunkPos>,
     /// Chunks in whose spots something may lie; of a listed bag, all such ones.
     pub touched: Sequence<ChunkPos>,
@@ -106,20 +106,17 @@ impl Slot {
         }
     }
 
-    /// A chunk comes, and is noted. If memory runs out, the lists may differ, and no chunk is lost.
+    /// A chunk comes, and is noted. If memory runs out, it may be there and not noted, and no chunk is lost.
     pub fn admit(&mut self, alloc: Global, c: ChunkPos) -> Result<(), AllocError>
-        requires order { IsStrictlySortedBy chunk_cmp self.old.chunks }
-        requires handed { self.old.handed ≡ self.old.chunks }
+        requires { IsStrictlySortedBy chunk_cmp self.old.chunks }
         ensures order { OnOk result (IsStrictlySortedBy chunk_cmp self.new.chunks) }
         ensures has { OnOk result ((q : ChunkPos)
             → is_recorded self.new.chunks q ≡ (is_recorded self.old.chunks q || same_chunk c q)) }
-        ensures handed { OnOk result (self.new.handed ≡ self.new.chunks) }
         ensures noted { OnOk result (self.new.touched ≡ self.old.touched ++ c ∷ []) }
         ensures kept { (q : ChunkPos) → is_recorded self.old.chunks q ≡ true
             → is_recorded self.new.chunks q ≡ true }
         ensures rest { self.new ≡ record self.old {
           chunks = self.new.chunks;
-          handed = self.new.handed;
           touched = self.new.touched;
         } }
     {
@@ -127,62 +124,36 @@ impl Slot {
         self.touched.push(c)
     }
 
-    /// A chunk comes into both lists. If memory runs out, the first may have it.
+    /// A chunk comes into the list.
     fn widen(&mut self, alloc: Global, c: ChunkPos) -> Result<(), AllocError>
-        requires order { IsStrictlySortedBy chunk_cmp self.old.chunks }
-        requires handed { self.old.handed ≡ self.old.chunks }
+        requires { IsStrictlySortedBy chunk_cmp self.old.chunks }
         ensures order { OnOk result (IsStrictlySortedBy chunk_cmp self.new.chunks) }
         ensures has { OnOk result ((q : ChunkPos)
             → is_recorded self.new.chunks q ≡ (is_recorded self.old.chunks q || same_chunk c q)) }
-        ensures handed { OnOk result (self.new.handed ≡ self.new.chunks) }
         ensures kept { (q : ChunkPos) → is_recorded self.old.chunks q ≡ true
             → is_recorded self.new.chunks q ≡ true }
-        ensures rest { self.new ≡ record self.old {
-          chunks = self.new.chunks;
-          handed = self.new.handed;
-        } }
+        ensures rest { self.new ≡ record self.old { chunks = self.new.chunks } }
     {
         match members::place_of(self.chunks.as_slice(), c) {
             Ok(_) => Ok(()),
-            Err(i) => self.admit_at(alloc, i, c),
+            Err(i) => members::insert(alloc, &mut self.chunks, i, c),
         }
     }
 
-    /// Puts a chunk at a place of both lists. If memory runs out, the first may have it.
-    fn admit_at(&mut self, alloc: Global, i: usize, c: ChunkPos) -> Result<(), AllocError>
-        requires range { i ≤ length self.old.chunks }
-        requires handed { self.old.handed ≡ self.old.chunks }
-        ensures chunks { OnOk result (self.new.chunks ≡ insert self.old.chunks i c) }
-        ensures handed { OnOk result (self.new.handed ≡ insert self.old.chunks i c) }
-        ensures kept { (self.new.chunks ≡ self.old.chunks)
-            ⊎ (self.new.chunks ≡ insert self.old.chunks i c) }
-        ensures rest { self.new ≡ record self.old {
-          chunks = self.new.chunks;
-          handed = self.new.handed;
-        } }
-    {
-        members::insert(alloc, &mut self.chunks, i, c)?;
-        members::insert(alloc, &mut self.handed, i, c)
-    }
-
-    /// A chunk leaves.
+    /// A chunk leaves. The bag is calm no more, since the list to be handed out has it still.
     pub fn dismiss(&mut self, alloc: Global, c: ChunkPos)
-        requires order { IsStrictlySortedBy chunk_cmp self.old.chunks }
-        requires handed { self.old.handed ≡ self.old.chunks }
+        requires { IsStrictlySortedBy chunk_cmp self.old.chunks }
         ensures order { IsStrictlySortedBy chunk_cmp self.new.chunks }
         ensures has { (q : ChunkPos) → is_recorded self.new.chunks q
             ≡ (is_recorded self.old.chunks q && not (same_chunk c q)) }
-        ensures handed { self.new.handed ≡ self.new.chunks }
         ensures rest { self.new ≡ record self.old {
+          calm = false;
           chunks = self.new.chunks;
-          handed = self.new.handed;
         } }
     {
+        self.calm = false;
         match members::place_of(self.chunks.as_slice(), c) {
-            Ok(i) => {
-                members::remove(alloc, &mut self.chunks, i);
-                members::remove(alloc, &mut self.handed, i);
-            }
+            Ok(i) => members::remove(alloc, &mut self.chunks, i),
             Err(_) => {}
         }
     }

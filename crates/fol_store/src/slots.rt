@@ -30,7 +30,7 @@ use std::mem;
 /// What was taken from a bag that is to be settled.
 #[derive(Drop)]
 pub struct Reopened {
-    /// Its chunks, as they are to be handed out.
+    /// Its chunks as they were to be handed out when it was whole.
     pub chunks: Vec<ChunkPos>,
     /// Those on whose spots tasks may lie.
     pub touched: Vec<ChunkPos>,
@@ -41,8 +41,6 @@ pub struct Reopened {
 pub struct Listing {
     /// Its chunks.
     pub chunks: Vec<ChunkPos>,
-    /// The same, to be handed out with it.
-    pub handed: Vec<ChunkPos>,
     /// The same, in whose spots something may lie.
     pub touched: Vec<ChunkPos>,
 }
@@ -51,16 +49,10 @@ impl Listing {
     /// The lists for these chunks.
     pub fn new(alloc: Global, chunks: Vec<ChunkPos>) -> Result<Listing, AllocError>
         ensures chunks { IfOk result (λ lists. lists.chunks.items ≡ chunks.items) }
-        ensures handed { IfOk result (λ lists. lists.handed.items ≡ chunks.items) }
         ensures touched { IfOk result (λ lists. lists.touched.items ≡ chunks.items) }
     {
-        let handed = Vec::from_slice(alloc, &chunks)?;
         let touched = Vec::from_slice(alloc, &chunks)?;
-        Ok(Listing {
-            chunks,
-            handed,
-            touched,
-        })
+        Ok(Listing { chunks, touched })
     }
 }
 
@@ -173,22 +165,16 @@ pub fn list(bags: &mut Bags, id: usize, lists: Listing)
           listed = true;
           calm = false;
           chunks = lists.chunks.items;
-          handed = lists.handed.items;
           touched = lists.touched.items;
         } else slot_in bags.old.items u) }
     ensures len { length bags.new.items ≡ length bags.old.items }
     ensures free { bags.new.free ≡ bags.old.free }
 {
-    let Listing {
-        chunks,
-        handed,
-        touched,
-    } = lists;
+    let Listing { chunks, touched } = lists;
     let slot = bags.slot_mut(id);
     slot.listed = true;
     slot.calm = false;
     slot.chunks = Sequence::of(chunks);
-    slot.handed = Sequence::of(handed);
     slot.touched = Sequence::of(touched);
 }
 
@@ -409,12 +395,9 @@ pub fn is_ready(bags: &Bags, id: usize) -> bool
 pub fn admit(alloc: Global, bags: &mut Bags, id: usize, c: ChunkPos) -> Result<(), AllocError>
     requires open { is_open (slot_in bags.old.items id) ≡ true }
     requires order { IsStrictlySortedBy chunk_cmp (slot_in bags.old.items id).chunks }
-    requires handed { (slot_in bags.old.items id).handed ≡ (slot_in bags.old.items id).chunks }
     ensures order { OnOk result (IsStrictlySortedBy chunk_cmp (slot_in bags.new.items id).chunks) }
     ensures has { OnOk result ((q : ChunkPos) → is_recorded (slot_in bags.new.items id).chunks q
         ≡ (is_recorded (slot_in bags.old.items id).chunks q || same_chunk c q)) }
-    ensures handed { OnOk result ((slot_in bags.new.items id).handed
-        ≡ (slot_in bags.new.items id).chunks) }
     ensures noted { OnOk result ((slot_in bags.new.items id).touched
         ≡ (slot_in bags.old.items id).touched ++ c ∷ []) }
     ensures listed { OnOk result ((slot_in bags.new.items id).listed
@@ -428,7 +411,6 @@ pub fn admit(alloc: Global, bags: &mut Bags, id: usize, c: ChunkPos) -> Result<(
           listed = (slot_in bags.new.items id).listed;
           calm = false;
           chunks = (slot_in bags.new.items id).chunks;
-          handed = (slot_in bags.new.items id).handed;
           touched = (slot_in bags.new.items id).touched;
         }
         else slot_in bags.old.items u) }
@@ -442,20 +424,18 @@ pub fn admit(alloc: Global, bags: &mut Bags, id: usize, c: ChunkPos) -> Result<(
     result
 }
 
-/// A chunk leaves a bag.
+/// A chunk leaves a bag, which is calm no more.
 pub fn dismiss(alloc: Global, bags: &mut Bags, id: usize, c: ChunkPos)
     requires open { is_open (slot_in bags.old.items id) ≡ true }
     requires order { IsStrictlySortedBy chunk_cmp (slot_in bags.old.items id).chunks }
-    requires handed { (slot_in bags.old.items id).handed ≡ (slot_in bags.old.items id).chunks }
     ensures order { IsStrictlySortedBy chunk_cmp (slot_in bags.new.items id).chunks }
     ensures has { (q : ChunkPos) → is_recorded (slot_in bags.new.items id).chunks q
         ≡ (is_recorded (slot_in bags.old.items id).chunks q && not (same_chunk c q)) }
-    ensures handed { (slot_in bags.new.items id).handed ≡ (slot_in bags.new.items id).chunks }
     ensures slots { (u : ℕ) → slot_in bags.new.items u
         ≡ (if nat_eq id u
         then record (slot_in bags.old.items id) {
+          calm = false;
           chunks = (slot_in bags.new.items id).chunks;
-          handed = (slot_in bags.new.items id).handed;
         } else slot_in bags.old.items u) }
     ensures len { length bags.new.items ≡ length bags.old.items }
     ensures free { bags.new.free ≡ bags.old.free }

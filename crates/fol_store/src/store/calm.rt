@@ -1,6 +1,6 @@
 //! The tasks that came on the chunks of a listed bag go into it.
 
-ghost use Rattle.std.specs.Prelude.{◌≡◌, ◌≢◌, ◌≤◌, ◌<◌, [], true, false, ℕ, OnOk, OnErr};
+ghost use Rattle.std.specs.Prelude.{◌≡◌, ◌≢◌, ◌≤◌, ◌<◌, [], true, false, ℕ, IfOk, OnOk, OnErr};
 ghost use Rattle.fol_model.specs.ActionStep.{at_id};
 ghost use Rattle.fol_model.specs.declared.places.ChunkPos.{ChunkPos};
 ghost use Rattle.fol_chunks.specs.Contents.{is_recorded};
@@ -38,6 +38,17 @@ impl Store {
         self.draw_noted(id as usize)
     }
 
+    /// The chunks of a bag, in the memory of another list where there is room.
+    fn list_again(&self, id: usize, list: Vec<ChunkPos>) -> Result<Vec<ChunkPos>, AllocError>
+        requires { (bag_of self.now id).here ≡ true }
+        ensures { IfOk result (λ list. list.items ≡ (bag_of self.now id).chunks) }
+    {
+        let mut list = list;
+        list.clear();
+        list.extend_from_slice(self.chunks_of(id))?;
+        Ok(list)
+    }
+
     /// Moves what lies in the noted spots of a listed bag into it, where no task is to be handed out.
     fn draw_noted(&mut self, id: usize) -> Result<(), AllocError>
         requires here { (bag_of self.old id).here ≡ true }
@@ -51,6 +62,10 @@ impl Store {
         ensures others { (u : ℕ) → u ≢ id → bag_of self.new u ≡ bag_of self.old u }
     {
         let Reopened { chunks, touched } = self.reopen(id);
+        let chunks = match self.list_again(id, chunks) {
+            Ok(chunks) => chunks,
+            Err(_) => return Err(AllocError),
+        };
         match self.draw_touched(id, &chunks, &touched) {
             Ok(()) => {}
             Err(_) => return Err(AllocError),
@@ -67,8 +82,8 @@ impl Store {
         ensures same { SameMeaning self.old self.new }
         ensures bags { bag_of self.new
             ≡ at_id (bag_of self.old) id (record (bag_of self.old id) { listed = false }) }
-        ensures chunks { result.chunks.items ≡ (bag_of self.old id).chunks }
-        ensures reopened { IsReopened id result.chunks.items result.touched.items self.new }
+        ensures reopened { IsReopened id (bag_of self.old id).chunks result.touched.items
+            self.new }
     {
         slots::reopen(self.alloc, &mut self.bags, id)
     }

@@ -121,7 +121,6 @@ impl Store {
         requires order { IsStrictlySortedBy chunk_cmp lists.chunks.items }
         requires homes { (q : ChunkPos) → is_recorded lists.chunks.items q ≡ true
             → (place self.old q).bag ≡ Some from }
-        requires handed { lists.handed.items ≡ lists.chunks.items }
         requires touched { lists.touched.items ≡ lists.chunks.items }
         ensures received { Receives to lists.chunks.items (bag_of self.old) (bag_of self.new) }
         ensures same { SameWorld self.old self.new }
@@ -147,7 +146,6 @@ impl Store {
             → (place self.old q).bag ≡ Some from }
         requires no_other { (q : ChunkPos) → (place self.old q).bag ≡ Some from
             → is_recorded lists.chunks.items q ≡ true }
-        requires handed { lists.handed.items ≡ lists.chunks.items }
         requires touched { lists.touched.items ≡ lists.chunks.items }
         ensures received { Receives to lists.chunks.items (bag_of self.old) (bag_of self.new) }
         ensures same { SameWorld self.old self.new }

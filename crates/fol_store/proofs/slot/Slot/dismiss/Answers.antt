@@ -7,12 +7,12 @@ use Rattle.fol_store.proofs.OneMore.{order_remove, recorded_between, recorded_re
 use Rattle.fol_store.proofs.slot.Slot.dismiss.Goals as goal
 
 pub returns-in-Ok-clause-order : goal.returns-in-Ok-clause-order
-returns-in-Ok-clause-order c = rw c.remove.ensures (order_remove c.args.self.now.chunks c.in-Ok.i c.requires.order)
+returns-in-Ok-clause-order c = rw c.remove.ensures (order_remove c.args.self.now.chunks c.in-Ok.i c.requires)
 
 pub returns-in-Ok-clause-has : goal.returns-in-Ok-clause-has
 returns-in-Ok-clause-has c = λ q.
     let at : (c.in-Ok.i < length c.args.self.now.chunks) × ((d : ChunkPos) → get_or c.args.self.now.chunks c.in-Ok.i d ≡ c.args.c) = rw c.as_slice.ensures at c.in-Ok.ensures in
-    rw c.remove.ensures (recorded_remove c.args.self.now.chunks c.in-Ok.i c.args.c q c.requires.order at.0 at.1)
+    rw c.remove.ensures (recorded_remove c.args.self.now.chunks c.in-Ok.i c.args.c q c.requires at.0 at.1)
 
 pub returns-in-Err-clause-has : goal.returns-in-Err-clause-has
 returns-in-Err-clause-has c = λ q.

@@ -4,7 +4,7 @@ use Rattle.std.specs.declared.cmp.Ordering.TheVariants.{Less, Greater}
 use Rattle.fol_model.specs.declared.places.ChunkPos.{ChunkPos}
 use Rattle.fol_chunks.specs.Order.{chunk_cmp}
 use Rattle.fol_store.proofs.OneMore.{order_insert, recorded_insert, recorded_kept, recorded_there, recorded_where}
-use Rattle.fol_store.proofs.PlaceSteps.{on_ok}
+use Rattle.fol_store.proofs.PlaceSteps.{on_ok, ok_or_err}
 use Rattle.fol_store.proofs.slot.Slot.widen.Goals as goal
 
 pub returns-in-Ok-clause-has : goal.returns-in-Ok-clause-has
@@ -15,13 +15,13 @@ returns-in-Ok-clause-has c = λ q.
 pub returns-in-Err-clause-order : goal.returns-in-Err-clause-order
 returns-in-Err-clause-order c =
     let at : (c.in-Err.i ≤ length c.args.self.now.chunks) × IsPartitionPoint (λ q. chunk_cmp q c.args.c ≡ Less) (λ q. chunk_cmp q c.args.c ≡ Greater) c.args.self.now.chunks c.in-Err.i = rw c.as_slice.ensures at c.in-Err.ensures in
-    on_ok c.admit_at.result _ _ c.admit_at.ensures.chunks (λ e. rw e (order_insert c.args.self.now.chunks c.in-Err.i c.args.c c.requires.order at.0 at.1))
+    on_ok c.insert.result _ _ c.insert.ensures.ok (λ e. rw e (order_insert c.args.self.now.chunks c.in-Err.i c.args.c c.requires at.0 at.1))
 
 pub returns-in-Err-clause-has : goal.returns-in-Err-clause-has
-returns-in-Err-clause-has c = on_ok c.admit_at.result _ _ c.admit_at.ensures.chunks (λ e q. rw e (recorded_insert c.args.self.now.chunks c.in-Err.i c.args.c q))
+returns-in-Err-clause-has c = on_ok c.insert.result _ _ c.insert.ensures.ok (λ e q. rw e (recorded_insert c.args.self.now.chunks c.in-Err.i c.args.c q))
 
 pub returns-in-Err-clause-kept : goal.returns-in-Err-clause-kept
-returns-in-Err-clause-kept c = λ q r. elim c.admit_at.ensures.kept [
-  | inl e ↦ rw e r
-  | inr e ↦ rw e (recorded_kept c.args.self.now.chunks c.in-Err.i c.args.c q r)
+returns-in-Err-clause-kept c = λ q r. elim (ok_or_err c.insert.result _ _ c.insert.ensures.ok c.insert.ensures.err) [
+  | inl e ↦ rw e (recorded_kept c.args.self.now.chunks c.in-Err.i c.args.c q r)
+  | inr e ↦ rw e r
 ]

@@ -19,13 +19,6 @@ pub admit-requires-clause-order : goal.admit-requires-clause-order
 unfolding bag_of
 admit-requires-clause-order c = rw (← c.self.view_is) at c.requires.order
 
-pub admit-requires-clause-handed : goal.admit-requires-clause-handed
-unfolding bag_of
-admit-requires-clause-handed c =
-    let here : (slot (the_view c.self.inside) c.args.id).here ≡ true = rw (← c.self.view_is) at c.requires.here in
-    let listed : (slot (the_view c.self.inside) c.args.id).listed ≡ true = rw (← c.self.view_is) at c.requires.listed in
-    (c.self.invariant.bags c.args.id).handed (rw (here, listed) refl)
-
 pub unlist-requires : goal.unlist-requires
 unfolding bag_of
 unlist-requires c = first_open c.args.id _ _ _ (c.admit.ensures.slots c.args.id) (rw (← c.self.view_is) at c.requires.here)
@@ -37,16 +30,16 @@ with_chunk c =
     let listed : (slot (the_view c.self.inside) c.args.id).listed ≡ true = rw (← c.self.view_is) at c.requires.listed in
     let there : c.args.place ≡ place (the_view c.self.inside) c.args.c = rw (← c.self.view_is) at c.requires.there in
     let d : Slot = slot_in c.admit.new.bags.items c.args.id in
-    came (the_view c.self.inside) c.admit.new.bags.items c.set.new.self _ _ c.args.id c.args.c d.listed d.chunks d.handed d.touched
+    came (the_view c.self.inside) c.admit.new.bags.items c.set.new.self _ _ c.args.id c.args.c d.listed d.chunks d.touched
     c.admit.ensures.slots c.self.invariant (omega arith) (here_range c.self.inside.bags.items c.args.id here) here (omega arith) (omega (arith, c.admit.ensures.len, c.admit.ensures.free))
-    listed c.args.place there c.requires.none c.in-Ok-set.ensures.ok c.in-Ok.ensures.order c.in-Ok.ensures.has c.in-Ok.ensures.handed c.in-Ok.ensures.noted
+    listed c.args.place there c.requires.none c.in-Ok-set.ensures.ok c.in-Ok.ensures.order c.in-Ok.ensures.has c.in-Ok.ensures.noted
 
 without_place : (c : goal.After-unlist) → Followed (the_view c.self.inside) (with_parts (the_view c.self.inside) c.self.inside.spots.items c.unlist.new.bags.items c.set.new.self (vec_capacity c.self.inside.arrivals - vec_len c.self.inside.arrivals) c.unlist.new.bags.free) c.args.id (wider (the_view c.self.inside) c.args.id c.args.c)
 unfolding bag_of
 without_place c =
     let here : (slot (the_view c.self.inside) c.args.id).here ≡ true = rw (← c.self.view_is) at c.requires.here in
     let d : Slot = slot_in c.admit.new.bags.items c.args.id in
-    unlisted (the_view c.self.inside) c.unlist.new.bags.items c.set.new.self _ _ c.args.id c.args.c false d.chunks d.handed d.touched
+    unlisted (the_view c.self.inside) c.unlist.new.bags.items c.set.new.self _ _ c.args.id c.args.c false d.chunks d.touched
     (set_twice c.args.id (slot (the_view c.self.inside)) (slot_in c.admit.new.bags.items) (slot_in c.unlist.new.bags.items) _ (λ (z : Slot). let y : Slot = record z { listed = false } in y) c.admit.ensures.slots c.unlist.ensures.slots)
     c.self.invariant (omega arith) (here_range c.self.inside.bags.items c.args.id here) here (omega arith) (omega (arith, c.admit.ensures.len, c.admit.ensures.free, c.unlist.ensures.len, c.unlist.ensures.free))
     refl c.in-Err-set.ensures.err c.admit.ensures.kept
@@ -56,7 +49,7 @@ unfolding bag_of
 without_room c =
     let here : (slot (the_view c.self.inside) c.args.id).here ≡ true = rw (← c.self.view_is) at c.requires.here in
     let d : Slot = slot_in c.admit.new.bags.items c.args.id in
-    unlisted (the_view c.self.inside) c.admit.new.bags.items c.self.inside.places _ _ c.args.id c.args.c d.listed d.chunks d.handed d.touched
+    unlisted (the_view c.self.inside) c.admit.new.bags.items c.self.inside.places _ _ c.args.id c.args.c d.listed d.chunks d.touched
     c.admit.ensures.slots c.self.invariant (omega arith) (here_range c.self.inside.bags.items c.args.id here) here (omega arith) (omega (arith, c.admit.ensures.len, c.admit.ensures.free))
     c.in-Err.ensures.unlisted (λ q. refl) c.admit.ensures.kept
 

@@ -43,14 +43,6 @@ dismiss-requires-clause-order c =
     let P : List ChunkPos → Type 0 = λ xs. IsStrictlySortedBy chunk_cmp xs in
     subst P (sym (ap (λ (z : Slot). z.chunks) mine)) order
 
-pub dismiss-requires-clause-handed : goal.dismiss-requires-clause-handed
-unfolding bag_of
-dismiss-requires-clause-handed c =
-    let here : (slot (the_view c.self.inside) c.args.id).here ≡ true = rw (← c.self.view_is) at c.requires.here in
-    let listed : (slot (the_view c.self.inside) c.args.id).listed ≡ true = rw (← c.self.view_is) at c.requires.listed in
-    let mine : slot_in c.shift_from_bag.new.bags.items c.args.id ≡ record (slot (the_view c.self.inside) c.args.id) { body = (slot_in c.shift_from_bag.new.bags.items c.args.id).body } = c.shift_from_bag.ensures.slots c.args.id ∙ rw (nat_self c.args.id) refl in
-    ap (λ (z : Slot). z.handed) mine ∙ (c.self.invariant.bags c.args.id).handed (rw (here, listed) refl) ∙ sym (ap (λ (z : Slot). z.chunks) mine)
-
 moved : (c : goal.After-dismiss) → Followed (the_view c.self.inside) (with_parts (the_view c.self.inside) c.shift_from_bag.new.spots.items c.dismiss.new.bags.items c.unname.new.self (vec_capacity c.self.inside.arrivals - vec_len c.self.inside.arrivals) c.dismiss.new.bags.free) c.args.id (narrower (the_view c.self.inside) c.args.id c.args.c)
 unfolding bag_of
 moved c =
@@ -58,10 +50,10 @@ moved c =
     let between : Slot = slot_in c.shift_from_bag.new.bags.items c.args.id in
     let d : Slot = slot_in c.dismiss.new.bags.items c.args.id in
     let mine : between ≡ record (slot s c.args.id) { body = between.body } = c.shift_from_bag.ensures.slots c.args.id ∙ rw (nat_self c.args.id) refl in
-    left_one s c.shift_from_bag.new.spots.items c.dismiss.new.bags.items c.unname.new.self _ _ c.args.i c.args.id c.args.c between.body (spot_in c.shift_from_bag.new.spots.items c.args.i) d.chunks d.handed
+    left_one s c.shift_from_bag.new.spots.items c.dismiss.new.bags.items c.unname.new.self _ _ c.args.i c.args.id c.args.c between.body (spot_in c.shift_from_bag.new.spots.items c.args.i) d.chunks
     (record {
       each_spot = c.shift_from_bag.ensures.spots;
-      each_bag = set_twice c.args.id (slot s) (slot_in c.shift_from_bag.new.bags.items) (slot_in c.dismiss.new.bags.items) _ (λ (z : Slot). let y : Slot = record z { chunks = d.chunks; handed = d.handed } in y) c.shift_from_bag.ensures.slots c.dismiss.ensures.slots;
+      each_bag = set_twice c.args.id (slot s) (slot_in c.shift_from_bag.new.bags.items) (slot_in c.dismiss.new.bags.items) _ (λ (z : Slot). let y : Slot = record z { calm = false; chunks = d.chunks } in y) c.shift_from_bag.ensures.slots c.dismiss.ensures.slots;
       spots_long = omega arith;
       bags_long = omega arith;
       timely = c.shift_from_bag.ensures.timely;
@@ -77,7 +69,6 @@ moved c =
       gains = c.in_ok-shift_from_bag.ensures.gains;
       order = c.dismiss.ensures.order;
       has = λ q. c.dismiss.ensures.has q ∙ ap (λ (z : Slot). is_recorded z.chunks q && not (same_chunk c.args.c q)) mine;
-      twice = c.dismiss.ensures.handed;
     })
     c.self.invariant
 

@@ -32,13 +32,13 @@ moved c =
     let p = a_pair s c.args.self.now c.args.from c.args.to c.self.view_is c.requires.here c.requires.unlisted c.requires.fresh c.requires.differ in
     let n = same_numbers s c.args.self.now c.args.from c.args.to c.self.view_is p c.requires.tick c.requires.owed in
     let all = rw (← c.self.view_is) at c.requires.no_other in
-    listed_over s c.list.new.bags.items c.rehome.new.self _ _ c.args.from c.args.to c.args.lists.chunks.items c.args.lists.handed.items c.args.lists.touched.items
+    listed_over s c.list.new.bags.items c.rehome.new.self _ _ c.args.from c.args.to c.args.lists.chunks.items c.args.lists.touched.items
     (slot s c.args.to).body (slot s c.args.from).body
     (record {
       pours = record {
         each = shift_and_list s c.args.from c.args.to (let b : Slot = record (slot s c.args.from) { body = (slot s c.args.to).body; listed = false } in b) (let b : Slot = record (slot s c.args.to) { body = (slot s c.args.from).body } in b)
             (slot_in c.swap_bodies.new.bags.items) (slot_in c.list.new.bags.items)
-            (λ (x : Slot). let b : Slot = record x { listed = true; calm = false; chunks = c.args.lists.chunks.items; handed = c.args.lists.handed.items; touched = c.args.lists.touched.items } in b)
+            (λ (x : Slot). let b : Slot = record x { listed = true; calm = false; chunks = c.args.lists.chunks.items; touched = c.args.lists.touched.items } in b)
             c.requires.differ c.swap_bodies.ensures.slots c.list.ensures.slots;
         loses = swap_loses s c.args.from c.args.to c.args.lists.chunks.items c.self.invariant p n all;
         gains = swap_gains s c.args.from c.args.to c.args.lists.chunks.items c.self.invariant p n all;
@@ -51,7 +51,6 @@ moved c =
       };
       pair = p;
       homes = rw (← c.self.view_is) at c.requires.homes;
-      handed_are = c.requires.handed;
       touched_are = c.requires.touched;
       more_spare = omega arith;
       more_slots = omega (arith, c.swap_bodies.ensures.len, c.swap_bodies.ensures.free, c.list.ensures.len, c.list.ensures.free);

@@ -35,14 +35,14 @@ moved : (c : goal.After-list) → Handed c.args.to c.args.lists.chunks.items (th
 moved c =
     let s = the_view c.self.inside in
     let p = a_pair s c.args.self.now c.args.from c.args.to c.self.view_is c.requires.here c.requires.unlisted c.requires.fresh c.requires.differ in
-    listed_over s c.list.new.bags.items c.rehome.new.self _ _ c.args.from c.args.to c.args.lists.chunks.items c.args.lists.handed.items c.args.lists.touched.items
+    listed_over s c.list.new.bags.items c.rehome.new.self _ _ c.args.from c.args.to c.args.lists.chunks.items c.args.lists.touched.items
     (slot_in c.shift_bags.new.bags.items c.args.from).body (slot_in c.shift_bags.new.bags.items c.args.to).body
     (record {
       pours = record {
         each = shift_and_list s c.args.from c.args.to (let b : Slot = record (slot s c.args.from) { body = (slot_in c.shift_bags.new.bags.items c.args.from).body; listed = false } in b)
             (let b : Slot = record (slot s c.args.to) { body = (slot_in c.shift_bags.new.bags.items c.args.to).body } in b)
             (slot_in c.shift_bags.new.bags.items) (slot_in c.list.new.bags.items)
-            (λ (x : Slot). let b : Slot = record x { listed = true; calm = false; chunks = c.args.lists.chunks.items; handed = c.args.lists.handed.items; touched = c.args.lists.touched.items } in b)
+            (λ (x : Slot). let b : Slot = record x { listed = true; calm = false; chunks = c.args.lists.chunks.items; touched = c.args.lists.touched.items } in b)
             c.requires.differ c.shift_bags.ensures.slots c.list.ensures.slots;
         loses = rw c.deref.ensures.value at c.in-Ok.ensures.loses;
         gains = rw c.deref.ensures.value at c.in-Ok.ensures.gains;
@@ -55,14 +55,13 @@ moved c =
       };
       pair = p;
       homes = rw (← c.self.view_is) at c.requires.homes;
-      handed_are = c.requires.handed;
       touched_are = c.requires.touched;
       more_spare = omega arith;
       more_slots = omega (arith, c.shift_bags.ensures.len, c.shift_bags.ensures.free, c.list.ensures.len, c.list.ensures.free);
     })
     c.self.invariant
 
-stayed : (c : goal.After-drop-lists-in-Err-2) → Handed c.args.to c.args.lists.chunks.items (the_view c.self.inside) (with_parts (the_view c.self.inside) c.self.inside.spots.items c.shift_bags.new.bags.items c.self.inside.places (vec_capacity c.self.inside.arrivals - vec_len c.self.inside.arrivals) c.shift_bags.new.bags.free)
+stayed : (c : goal.After-drop-lists-in-Err-1) → Handed c.args.to c.args.lists.chunks.items (the_view c.self.inside) (with_parts (the_view c.self.inside) c.self.inside.spots.items c.shift_bags.new.bags.items c.self.inside.places (vec_capacity c.self.inside.arrivals - vec_len c.self.inside.arrivals) c.shift_bags.new.bags.free)
 stayed c =
     let s = the_view c.self.inside in
     let p = a_pair s c.args.self.now c.args.from c.args.to c.self.view_is c.requires.here c.requires.unlisted c.requires.fresh c.requires.differ in

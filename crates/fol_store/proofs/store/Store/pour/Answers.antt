@@ -18,7 +18,7 @@ unfolding bag_of
 merge-requires-clause-order c =
     let k = both_whole _ _ _ _ _ c.self.view_is c.requires.from c.requires.into c.requires.from_whole c.requires.into_whole c.requires.chunks in
     let order : IsStrictlySortedBy chunk_cmp (slot (the_view c.self.inside) c.args.from).chunks = (rw (← c.self.view_is) at c.requires.from_order) k.listed in
-    rw (handed_listed (the_view c.self.inside) c.args.from c.self.invariant k.here k.listed) order
+    rw (handed_listed (the_view c.self.inside) c.args.from c.self.invariant k.here k.listed k.calm) order
 
 pub merge-requires-clause-from_open : goal.merge-requires-clause-from_open
 merge-requires-clause-from_open c =
@@ -38,7 +38,7 @@ merge-requires-clause-apart c = λ k x y p q.
 moved : (c : goal.After-drop-moved) → Merged c.args.from c.args.into (the_view c.self.inside) (with_parts (the_view c.self.inside) c.self.inside.spots.items c.merge.new.bags.items c.rehome.new.self (vec_capacity c.self.inside.arrivals - vec_len c.self.inside.arrivals) c.merge.new.bags.free)
 moved c =
     let k = both_whole _ _ _ _ _ c.self.view_is c.requires.from c.requires.into c.requires.from_whole c.requires.into_whole c.requires.chunks in
-    let all : (slot (the_view c.self.inside) c.args.from).handed ≡ (slot (the_view c.self.inside) c.args.from).chunks = handed_listed (the_view c.self.inside) c.args.from c.self.invariant k.here k.listed in
+    let all : (slot (the_view c.self.inside) c.args.from).handed ≡ (slot (the_view c.self.inside) c.args.from).chunks = handed_listed (the_view c.self.inside) c.args.from c.self.invariant k.here k.listed k.calm in
     merged_bags (the_view c.self.inside) c.merge.new.bags.items c.rehome.new.self _ _ c.args.from c.args.into (slot (the_view c.self.inside) c.args.from).handed
     (slot_in c.merge.new.bags.items c.args.from).body (slot_in c.merge.new.bags.items c.args.into).body true true c.args.lists.chunks.items c.args.lists.handed.items []
     (record {

@@ -1,4 +1,4 @@
-use Rattle.std.proofs.Common.{◌≡◌, ◌-◌, [], true, false, refl, sym, ◌∙◌, ap, arith, vec_len}
+use Rattle.std.proofs.Common.{◌≡◌, ◌-◌, [], true, false, sym, ◌∙◌, ap, arith, vec_len}
 use Rattle.std.specs.Vec.{vec_capacity}
 use Rattle.fol_store.specs.contracts.store.Store.{the_view}
 use Rattle.fol_store.specs.Bag.{Bag}
@@ -37,11 +37,8 @@ returns-clause-same c = rw (← c.self.view_is) (step c).same
 pub returns-clause-bags : goal.returns-clause-bags
 returns-clause-bags c = rw (← c.self.view_is) (step c).bags
 
-pub returns-clause-chunks : goal.returns-clause-chunks
-returns-clause-chunks c =
-    rw (← c.self.view_is) (c.reopen.ensures.handed ∙ (c.self.invariant.bags c.args.id).handed (rw (here c, listed c) refl) ∙ sym (ap (λ (b : Bag). b.chunks) (bag_slot (the_view c.self.inside) c.args.id)))
-
 pub returns-clause-reopened : goal.returns-clause-reopened
+unfolding bag_of
 returns-clause-reopened c =
     let none : (the_view c.self.inside).arrivals ≡ [] = rw (← c.self.view_is) at c.requires.empty in
-    rw (c.reopen.ensures.handed, c.reopen.ensures.touched) (reopened_is (the_view c.self.inside) c.reopen.new.bags.items _ _ c.args.id c.reopen.ensures.slots (here c) (listed c) c.self.invariant none)
+    rw (← c.self.view_is, c.reopen.ensures.touched) (reopened_is (the_view c.self.inside) c.reopen.new.bags.items _ _ c.args.id c.reopen.ensures.slots (here c) (listed c) c.self.invariant none)

@@ -48,7 +48,7 @@ invariant_of-self c =
 pub returns-clause-chunks : goal.returns-clause-chunks
 returns-clause-chunks c =
     let both : ((slot (the_view c.self.inside) c.args.id).here && (slot (the_view c.self.inside) c.args.id).listed) ≡ true = rw (here c, listed c) refl in
-    rw (← c.self.view_is) (c.take_out.ensures.handed ∙ (c.self.invariant.bags c.args.id).handed both ∙ sym (ap (λ (b : Bag). b.chunks) (bag_slot (the_view c.self.inside) c.args.id)))
+    rw (← c.self.view_is) (c.take_out.ensures.handed ∙ (c.self.invariant.bags c.args.id).handed both (calm c) ∙ sym (ap (λ (b : Bag). b.chunks) (bag_slot (the_view c.self.inside) c.args.id)))
 
 pub returns-clause-tick : goal.returns-clause-tick
 returns-clause-tick c =
