@@ -16,6 +16,7 @@ use Rattle.fol_store.specs.Relisted.{IsUngathered, Receives}
 use Rattle.fol_store.specs.Things.{Key, Thing, things, chunk_at}
 use Rattle.fol_store.specs.Stock.{Stock, Where, arriving, in_spot, in_bag, slot, place, column, found, next_of, bag_of, shown}
 use Rattle.fol_store.specs.Sound.{Near, IsBag, IsSound}
+use Rattle.fol_store.specs.Noted.{AreNoted}
 use Rattle.fol_store.specs.Steps.{SameWorld}
 use Rattle.fol_store.proofs.Columns.{Moves, Stayed, filter_no, filter_yes, moves_back}
 use Rattle.fol_store.proofs.Totals.{where_cases, same_flat, same_jobs}
@@ -168,7 +169,7 @@ module _ (s : Stock) (bags : List Slot) (places : PlaceRows) (spare slots u id :
     pub pours : Pours s bags places spare slots u id chunks first_left second_listed
     pub pair : Pair s u id
     pub homes : (q : ChunkPos) → is_recorded chunks q ≡ true → (place s q).bag ≡ Some u
-    pub touched_are : touched ≡ chunks
+    pub touched_are : AreNoted s chunks touched
     pub more_spare : s.spare ≤ spare
     pub more_slots : s.slots ≤ slots
 
@@ -178,7 +179,7 @@ module _ (s : Stock) (bags : List Slot) (places : PlaceRows) (spare slots u id :
 
     lies_near : (k : Key) (x : Thing k) (w : Where) → Stayed where_cases (column s k) (column after k) (in_bag u) w (λ y. is_recorded chunks (chunk_at k y)) x → is_recorded chunks (chunk_at k x) ≡ true → Near id second_listed (chunk_at k x) w
     lies_near k x arriving z r = λ o. never o
-    lies_near k x (in_spot i) z r = ap (λ l. is_recorded l (chunk_at k x)) d.touched_are ∙ r
+    lies_near k x (in_spot i) z r = d.touched_are (chunk_at k x) i r (h.lies k (in_spot i) x z.had)
     lies_near k x (in_bag n) z r =
         let e : Some n ≡ Some u = sym (h.lies k (in_bag n) x z.had) ∙ d.homes (chunk_at k x) r in
         let f : n ≡ u = cc in

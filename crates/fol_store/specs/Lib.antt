@@ -14,3 +14,4 @@ pub mod Steps
 pub mod Laid
 pub mod TaskRows
 pub mod Lists
+pub mod Noted

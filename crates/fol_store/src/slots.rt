@@ -41,19 +41,8 @@ pub struct Reopened {
 pub struct Listing {
     /// Its chunks.
     pub chunks: Vec<ChunkPos>,
-    /// The same, in whose spots something may lie.
+    /// Those of them in whose spots something may lie.
     pub touched: Vec<ChunkPos>,
-}
-
-impl Listing {
-    /// The lists for these chunks.
-    pub fn new(alloc: Global, chunks: Vec<ChunkPos>) -> Result<Listing, AllocError>
-        ensures chunks { IfOk result (λ lists. lists.chunks.items ≡ chunks.items) }
-        ensures touched { IfOk result (λ lists. lists.touched.items ≡ chunks.items) }
-    {
-        let touched = Vec::from_slice(alloc, &chunks)?;
-        Ok(Listing { chunks, touched })
-    }
 }
 
 /// Says that a bag has to be gathered anew.
@@ -307,7 +296,7 @@ pub fn touch(alloc: Global, bags: &mut Bags, id: usize, c: ChunkPos) -> Result<(
 }
 
 /// Adds a chunk to a list.
-fn add(chunks: &mut Vec<ChunkPos>, c: ChunkPos) -> Result<(), AllocError>
+pub fn add(chunks: &mut Vec<ChunkPos>, c: ChunkPos) -> Result<(), AllocError>
     ensures ok { OnOk result (chunks.new.items ≡ chunks.old.items ++ c ∷ []) }
     ensures err { OnErr result (chunks.new.items ≡ chunks.old.items) }
 {

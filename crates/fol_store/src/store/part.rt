@@ -1,6 +1,6 @@
 //! A region falls apart, and its parts get what lies on their chunks.
 
-ghost use Rattle.std.specs.Prelude.{◌≡◌, ◌≢◌, ◌≤◌, ℕ, true, false, Some};
+ghost use Rattle.std.specs.Prelude.{◌≡◌, ◌≢◌, ◌≤◌, ℕ, true, false, Some, IfSome, OnOk};
 ghost use Rattle.std.specs.List.Sorted.{IsStrictlySortedBy};
 ghost use Rattle.fol_model.specs.declared.places.ChunkPos.{ChunkPos};
 ghost use Rattle.fol_chunks.specs.Contents.{is_recorded};
@@ -8,15 +8,17 @@ ghost use Rattle.fol_chunks.specs.Order.{chunk_cmp};
 ghost use Rattle.fol_store.specs.Bag.{no_bag};
 ghost use Rattle.fol_store.specs.Relisted.{IsUngathered, Receives, Stays};
 
-use crate::places::has_bag;
+use crate::places::{Place, has_bag};
 use crate::slots;
 use crate::slots::Listing;
 use crate::store::Store;
 use fol_keyed::ChunkList;
 use fol_model::ChunkPos;
+use std::alloc::AllocError;
 
 impl Store {
     ghost use Rattle.fol_store.specs.Stock.{Stock, flat_of, jobs_of, bag_of, next_of, place};
+    ghost use Rattle.fol_store.specs.Noted.{AreNoted};
     ghost use Rattle.fol_store.specs.Steps.{SameWorld};
 
     /// What lies on these chunks in the bag of a region goes into the bag of one of its parts, which is then listed for the chunks and
@@ -78,12 +80,9 @@ impl Store {
         ensures received { Receives to chunks.items (bag_of self.old) (bag_of self.new) }
         ensures same { SameWorld self.old self.new }
     {
-        if !self.has_all(from, &chunks) {
-            return;
-        }
-        match Listing::new(self.alloc, chunks) {
-            Ok(lists) => self.move_some(from, to, lists),
-            Err(_) => {}
+        match self.spots_among(from, &chunks) {
+            Some(touched) => self.move_some(from, to, Listing { chunks, touched }),
+            None => {}
         }
     }
 
@@ -99,15 +98,12 @@ impl Store {
         ensures received { Receives to chunks.items (bag_of self.old) (bag_of self.new) }
         ensures same { SameWorld self.old self.new }
     {
-        if !self.has_all(from, &chunks) {
-            return;
-        }
         if !self.has_no_other(from, &chunks) {
             return;
         }
-        match Listing::new(self.alloc, chunks) {
-            Ok(lists) => self.move_all(from, to, lists),
-            Err(_) => {}
+        match self.spots_among(from, &chunks) {
+            Some(touched) => self.move_all(from, to, Listing { chunks, touched }),
+            None => {}
         }
     }
 
@@ -121,7 +117,7 @@ impl Store {
         requires order { IsStrictlySortedBy chunk_cmp lists.chunks.items }
         requires homes { (q : ChunkPos) → is_recorded lists.chunks.items q ≡ true
             → (place self.old q).bag ≡ Some from }
-        requires touched { lists.touched.items ≡ lists.chunks.items }
+        requires touched { AreNoted self.old lists.chunks.items lists.touched.items }
         ensures received { Receives to lists.chunks.items (bag_of self.old) (bag_of self.new) }
         ensures same { SameWorld self.old self.new }
     {
@@ -146,7 +142,7 @@ impl Store {
             → (place self.old q).bag ≡ Some from }
         requires no_other { (q : ChunkPos) → (place self.old q).bag ≡ Some from
             → is_recorded lists.chunks.items q ≡ true }
-        requires touched { lists.touched.items ≡ lists.chunks.items }
+        requires touched { AreNoted self.old lists.chunks.items lists.touched.items }
         ensures received { Receives to lists.chunks.items (bag_of self.old) (bag_of self.new) }
         ensures same { SameWorld self.old self.new }
     {
@@ -155,17 +151,24 @@ impl Store {
         slots::list(&mut self.bags, to, lists);
     }
 
-    /// Whether a bag has each of the chunks.
-    fn has_all(&self, id: usize, chunks: &[ChunkPos]) -> bool
-        ensures { result ≡ true → (q : ChunkPos) → is_recorded chunks.now q ≡ true
-            → (place self.now q).bag ≡ Some id }
+    /// Those of the chunks that have a spot, where the bag has each of the chunks. `None` also where memory runs out.
+    fn spots_among(&self, id: usize, chunks: &[ChunkPos]) -> Option<Vec<ChunkPos>>
+        ensures homes { IfSome result (λ list. (q : ChunkPos) → is_recorded chunks.now q ≡ true
+            → (place self.now q).bag ≡ Some id) }
+        ensures noted { IfSome result (λ list. AreNoted self.now chunks.now list.items) }
     {
+        let mut list = Vec::new(self.alloc);
         for c in chunks {
-            if !has_bag(self.places.at(*c), id) {
-                return false;
+            let place = self.places.at(*c);
+            if !has_bag(place, id) {
+                return None;
+            }
+            match note_spot(&mut list, *c, place) {
+                Ok(()) => {}
+                Err(_) => return None,
             }
         }
-        true
+        Some(list)
     }
 
     /// Whether a bag has no chunk but these.
@@ -182,5 +185,18 @@ impl Store {
             }
         }
         true
+    }
+}
+
+/// Adds a chunk with this place to the list, where it has a spot.
+fn note_spot(list: &mut Vec<ChunkPos>, c: ChunkPos, place: Place) -> Result<(), AllocError>
+    ensures noted { OnOk result ((i : ℕ) → place.spot ≡ Some i
+        → is_recorded list.new.items c ≡ true) }
+    ensures kept { (q : ChunkPos) → is_recorded list.old.items q ≡ true
+        → is_recorded list.new.items q ≡ true }
+{
+    match place.spot {
+        Some(_) => slots::add(list, c),
+        None => Ok(()),
     }
 }

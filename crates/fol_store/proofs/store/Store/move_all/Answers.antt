@@ -51,7 +51,7 @@ moved c =
       };
       pair = p;
       homes = rw (← c.self.view_is) at c.requires.homes;
-      touched_are = c.requires.touched;
+      touched_are = rw (← c.self.view_is) at c.requires.touched;
       more_spare = omega arith;
       more_slots = omega (arith, c.swap_bodies.ensures.len, c.swap_bodies.ensures.free, c.list.ensures.len, c.list.ensures.free);
     })

@@ -1,7 +1,0 @@
-use Rattle.std.proofs.Common.{◌≡◌, ℕ, ◌<◌, get_or, Some}
-use Rattle.fol_model.specs.declared.places.ChunkPos.{ChunkPos}
-use Rattle.fol_store.specs.Stock.{place}
-use Rattle.fol_store.proofs.store.Store.has_all.Given as goal
-
-abbrev pub invariant-loop-c : goal.invariant-loop-c
-invariant-loop-c l = (k : ℕ) (d : ChunkPos) → k < l.c-index → (place l.self (get_or l.chunks k d)).bag ≡ Some l.id
