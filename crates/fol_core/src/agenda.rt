@@ -1,6 +1,7 @@
 //! The stack of regions that may owe a tick.
 
-ghost use Rattle.std.specs.Prelude.{◌≡◌, ◌≤◌, ℕ, true, IfSome, IsNone, [], vec_len, vec_capacity};
+ghost use Rattle.std.specs.Prelude.{◌≡◌, ◌<◌, ◌≤◌, ◌++◌, ◌∷◌, ◌&&◌, nat_lt, ℕ, true, false, IfSome, IsNone, [], vec_len, vec_capacity};
+ghost use Rattle.fol_model.specs.GridState.{is_ready};
 ghost use Rattle.fol_model.specs.Rules.{Rules};
 ghost use Rattle.fol_regions.specs.Table.{grid_state};
 ghost use Rattle.fol_store.specs.Stock.{bag_of};
@@ -17,7 +18,18 @@ pub(crate) fn owes(regions: &Regions, store: &Store, id: u64) -> bool
 {
     regions.keeps_rules();
     match regions.state(id) {
-        Some(State::Ready) => store.owed(id) > 0,
+        Some(state) => owes_in(state, store, id),
+        None => false,
+    }
+}
+
+/// Whether a region that is in this state is Ready and owes a tick.
+fn owes_in(state: State, store: &Store, id: u64) -> bool
+    requires { is_ready state ≡ true → (bag_of store.now id).here ≡ true }
+    ensures { result ≡ (is_ready state && nat_lt 0 (bag_of store.now id).owed) }
+{
+    match state {
+        State::Ready => store.owed(id) > 0,
         _ => false,
     }
 }
@@ -30,10 +42,39 @@ pub(crate) fn tidy(agenda: &mut Vec<u64>, regions: &Regions, store: &Store)
     ensures len { vec_len agenda.new ≤ vec_len agenda.old }
     ensures capacity { vec_capacity agenda.new ≡ vec_capacity agenda.old }
 {
-    while let Some(id) = agenda.pop() {
+    while let Some(id) = agenda.last().copied() {
         if owes(regions, store, id) {
-            agenda.push_reserved(id);
             return;
         }
+        let _ = agenda.pop();
+    }
+}
+
+/// Takes a region that is not Ready off the top, if it is there, and then regions until the top owes a tick.
+pub(crate) fn tidy_without(agenda: &mut Vec<u64>, regions: &Regions, store: &Store, id: u64)
+    requires state { is_ready ((grid_state regions.now).state id) ≡ false }
+    requires bags { HaveBags (grid_state regions.now) (bag_of store.now) }
+    requires covers { Covers agenda.old.items (grid_state regions.now) (bag_of store.now) }
+    ensures { IsAgenda agenda.new.items (grid_state regions.now) (bag_of store.now) }
+{
+    if agenda.last().copied() == Some(id) {
+        let _ = agenda.pop();
+    }
+    tidy(agenda, regions, store);
+}
+
+/// Puts a region that is in this state on top, and takes regions off until the top owes a tick.
+pub(crate) fn add(agenda: &mut Vec<u64>, regions: &Regions, store: &Store, id: u64, state: State)
+    requires state { state ≡ (grid_state regions.now).state id }
+    requires room { vec_len agenda.old < vec_capacity agenda.old }
+    requires bags { HaveBags (grid_state regions.now) (bag_of store.now) }
+    requires covers { Covers (agenda.old.items ++ id ∷ []) (grid_state regions.now)
+        (bag_of store.now) }
+    ensures { IsAgenda agenda.new.items (grid_state regions.now) (bag_of store.now) }
+{
+    let is_owing = owes_in(state, store, id);
+    agenda.push_reserved(id);
+    if !is_owing {
+        tidy(agenda, regions, store);
     }
 }

@@ -21,7 +21,7 @@ ghost use Rattle.fol_core.specs.Meaning.{IsReadyToBegin, Stays, world_of};
 ghost use Rattle.fol_core.specs.Same.{SameThings};
 
 use crate::BeginAnswer;
-use crate::agenda::{owes, tidy};
+use crate::agenda::{owes, tidy_without};
 use crate::bags::list_chunks;
 use crate::machine::{Core, Room, record};
 use crate::tables::{Tables, grow_history};
@@ -196,7 +196,7 @@ fn hand_out(tables: &mut Tables, id: u64, room: Vec<Task>) -> Begun
 {
     let Taken { chunks, mut body } = tables.store.take(id);
     tables.regions.begin(id);
-    tidy(&mut tables.agenda, &tables.regions, &tables.store);
+    tidy_without(&mut tables.agenda, &tables.regions, &tables.store, id);
     let mut due = room;
     body.owed -= 1;
     body.queues.take_due(body.tick + 1, &mut due);

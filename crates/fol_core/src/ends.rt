@@ -21,6 +21,7 @@ ghost use Rattle.fol_model.specs.declared.events.Entry.{Entry};
 ghost use Rattle.fol_model.specs.End.{ended};
 ghost use Rattle.fol_model.specs.Run.{world};
 ghost use Rattle.fol_core.specs.Agenda.{IsAgenda};
+ghost use Rattle.fol_core.specs.Bags.{AreInOrder, CanJoin, Joins};
 ghost use Rattle.fol_core.specs.Answers.{end_event};
 ghost use Rattle.fol_core.specs.Hands.{since};
 ghost use Rattle.fol_core.specs.MayEnd.{MayEnd};
@@ -29,7 +30,7 @@ ghost use Rattle.fol_core.specs.Ticks.{IsOut};
 ghost use Rattle.fol_core.specs.Released.{BringsBack, CanEnd, DropsHolds, EndsRegion, Loosens, MayRelease, Releases};
 ghost use Rattle.fol_core.specs.Same.{SameStock, SameThings};
 
-use crate::agenda::tidy;
+use crate::agenda::{add, tidy};
 use crate::bags::join;
 use crate::catching_up::catch_up;
 use crate::parts::part;
@@ -37,7 +38,7 @@ use crate::tables::Tables;
 use crate::wishes::accept_all;
 use fol_data::{RegionData, Tick};
 use fol_model::{Accept, ChunkPos, Event, Sequence, State, Task};
-use fol_regions::{Regions, Removed};
+use fol_regions::{MergePair, Regions, Removed};
 use fol_store::Store;
 use std::alloc::Global;
 use std::collections::VecDeque;
@@ -165,30 +166,50 @@ fn release_region(alloc: Global, tables: &mut Tables, region: u64)
     tables.regions.keeps_rules();
     tables.regions.release(region);
     let change = tables.regions.last();
-    join(&mut tables.store, change.merges());
-    if is_over(&tables.regions, region) {
-        part(
-            alloc,
+    join_waiting(&mut tables.store, change.merges());
+    match state_of(&tables.regions, region) {
+        State::Dead => {
+            part(
+                alloc,
+                &tables.regions,
+                &mut tables.store,
+                region,
+                change.parts(),
+            );
+            add_all(&mut tables.agenda, change.parts());
+            tidy(&mut tables.agenda, &tables.regions, &tables.store);
+        }
+        state => add(
+            &mut tables.agenda,
             &tables.regions,
-            &mut tables.store,
+            &tables.store,
             region,
-            change.parts(),
-        );
-        add_all(&mut tables.agenda, change.parts());
-    } else {
-        tables.agenda.push_reserved(region);
+            state,
+        ),
     }
-    tidy(&mut tables.agenda, &tables.regions, &tables.store);
 }
 
-/// Whether a region that was given out is over.
-fn is_over(regions: &Regions, region: u64) -> bool
+/// The regions that waited for a released region join it. Mostly none did.
+fn join_waiting(store: &mut Store, merges: &[MergePair])
+    requires can { CanJoin merges.now (bag_of store.old) }
+    requires order { AreInOrder (bag_of store.old) }
+    ensures bags { Joins merges.now (bag_of store.old) (bag_of store.new) }
+    ensures things { SameThings store.old store.new }
+    ensures next { next_of store.new ≡ next_of store.old }
+    ensures slots { store.old.slots ≤ store.new.slots }
+{
+    if !merges.is_empty() {
+        join(store, merges);
+    }
+}
+
+/// The state of a region that was given out.
+fn state_of(regions: &Regions, region: u64) -> State
     requires given { IsGiven (grid_state regions.now) region }
-    ensures { result ≡ is_dead ((grid_state regions.now).state region) }
+    ensures { result ≡ (grid_state regions.now).state region }
 {
     match regions.state(region) {
-        Some(State::Dead) => true,
-        Some(_) => false,
+        Some(state) => state,
         None => unreachable!(),
     }
 }

@@ -9,7 +9,7 @@ ghost use Rattle.fol_core.specs.Ticks.{IsOut, SameTick};
 
 use crate::ends::end_tick;
 use crate::machine::{Core, record};
-use crate::tables::{MOST, Tables};
+use crate::tables::{MOST, Tables, grow_store, grow_tickets};
 use fol_data::Tick;
 use fol_model::{Accept, Entry};
 use std::alloc::{AllocError, Global};
@@ -71,9 +71,11 @@ fn grow_to_end(
     history.reserve(2)?;
     let accepts = Vec::with_capacity(alloc, asked)?;
     tables.regions.reserve(asked as u32 + 1)?;
-    tables.store.reserve(asked as u64, asked as u64 + PARTS)?;
-    tables.tickets.reserve(1)?;
+    grow_store(&mut tables.store, asked as u64, asked as u64 + PARTS)?;
+    grow_tickets(&mut tables.tickets)?;
     tables.agenda.reserve(asked + PARTS as usize)?;
-    tick.body.chunks.reserve(asked as u64)?;
+    if asked > 0 {
+        tick.body.chunks.reserve(asked as u64)?;
+    }
     Ok(accepts)
 }

@@ -1,8 +1,9 @@
 //! The tables that stand for the world after a history.
 
-ghost use Rattle.std.specs.Prelude.{◌≡◌, ◌+◌, ◌≤◌, ◌<◌, ◌^◌, ◌||◌, OnOk, vec_len, vec_capacity};
+ghost use Rattle.std.specs.Prelude.{ℤ, ◌≡◌, ◌+◌, ◌≤◌, ◌<◌, ◌^◌, ◌||◌, OnOk, vec_len, vec_capacity};
 ghost use Rattle.std.specs.HashMap.{spare as room_of};
-ghost use Rattle.fol_core.specs.Same.{SameTables};
+ghost use Rattle.fol_sections.specs.Places.{number_at};
+ghost use Rattle.fol_core.specs.Same.{SameStock, SameTables};
 ghost use Rattle.fol_core.specs.Room.{HasGrown};
 
 use fol_model::{Entry, Grid};
@@ -85,4 +86,28 @@ pub(crate) fn grow(
     tables.tickets.reserve(1)?;
     tables.agenda.reserve(1)?;
     Ok(())
+}
+
+/// Takes the memory for so many tasks and bags, where there is less.
+pub(crate) fn grow_store(store: &mut Store, tasks: u64, bags: u64) -> Result<(), AllocError>
+    ensures same { SameStock store.old store.new }
+    ensures tasks { OnOk result (tasks ≤ store.new.spare) }
+    ensures bags { OnOk result (bags ≤ store.new.slots) }
+{
+    if tasks <= store.spare() && bags <= store.slots() {
+        return Ok(());
+    }
+    store.reserve(tasks, bags)
+}
+
+/// Takes the memory for one chunk more with tickets, where there is none.
+pub(crate) fn grow_tickets(tickets: &mut Numbers) -> Result<(), AllocError>
+    ensures same { (x z : ℤ)
+        → number_at tickets.new.entries x z ≡ number_at tickets.old.entries x z }
+    ensures ok { OnOk result (1 ≤ room_of tickets.new) }
+{
+    if tickets.len() < tickets.capacity() {
+        return Ok(());
+    }
+    tickets.reserve(1)
 }
