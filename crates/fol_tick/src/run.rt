@@ -30,6 +30,37 @@ pub fn run_tick<H: Host>(alloc: Global, tick: &mut Tick, host: &mut H) -> Result
     ensures stop { OnErr result ((tick.new.next ≡ tick.old.next) ⊎ StopsAtHost tick.new) }
     ensures again { OnErr result (MayRun tick.new) }
 {
+    run_due(alloc, tick, host)?;
+    tick.body.chunks.step_entities(tick.chunks.as_slice());
+    tick.moved = true;
+    Ok(())
+}
+
+/// Runs the rest of the due tasks. Most ticks have none, and need no memory then.
+fn run_due<H: Host>(alloc: Global, tick: &mut Tick, host: &mut H) -> Result<(), AllocError>
+    requires { MayRun tick.old }
+    ensures runs { (calls : List HostCall) × H.reaches host.old calls host.new
+        × Runs tick.old tick.new calls }
+    ensures may_run { MayRun tick.new }
+    ensures ok { OnOk result (tick.new.next ≡ length tick.new.due) }
+    ensures stop { OnErr result ((tick.new.next ≡ tick.old.next) ⊎ StopsAtHost tick.new) }
+{
+    if tick.next as usize == tick.due.as_slice().len() {
+        return Ok(());
+    }
+    run_left(alloc, tick, host)
+}
+
+/// Takes the memory that the rest of the due tasks needs, and runs them.
+#[inline(never)]
+fn run_left<H: Host>(alloc: Global, tick: &mut Tick, host: &mut H) -> Result<(), AllocError>
+    requires { MayRun tick.old }
+    ensures runs { (calls : List HostCall) × H.reaches host.old calls host.new
+        × Runs tick.old tick.new calls }
+    ensures may_run { MayRun tick.new }
+    ensures ok { OnOk result (tick.new.next ≡ length tick.new.due) }
+    ensures stop { OnErr result ((tick.new.next ≡ tick.old.next) ⊎ StopsAtHost tick.new) }
+{
     let left = &tick.due.as_slice()[tick.next as usize..];
     let count = left.len();
     let prepared = prepare(alloc, left)?;
@@ -37,10 +68,7 @@ pub fn run_tick<H: Host>(alloc: Global, tick: &mut Tick, host: &mut H) -> Result
     let mut log = open(alloc, &mut tick.log, count)?;
     let answer = run_tasks(alloc, tick, prepared, &mut log, host);
     tick.log = log.close();
-    answer?;
-    tick.body.chunks.step_entities(tick.chunks.as_slice());
-    tick.moved = true;
-    Ok(())
+    answer
 }
 
 /// Runs the rest of the tasks, whose wishes are prepared.
