@@ -21,7 +21,7 @@ use Rattle.fol_chunks.specs.Contents.{flat_of, is_recorded}
 use Rattle.fol_data.specs.declared.tick.Tick.{Tick}
 use Rattle.fol_tick.specs.Calls.{HostCall, hosted, told}
 use Rattle.fol_tick.specs.Calls as calls
-use Rattle.fol_tick.specs.Runs.{Finishes}
+use Rattle.fol_tick.specs.Runs.{Finishes, Runs}
 use Rattle.fol_core.specs.Answers.{end_event}
 use Rattle.fol_core.specs.Meaning.{world_of}
 use Rattle.fol_core.specs.Ticks.{IsBegun, IsTick}
@@ -39,7 +39,7 @@ use Rattle.fol_live.specs.declared.answers.LiveBegin.TheVariants as begins
 use Rattle.fol_live.proofs.Busies.{busy_both}
 use Rattle.fol_live.proofs.Held.{held, run_out}
 use Rattle.fol_live.proofs.Hosted.{goes_still, goes_turn}
-use Rattle.fol_pool.specs.Works.{HasAsked, Calm, HasRun, Holds, SameSeat, Works}
+use Rattle.fol_pool.specs.Works.{HasAsked, Calm, HasRun, Holds, IsStuck, SameSeat, Works}
 use Rattle.fol_pool.proofs.Asked.{turns_asked}
 use Rattle.fol_pool.proofs.Going.{begun_rest, calm_goes, goes_looks, signed_rest, stopped_before, stopped_to, turns_still, turns_to, works_still}
 use Rattle.fol_tick_laws.proofs.ToldAgain.{told_again}
@@ -179,6 +179,15 @@ module _ (s u : Shown) (tick done : Tick) (xs : List HostCall) (holds : Holds s 
     ticks = turns_run;
   }
 
+-- a run of a tick, between the seat that its host took and the one that it gave back
+pub came_to_run : (s a b u : Shown) (tick done : Tick) → a ≡ s → u ≡ b → Holds s tick → (xs : List HostCall) × Serves a xs b × Finishes tick done xs → HasRun u done
+came_to_run s a b u tick done taken given holds ok = run_ran s u tick done ok.0 holds (serves_to a s b u ok.0 taken given ok.1) ok.2
+
+pub came_to_stuck : (s a b u : Shown) (tick done : Tick) → a ≡ s → u ≡ b → Holds s tick → (xs : List HostCall) × Serves a xs b × Runs tick done xs → IsStuck u
+came_to_stuck s a b u tick done taken given holds err =
+    let served = serves_to a s b u err.0 taken given err.1 in
+    record { calm = served_calm s u err.0 holds.calm served; busy = served_busy s u err.0 holds.held.busy served }
+
 -- ---- the End
 
 module _ (s u : Shown) (tick : Tick) (n : ℕ) (ran : HasRun s tick) (did : Releases s u tick (Ok n)) where
@@ -213,8 +222,11 @@ release_same s u tick r did = record {
   number = did.turn.adds.number ∙ did.turn.looks.number;
 }
 
-pub release_fails : (s u : Shown) (tick back : Tick) → HasRun s tick → Releases s u tick (Err back) → Calm u × (is_busy u.mine ≡ true)
+pub release_fails : (s u : Shown) (tick back : Tick) → HasRun s tick → Releases s u tick (Err back) → IsStuck u
 release_fails s u tick back ran did =
     let g = goes_still s did.now u did.turn did.refused.history in
     let mine = g.mine in
-    (calm_goes s u [] ran.calm g tt, (let none = append-nil s.mine in rw (mine, none) ran.busy))
+    record {
+      calm = calm_goes s u [] ran.calm g tt;
+      busy = (let none = append-nil s.mine in rw (mine, none) ran.busy);
+    }

@@ -16,8 +16,6 @@ use Rattle.fol_live.specs.Busy.{is_busy}
 use Rattle.fol_live.specs.Held.{HoldsRun, HoldsTick}
 use Rattle.fol_live.specs.Kept.{Keeps}
 use Rattle.fol_live.specs.Seat.{Shown}
-use Rattle.fol_pool.specs.declared.tick.Next.{Next}
-use Rattle.fol_pool.specs.declared.tick.Next.TheVariants as nexts
 
 -- the same seat of the same world
 pub record SameSeat (old new : Shown) : Type 0 where
@@ -53,6 +51,11 @@ pub record HasRun (s : Shown) (tick : Tick) : Type 0 where
   pub again : filter (λ (x : Ran). list_any (λ (y : Ran). nat_eq y.number x.number) told) tick.log.ran ≡ told
   pub ticks : (world s.opening s.seen).stopped ≡ false → Turns s.number (start s.opening) idle s.seen (ticking tick.region [] told)
 
+-- it holds a tick, of which some may have run
+pub record IsStuck (s : Shown) : Type 0 where
+  pub calm : Calm s
+  pub busy : is_busy s.mine ≡ true
+
 -- the seat that was given, whose ticks are whole
 pub record IsBack (given back : Shown) : Type 0 where
   pub same : SameSeat given back
@@ -64,8 +67,3 @@ HasAsked s (Ok (begins.Got tick)) = Holds s tick
 HasAsked s (Ok begins.Idle) = Works s
 HasAsked s (Ok begins.Over) = Works s
 HasAsked s (Err e) = Works s
-
--- it holds the tick that it is at, or its ticks are whole
-abbrev pub Stands : Shown → Next → Type 0
-Stands s (nexts.Tick tick) = Holds s tick
-Stands s (nexts.Rest rest) = Works s

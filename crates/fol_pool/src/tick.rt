@@ -1,8 +1,8 @@
 //! The ticks of a worker.
 
-ghost use Rattle.std.specs.Prelude.{◌≡◌};
+ghost use Rattle.std.specs.Prelude.{◌≡◌, OnErr, OnOk};
 ghost use Rattle.fol_live.specs.Lives.{live_id};
-ghost use Rattle.fol_pool.specs.Works.{HasAsked, HasRun, Holds, SameSeat, Stands, Works};
+ghost use Rattle.fol_pool.specs.Works.{HasRun, Holds, IsStuck, SameSeat, Works};
 
 use crate::patience::Patience;
 use fol_core::Tick;
@@ -23,13 +23,6 @@ pub(crate) enum Rest {
     Over,
 }
 
-/// What a worker is at.
-#[derive(Drop)]
-pub(crate) enum Next {
-    Tick(Tick),
-    Rest(Rest),
-}
-
 /// Begins, runs and ends ticks, until there is no next one. Each End and the Begin behind it are one turn of the lock. The gate is passed
 /// between the Begin and the End of each.
 pub(crate) fn ticks<R: Wait, G: Gate + Sync>(
@@ -46,46 +39,19 @@ pub(crate) fn ticks<R: Wait, G: Gate + Sync>(
     ensures works { Works result.0 }
 {
     let mut seat = seat;
-    let begun = live.begin(rt, alloc, &mut seat);
-    let mut next = next_tick(rt, live, &mut seat, begun);
-    for _turn in rt.forever() {
-        match next {
-            Next::Rest(rest) => return (seat, rest),
-            Next::Tick(tick) => {
-                let (back, then) = run(rt, alloc, live, seat, tick, patience, gate);
-                seat = back;
-                next = then;
-            }
-        }
-    }
-    unreachable!()
-}
-
-/// What a worker is at after it asked for a tick. Where memory was not found, it stops the world.
-fn next_tick<R: Wait>(
-    rt: &R,
-    live: &Live,
-    seat: &mut Seat,
-    begun: Result<LiveBegin, AllocError>,
-) -> Next
-    requires own { seat.old.lock ≡ live_id live.now }
-    requires asked { HasAsked seat.old begun }
-    ensures same { SameSeat seat.old seat.new }
-    ensures stands { Stands seat.new result }
-{
-    match begun {
-        Ok(LiveBegin::Got(tick)) => Next::Tick(tick),
-        Ok(LiveBegin::Idle) => Next::Rest(Rest::Idle),
-        Ok(LiveBegin::Over) => Next::Rest(Rest::Over),
+    match live.begin(rt, alloc, &mut seat) {
+        Ok(LiveBegin::Got(tick)) => run_on(rt, alloc, live, seat, tick, patience, gate),
+        Ok(LiveBegin::Idle) => (seat, Rest::Idle),
+        Ok(LiveBegin::Over) => (seat, Rest::Over),
         Err(_) => {
-            live.stop(rt, seat);
-            Next::Rest(Rest::Over)
+            live.stop(rt, &mut seat);
+            (seat, Rest::Over)
         }
     }
 }
 
-/// Runs and ends a tick that was begun.
-fn run<R: Wait, G: Gate + Sync>(
+/// Runs and ends a tick that was begun, and then each one that is begun in the turn of an End, until there is no next one.
+fn run_on<R: Wait, G: Gate + Sync>(
     rt: &R,
     alloc: Global,
     live: &Live,
@@ -93,50 +59,62 @@ fn run<R: Wait, G: Gate + Sync>(
     tick: Tick,
     patience: &mut Patience,
     gate: &G,
-) -> (Seat, Next)
+) -> (Seat, Rest)
     requires own { seat.lock ≡ live_id live.now }
     requires holds { Holds seat tick }
     ensures same { SameSeat seat result.0 }
-    ensures stands { Stands result.0 result.1 }
+    ensures works { Works result.0 }
 {
-    gate.passed(tick.worker, tick.region);
+    let mut seat = seat;
     let mut tick = tick;
-    let mut host = LiveHost::of(rt, live, seat);
-    let ran = run_tick(alloc, &mut tick, &mut host);
-    let mut seat = host.into_seat();
-    match ran {
-        Ok(()) => {
-            let next = if patience.leaves(live.crowd()) {
-                leave(rt, alloc, live, &mut seat, tick)
-            } else {
-                go_on(rt, alloc, live, &mut seat, tick)
-            };
-            (seat, next)
+    for _turn in rt.forever() {
+        gate.passed(tick.worker, tick.region);
+        let (back, ran) = run(rt, alloc, live, seat, &mut tick);
+        seat = back;
+        if ran.is_err() {
+            let rest = give_up(rt, live, &mut seat, tick);
+            return (seat, rest);
         }
-        Err(_) => {
-            live.stop(rt, &mut seat);
-            (seat, Next::Rest(Rest::Over))
+        if patience.leaves(live.crowd()) {
+            let rest = leave(rt, alloc, live, &mut seat, tick);
+            return (seat, rest);
+        }
+        match live.release_and_begin(rt, alloc, &mut seat, tick) {
+            Ok(next) => match begun_next(next) {
+                Ok(LiveBegin::Got(begun)) => tick = begun,
+                Ok(LiveBegin::Idle) => return (seat, Rest::Idle),
+                Ok(LiveBegin::Over) => return (seat, Rest::Over),
+                Err(_) => {
+                    live.stop(rt, &mut seat);
+                    return (seat, Rest::Over);
+                }
+            },
+            Err(back) => {
+                let rest = give_up(rt, live, &mut seat, back);
+                return (seat, rest);
+            }
         }
     }
+    unreachable!()
 }
 
-/// Ends a tick that has run, and begins the next one.
-fn go_on<R: Wait>(rt: &R, alloc: Global, live: &Live, seat: &mut Seat, tick: Tick) -> Next
-    requires own { seat.old.lock ≡ live_id live.now }
-    requires ran { HasRun seat.old tick }
-    ensures same { SameSeat seat.old seat.new }
-    ensures stands { Stands seat.new result }
+/// Runs a tick that was begun, but does not end it.
+fn run<R: Wait>(
+    rt: &R,
+    alloc: Global,
+    live: &Live,
+    seat: Seat,
+    tick: &mut Tick,
+) -> (Seat, Result<(), AllocError>)
+    requires own { seat.lock ≡ live_id live.now }
+    requires holds { Holds seat tick.old }
+    ensures same { SameSeat seat result.0 }
+    ensures ran { OnOk result.1 (HasRun result.0 tick.new) }
+    ensures stuck { OnErr result.1 (IsStuck result.0) }
 {
-    match live.release_and_begin(rt, alloc, seat, tick) {
-        Ok(next) => {
-            let begun = begun_next(next);
-            next_tick(rt, live, seat, begun)
-        }
-        Err(_) => {
-            live.stop(rt, seat);
-            Next::Rest(Rest::Over)
-        }
-    }
+    let mut host = LiveHost::of(rt, live, seat);
+    let ran = run_tick(alloc, tick, &mut host);
+    (host.into_seat(), ran)
 }
 
 /// What came of asking for the next tick.
@@ -147,17 +125,28 @@ fn begun_next(next: NextTick) -> Result<LiveBegin, AllocError>
 }
 
 /// Ends a tick that has run, and leaves the next one to others.
-fn leave<R: Wait>(rt: &R, alloc: Global, live: &Live, seat: &mut Seat, tick: Tick) -> Next
+fn leave<R: Wait>(rt: &R, alloc: Global, live: &Live, seat: &mut Seat, tick: Tick) -> Rest
     requires own { seat.old.lock ≡ live_id live.now }
     requires ran { HasRun seat.old tick }
     ensures same { SameSeat seat.old seat.new }
-    ensures stands { Stands seat.new result }
+    ensures works { Works seat.new }
 {
     match live.release(rt, alloc, seat, tick) {
-        Ok(_) => Next::Rest(Rest::Left),
-        Err(_) => {
-            live.stop(rt, seat);
-            Next::Rest(Rest::Over)
-        }
+        Ok(_) => Rest::Left,
+        Err(tick) => give_up(rt, live, seat, tick),
     }
+}
+
+/// Stops the world, where memory was not found in a tick, which is dropped. It is a call of its own, so that the ways on which ticks go
+/// on have no drop in them.
+#[cold]
+#[inline(never)]
+fn give_up<R: Wait>(rt: &R, live: &Live, seat: &mut Seat, _tick: Tick) -> Rest
+    requires own { seat.old.lock ≡ live_id live.now }
+    requires stuck { IsStuck seat.old }
+    ensures same { SameSeat seat.old seat.new }
+    ensures works { Works seat.new }
+{
+    live.stop(rt, seat);
+    Rest::Over
 }

@@ -1,33 +1,19 @@
-use Rattle.std.proofs.Common.{◌≡◌}
-use Rattle.fol_pool.proofs.Going.{stop_holds}
+use Rattle.std.proofs.lemmas.Result.{on_err_weaker, on_ok_weaker}
 use Rattle.fol_live.proofs.Held.{held_may_run}
-use Rattle.fol_pool.proofs.TickSteps.{run_ran, served_busy, served_calm, serves_to}
+use Rattle.fol_pool.proofs.TickSteps.{came_to_run, came_to_stuck}
 use Rattle.fol_pool.proofs.tick.run.Goals as goal
 
 pub run_tick-ran-requires : goal.run_tick-ran-requires
-run_tick-ran-requires g c = held_may_run c.args.seat c.args.tick c.requires.holds.held
+run_tick-ran-requires g c = held_may_run c.args.seat c.args.tick.now c.requires.holds.held
 
-pub leave-next-requires-clause-ran : goal.leave-next-requires-clause-ran
-leave-next-requires-clause-ran g c =
-    let ok = c.in-Ok.ensures.ok in
-    let taken : c.of-host.result.seat ≡ c.args.seat = c.of-host.ensures.seat in
-    let given : c.into_seat-seat.result ≡ c.run_tick-ran.new.host.seat = c.into_seat-seat.ensures in
-    let served = serves_to c.of-host.result.seat c.args.seat c.run_tick-ran.new.host.seat c.into_seat-seat.result ok.0 taken given ok.1 in
-    run_ran c.args.seat c.into_seat-seat.result c.args.tick c.run_tick-ran.new.tick ok.0 c.requires.holds served ok.2
+pub returns-clause-ran : goal.returns-clause-ran
+returns-clause-ran g c =
+    on_ok_weaker c.run_tick-ran.result
+    (came_to_run c.args.seat c.of-host.result.seat c.run_tick-ran.new.host.seat c.into_seat.result c.args.tick.now c.run_tick-ran.new.tick c.of-host.ensures.seat c.into_seat.ensures c.requires.holds)
+    c.run_tick-ran.ensures.ok
 
-pub go_on-next-requires-clause-ran : goal.go_on-next-requires-clause-ran
-go_on-next-requires-clause-ran g c =
-    let ok = c.in-Ok.ensures.ok in
-    let taken : c.of-host.result.seat ≡ c.args.seat = c.of-host.ensures.seat in
-    let given : c.into_seat-seat.result ≡ c.run_tick-ran.new.host.seat = c.into_seat-seat.ensures in
-    let served = serves_to c.of-host.result.seat c.args.seat c.run_tick-ran.new.host.seat c.into_seat-seat.result ok.0 taken given ok.1 in
-    run_ran c.args.seat c.into_seat-seat.result c.args.tick c.run_tick-ran.new.tick ok.0 c.requires.holds served ok.2
-
-pub returns-in-Err-clause-stands : goal.returns-in-Err-clause-stands
-returns-in-Err-clause-stands g c =
-    let err = c.in-Err.ensures.err in
-    let taken : c.of-host.result.seat ≡ c.args.seat = c.of-host.ensures.seat in
-    let given : c.into_seat-seat.result ≡ c.run_tick-ran.new.host.seat = c.into_seat-seat.ensures in
-    let served = serves_to c.of-host.result.seat c.args.seat c.run_tick-ran.new.host.seat c.into_seat-seat.result err.0 taken given err.1 in
-    stop_holds c.into_seat-seat.result c.stop.new.seat (served_calm c.args.seat c.into_seat-seat.result err.0 c.requires.holds.calm served)
-    (served_busy c.args.seat c.into_seat-seat.result err.0 c.requires.holds.held.busy served) c.stop.ensures
+pub returns-clause-stuck : goal.returns-clause-stuck
+returns-clause-stuck g c =
+    on_err_weaker c.run_tick-ran.result
+    (came_to_stuck c.args.seat c.of-host.result.seat c.run_tick-ran.new.host.seat c.into_seat.result c.args.tick.now c.run_tick-ran.new.tick c.of-host.ensures.seat c.into_seat.ensures c.requires.holds)
+    c.run_tick-ran.ensures.err

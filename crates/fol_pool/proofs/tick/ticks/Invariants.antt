@@ -1,5 +1,0 @@
-use Rattle.fol_pool.specs.Works.{SameSeat, Stands}
-use Rattle.fol_pool.proofs.tick.ticks.Given as goal
-
-abbrev pub invariant-loop-turn : goal.invariant-loop-turn
-invariant-loop-turn g l = record { same : SameSeat l.fn.seat l.seat; stands : Stands l.seat l.next }
