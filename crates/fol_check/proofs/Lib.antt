@@ -16,3 +16,4 @@ pub mod Judging
 pub mod Ranges
 pub mod SameBy
 pub mod Deciding
+pub mod Ending

@@ -167,7 +167,7 @@ module _ (s : Replay) (o : Opening) (cs : List Command) (h left : List Entry) (n
       let many = length-map h (λ (x : Entry). x.event) in
       omega arith
 
-  none_left : left ≡ [] → Played s o cs (events_of h) [] n
+  pub none_left : left ≡ [] → Played s o cs (events_of h) [] n
   none_left none = let Q : List Event → Type 0 = λ xs. Played s o cs (events_of h) xs n in subst Q (ap events_of none) p
 
   pub short_here : place ≡ n + 1 → left ≡ [] → (LastFinishes s.core.history → ⊥) → StopsAt o cs (events_of h) place

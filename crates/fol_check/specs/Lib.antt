@@ -1,7 +1,9 @@
 pub mod Asks
 pub mod Asked
+pub mod Running
 pub mod Next
 pub mod Standing
 pub mod Replays
+pub mod Playing
 pub mod Verdicts
 pub mod Laws

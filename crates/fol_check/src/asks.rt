@@ -1,13 +1,16 @@
 //! The tick that a worker has begun in a replay.
 
-ghost use Rattle.std.specs.Prelude.{◌≡◌, ◌↔◌, Some, IsTrue, IfOk, length, slice_get};
-ghost use Rattle.std.specs.List.{filter_map};
+ghost use Rattle.std.specs.Prelude.{◌≡◌, ◌↔◌, [], Some, IsTrue, IfOk, length, slice_get};
+ghost use Rattle.std.specs.List.{filter_map, list_all};
 ghost use Rattle.fol_model.specs.ActionStep.{plain_of as plain_action_of};
+ghost use Rattle.fol_tick.specs.ListAnswers.{is_answer};
+ghost use Rattle.fol_tick.specs.Runs.{MayRun};
 ghost use Rattle.fol_check.specs.Asks.{ask_in};
+ghost use Rattle.fol_check.specs.Running.{HasRun};
 
 use fol_core::Tick;
 use fol_model::{Action, ChunkPos, Task};
-use fol_tick::HostAnswer;
+use fol_tick::{HostAnswer, ListHost, run_tick};
 use std::alloc::{AllocError, Global};
 
 /// What a due task asks of the world while its tick runs.
@@ -39,12 +42,45 @@ impl Open {
         is_next(self.asks.as_slice(), self.answers.len(), ask)
     }
 
-    /// Whether every ask has its answer.
-    pub(crate) fn is_answered(&self) -> bool
-        ensures { IsTrue result ↔ (length self.now.answers.items ≡ length self.now.asks.items) }
+    /// Whether the tick may end as one of this region: it is of the region, and every ask has its answer.
+    pub(crate) fn may_end(&self, region: u64) -> bool
+        ensures { IsTrue result ↔ ((region ≡ self.now.tick.region)
+            × (length self.now.answers.items ≡ length self.now.asks.items)) }
     {
-        self.answers.len() == self.asks.len()
+        region == self.tick.region && self.answers.len() == self.asks.len()
     }
+
+    /// The tick, once it has run with the answers.
+    pub(crate) fn run(self, alloc: Global) -> Result<Tick, AllocError>
+        requires may_run { MayRun self.tick }
+        requires answers { IsTrue (list_all is_answer self.answers.items) }
+        ensures { IfOk result (λ tick. HasRun self tick) }
+    {
+        let Open {
+            mut tick,
+            asks: _,
+            answers,
+        } = self;
+        let mut host = ListHost::of(answers);
+        run_tick(alloc, &mut tick, &mut host)?;
+        Ok(tick)
+    }
+}
+
+/// A tick that was begun just now, with what its due tasks ask for.
+pub(crate) fn opened(alloc: Global, tick: Tick) -> Result<Open, AllocError>
+    ensures tick { IfOk result (λ held. held.tick ≡ tick) }
+    ensures asks { IfOk result (λ held. held.asks.items
+        ≡ filter_map (λ t. ask_in (plain_action_of t.action)) tick.due) }
+    ensures answers { IfOk result (λ held. held.answers.items ≡ []) }
+{
+    let asks = asks_of(alloc, tick.due.as_slice())?;
+    let answers = Vec::new(alloc);
+    Ok(Open {
+        tick,
+        asks,
+        answers,
+    })
 }
 
 /// Whether the ask in this place is this one.
@@ -74,7 +110,7 @@ fn same_ask(a: Ask, b: Ask) -> bool
 }
 
 /// What the due tasks ask for, in order.
-pub(crate) fn asks_of(alloc: Global, due: &[Task]) -> Result<Vec<Ask>, AllocError>
+fn asks_of(alloc: Global, due: &[Task]) -> Result<Vec<Ask>, AllocError>
     ensures { IfOk result (λ asks. asks.items
         ≡ filter_map (λ t. ask_in (plain_action_of t.action)) due.now) }
 {

@@ -38,8 +38,8 @@ impl Replay {
     {
         // A proof learns where a field is read that the numbers of the grid are within their limits.
         let _grid = opening.grid;
-        let core = Core::start(alloc, opening)?;
         let workers = idle_workers(alloc)?;
+        let core = Core::start(alloc, opening)?;
         Ok(Replay {
             core,
             script,
@@ -81,7 +81,7 @@ impl Replay {
                 tick,
                 ran,
                 accepts,
-            } => self.end(alloc, worker, region, tick, ran, accepts),
+            } => self.end(alloc, worker, region, tick, &ran, &accepts),
             Event::PhaseClose => self.close_phase(),
             Event::Finish => self.finish(),
             Event::Stop { .. } => Ok(false),

@@ -7,12 +7,12 @@ ghost use Rattle.fol_model.specs.declared.events.Entry.{Entry as EntryOf};
 ghost use Rattle.fol_model.specs.declared.events.Event.TheVariants as events;
 ghost use Rattle.fol_check.specs.Standing.{EndsWith, Goes, HasAsked, Noted, Notes, Stands};
 
-use crate::asks::{Ask, Open, asks_of};
+use crate::asks::{Ask, Open, opened};
 use crate::phases::{is_loaded, is_unloaded};
 use crate::replay::{Replay, WORKERS};
 use fol_core::BeginAnswer;
 use fol_model::{Accept, ChunkPos, Entry, Event, Loaded, Ran, Sequence, Unloaded};
-use fol_tick::{HostAnswer, ListHost, run_tick};
+use fol_tick::HostAnswer;
 use std::alloc::{AllocError, Global};
 
 impl Replay {
@@ -107,13 +107,8 @@ impl Replay {
         self.core.reserve(alloc, region)?;
         match self.core.begin(worker, worker, region) {
             BeginAnswer::Got(tick) => {
-                let asks = asks_of(alloc, tick.due.as_slice())?;
-                let answers = Vec::new(alloc);
-                self.workers[worker as usize - 1] = Some(Open {
-                    tick,
-                    asks,
-                    answers,
-                });
+                let held = opened(alloc, tick)?;
+                self.workers[worker as usize - 1] = Some(held);
                 let _entries = self.core.history();
                 Ok(true)
             }
@@ -128,12 +123,12 @@ impl Replay {
         worker: u32,
         region: u64,
         tick: u64,
-        ran: Sequence<Ran>,
-        accepts: Sequence<Accept>,
+        ran: &Sequence<Ran>,
+        accepts: &Sequence<Accept>,
     ) -> Result<bool, AllocError>
         requires stands { Stands self.old }
         ensures { IfOk result (λ went.
-            Goes self.old self.new (events.End worker region tick ran accepts) went) }
+            Goes self.old self.new (events.End worker region tick ran.now accepts.now) went) }
     {
         if worker == 0 || worker > WORKERS {
             return Ok(false);
@@ -142,24 +137,15 @@ impl Replay {
             Some(held) => held,
             None => return Ok(false),
         };
-        if held.tick.region != region {
+        if !held.may_end(region) {
             return Ok(false);
         }
-        if !held.is_answered() {
-            return Ok(false);
-        }
-        let Open {
-            tick: mut begun,
-            asks: _,
-            answers,
-        } = held;
-        let mut host = ListHost::of(answers);
-        run_tick(alloc, &mut begun, &mut host)?;
-        match self.core.release(alloc, begun) {
+        let done = held.run(alloc)?;
+        match self.core.release(alloc, done) {
             Ok(_) => {}
             Err(_) => return Err(AllocError),
         }
-        Ok(ends(self.core.history(), tick, &ran, &accepts))
+        Ok(ends(self.core.history(), tick, ran, accepts))
     }
 }
 

@@ -4,6 +4,7 @@ ghost use Rattle.std.specs.Prelude.{◌≡◌, ◌≤◌, ◌++◌, ◌∷◌, [
 ghost use Rattle.fol_model.specs.declared.events.Entry.{Entry as EntryOf};
 ghost use Rattle.fol_events.specs.InRange.{AllInRange};
 ghost use Rattle.fol_report_laws.specs.Laws.{events};
+ghost use Rattle.fol_check.specs.Playing.{Plays};
 ghost use Rattle.fol_check.specs.Replays.{Closes, LastFinishes, Replays, is_last};
 ghost use Rattle.fol_check.specs.Standing.{Stands};
 
@@ -35,22 +36,43 @@ pub(crate) fn replay_events(
     ensures { IfOk result (λ r. Replays opening script (events history) r) }
 {
     let mut replay = Replay::start(alloc, opening, script)?;
-    let mut left = VecDeque::from_vec(history.into_vec());
-    let mut place: u64 = 1;
-    'events: while let Some(entry) = left.pop_front() {
-        if !replay.step(alloc, entry.event)? {
-            return Ok(Replayed::Stops(place));
+    match replay.play(alloc, history) {
+        Ok(None) => Ok(Replayed::Whole(replay.close(alloc)?)),
+        Ok(Some(place)) => {
+            drop(replay);
+            Ok(Replayed::Stops(place))
         }
-        place += 1;
+        Err(error) => {
+            drop(replay);
+            Err(error)
+        }
     }
-    if !replay.is_finished() {
-        return Ok(Replayed::Stops(place));
-    }
-    let closing = replay.close(alloc)?;
-    Ok(Replayed::Whole(closing))
 }
 
 impl Replay {
+    /// Goes on by the events of a history. Tells the number, counted from 1, of the one with which it is not the beginning of a history of the
+    /// script, or one more than there are where the last is not Finish; or none where it is a whole history.
+    fn play(&mut self, alloc: Global, history: Sequence<Entry>) -> Result<Option<u64>, AllocError>
+        requires few { length history ≤ 16777216 }
+        requires in_range { AllInRange history }
+        requires stands { Stands self.old }
+        requires none { self.old.core.history ≡ [] }
+        ensures { IfOk result (λ stop. Plays self.old self.new (events history) stop) }
+    {
+        let mut left = VecDeque::from_vec(history.into_vec());
+        let mut place: u64 = 1;
+        'events: while let Some(entry) = left.pop_front() {
+            if !self.step(alloc, entry.event)? {
+                return Ok(Some(place));
+            }
+            place += 1;
+        }
+        if !self.is_finished() {
+            return Ok(Some(place));
+        }
+        Ok(None)
+    }
+
     /// Whether the last event is Finish.
     fn is_finished(&self) -> bool
         ensures some { (hs : List EntryOf) (e : EntryOf) → self.now.core.history ≡ hs ++ e ∷ []

@@ -1,59 +1,16 @@
-use Rattle.std.proofs.Common.{◌≡◌, ◌+◌, ◌∙◌, refl, sym, arith}
 use Rattle.fol_report_laws.specs.Laws.{events}
-use Rattle.fol_check.proofs.Wholly.{finishes, goes_here, goes_on, none_behind, played_few, played_start, short_here, stops_here, whole_here}
+use Rattle.fol_check.specs.Playing.{PlaysAll}
+use Rattle.fol_check.proofs.Wholly.{played_whole}
 use Rattle.fol_check.proofs.whole.replay_events.Goals as goal
 
-pub events-init : goal.events-init
-events-init c =
-    let same : c.from_vec-left.result.items ≡ c.args.history = c.from_vec-left.ensures.items ∙ c.into_vec.ensures in
-    record {
-      number = 0;
-      place = refl;
-      played = rw same (played_start c.in_ok-replay.replay c.args.opening c.args.script (events c.args.history) c.in_ok-replay.ensures);
-      in_range = rw same c.requires.in_range;
-    }
+pub returns-in-Ok-Some : goal.returns-in-Ok-Some
+returns-in-Ok-Some c =
+    let start = c.in_ok-replay.ensures in
+    rw (start.opening, start.script) at (rw c.in-Ok-Some.field-0-is at c.in-Ok-Some.ensures)
 
-pub returns-then-not-branch : goal.returns-then-not-branch
-returns-then-not-branch c =
-    let is = c.events.invariant in
-    stops_here c.events.replay c.step.new.self c.args.opening c.args.script c.args.history c.events.left.items c.pop_front.new.self.items c.in-Some.entry is.number c.events.place c.in_ok-step.field-0
-    is.played is.place c.in-Some.ensures.items c.in_ok-step.ensures c.if-not-branch.true
-
-pub overflow_add-place : goal.overflow_add-place
-overflow_add-place c =
-    let is = c.events.invariant in
-    let place = is.place in
-    let all = c.requires.few in
-    let few = played_few c.events.replay c.args.opening c.args.script c.args.history c.events.left.items is.number c.events.place is.played in
-    omega arith
-
-pub events-preserved : goal.events-preserved
-events-preserved c =
-    let is = c.events.invariant in
-    let place = is.place in
-    record {
-      number = is.number + 1;
-      place = omega arith;
-      played = goes_here c.events.replay c.step.new.self c.args.opening c.args.script c.args.history c.events.left.items c.pop_front.new.self.items c.in-Some.entry is.number c.events.place
-          c.in_ok-step.field-0 is.played is.place c.in-Some.ensures.items c.in_ok-step.ensures c.if-not-branch.false;
-      in_range = (rw c.in-Some.ensures.items at is.in_range).1;
-    }
-
-pub returns-then-not-is_finished : goal.returns-then-not-is_finished
-returns-then-not-is_finished c =
-    let is = c.events.invariant in
-    let none = none_behind c.events.left.items _ (sym c.events.left.ok.0) c.in_default.ensures.variant.1 in
-    let ends = c.is_finished.ensures in
-    short_here c.events.replay c.args.opening c.args.script c.args.history c.events.left.items is.number c.events.place is.played is.place none
-    (goes_on c.events.replay.core.history c.is_finished.result ends.some ends.none c.if-not-is_finished.true)
-
-pub close-requires-clause-finished : goal.close-requires-clause-finished
-close-requires-clause-finished c =
-    let ends = c.is_finished.ensures in
-    finishes c.events.replay.core.history c.is_finished.result ends.some ends.none c.if-not-is_finished.false
-
-pub returns : goal.returns
-returns c =
-    let is = c.events.invariant in
-    let none = none_behind c.events.left.items _ (sym c.events.left.ok.0) c.in_default.ensures.variant.1 in
-    whole_here c.events.replay c.args.opening c.args.script c.args.history c.events.left.items is.number c.events.place is.played c.in_ok-closing.closing none c.in_ok-closing.ensures
+pub returns-in_ok-close-in-Ok-None : goal.returns-in_ok-close-in-Ok-None
+returns-in_ok-close-in-Ok-None c =
+    let start = c.in_ok-replay.ensures in
+    let plays : PlaysAll c.in_ok-replay.replay c.play.new.self (events c.args.history) = rw c.in-Ok-None.field-0-is at c.in-Ok-None.ensures in
+    let all = rw (start.opening, start.script) at plays.all in
+    played_whole c.play.new.self c.args.opening c.args.script (events c.args.history) plays.count all c.in_ok-close-in-Ok-None.field-0 c.in_ok-close-in-Ok-None.ensures

@@ -12,13 +12,13 @@ returns-then-is_none c = λ is.
     let never : true ≡ false = sym given ∙ c.if-is_none.ensures in
     cc
 
-pub returns-in_ok-asks-in-Got : goal.returns-in_ok-asks-in-Got
-returns-in_ok-asks-in-Got c =
+pub returns-in_ok-held-in-Got : goal.returns-in_ok-held-in-Got
+returns-in_ok-held-in-Got c =
     let count = c.requires.stands.count in
     let inside : c.args.worker - 1 < length c.args.self.now.workers.items = omega arith in
     let read : get_or c.args.self.now.workers.items (c.args.worker - 1) None ≡ c.index.result.now = read_at c.args.self.now.workers.items (c.args.worker - 1) c.index.result.now None inside c.index.ensures in
     let idles : get_or c.args.self.now.workers.items (c.args.worker - 1) None ≡ None = read ∙ none_is c.index.result.now (sym c.is_some.ensures ∙ c.if-is_some.false) in
-    let due = c.as_slice.ensures in
-    let p : Open = record { tick = c.in-Got.tick; asks = c.in_ok-asks-in-Got.asks; answers = c.new-answers.result } in
-    begun_kept c.args.self.now _ c.reserve.new.self c.args.worker (c.args.worker - 1) c.args.region p (omega arith) (omega arith) c.requires.stands c.reserve.ensures.same c.in-Got.ensures
-    idles (rw due at c.in_ok-asks-in-Got.ensures) c.new-answers.ensures.items c.history-entries.ensures.run refl refl refl count
+    let opened = c.in_ok-held-in-Got.ensures in
+    let p : Open = c.in_ok-held-in-Got.held in
+    begun_kept c.args.self.now _ c.reserve.new.self c.args.worker (c.args.worker - 1) c.args.region p (omega arith) (omega arith) c.requires.stands c.reserve.ensures.same (rw (← opened.tick) at c.in-Got.ensures)
+    idles (rw (← opened.tick) at opened.asks) opened.answers c.history-entries.ensures.run refl refl refl count
