@@ -265,9 +265,13 @@ impl World {
     {
         let worker = tick.worker;
         let region = tick.region;
-        let length = self.release(alloc, tick)?;
-        let begun = self.begin(alloc, worker, region);
-        Ok(NextTick { length, begun })
+        match self.release(alloc, tick) {
+            Ok(length) => Ok(NextTick {
+                length,
+                begun: self.begin(alloc, worker, region),
+            }),
+            Err(tick) => Err(tick),
+        }
     }
 
     /// The core itself.
