@@ -16,6 +16,9 @@ pub fn count_due(tasks: &[Dated], now: u64) -> u64
     requires { IsHeap by_turn tasks.now }
     ensures { result ≡ count_by (is_due now) tasks.now }
 {
+    if tasks.is_empty() || tasks[0].deadline > now {
+        return 0;
+    }
     count_below(tasks, now, 0, LEVELS)
 }
 
