@@ -62,12 +62,27 @@ impl Chunks {
         ensures ok { OnOk result (n ≤ self.new.spare) }
         ensures spare { self.old.spare ≤ self.new.spare }
     {
-        if self.held.is_none() && n > 0 {
+        if n == 0 {
+            return Ok(());
+        }
+        self.take_room(n)
+    }
+
+    /// Makes `spare` at least `n`, and has memory for that. The contents stay either way. It stands apart, since most ticks ask for
+    /// no room.
+    #[inline(never)]
+    fn take_room(&mut self, n: u64) -> Result<(), AllocError>
+        ensures same { flat_of self.new ≡ flat_of self.old }
+        ensures size { size_of self.new ≡ size_of self.old }
+        ensures ok { OnOk result (n ≤ self.new.spare) }
+        ensures spare { self.old.spare ≤ self.new.spare }
+    {
+        if self.held.is_none() {
             self.held = Some(Box::new(self.alloc, Held::new(self.alloc))?);
         }
         match &mut self.held {
             Some(held) => held.reserve(n),
-            None => Ok(()),
+            None => unreachable!(),
         }
     }
 
