@@ -9,3 +9,4 @@ pub mod ChunkLists
 pub mod Wholes
 pub mod Laid
 pub mod Parts
+pub mod Areas

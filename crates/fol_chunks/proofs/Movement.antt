@@ -1,6 +1,6 @@
 -- The movement of entities.
 use Rattle.std.proofs.Common.{◌≡◌, ℕ, ◌<◌, ◌≤◌, true, false, ◌&&◌, List, [], ◌∷◌, get_or, refl, sym, ◌∙◌, ap, inl, inr, arith, IsTrue, IsNone, Option, Some, None, rules, div-add-mod', mod-lt}
-use Rattle.std.specs.Prelude.{ℤ, pos, negsuc, ◌+ℤ◌, nat_abs, nat_le, nat_eq, if◌then◌else◌, All, map, FitsSigned}
+use Rattle.std.specs.Prelude.{ℤ, pos, negsuc, nat_abs, nat_le, nat_eq, All, map, FitsSigned}
 use Rattle.std.specs.Int.{int_div_euclid, w32}
 use Rattle.std.specs.List.{AllByRecursion}
 use Rattle.std.specs.List.Sorted.{IsStrictlySortedBy}
@@ -53,10 +53,6 @@ misfit_stays chunks b h n =
 
 pub step_stays : (rec : Recorded) (e : Entity) → rec (chunk_of (ahead e.vx e.vz e.at)) ≡ false → e ≡ stepped rec e
 step_stays rec e h = elim (cases_Bool (rec (chunk_of e.at))) [ inl t ↦ rw (t, h) refl | inr t ↦ rw t refl ]
-
-pub step_moves : (rec : Recorded) (e r : Entity) (x z : ℤ) → x ≡ e.at.x +ℤ e.vx → z ≡ e.at.z +ℤ e.vz
-    → r ≡ (if rec (chunk_of e.at) && rec (chunk_of (record { x = x; y = e.at.y; z = z })) then record e { at = record { x = x; y = e.at.y; z = z } } else e) → r ≡ stepped rec e
-step_moves rec e r x z p q h = rw (p, q) at h
 
 -- ---- what the movement makes of a look-up
 module _ (rec : Recorded) where

@@ -6,3 +6,4 @@ pub mod Weights
 pub mod Cells
 pub mod Kept
 pub mod Crowds
+pub mod Areas

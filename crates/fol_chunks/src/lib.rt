@@ -8,12 +8,14 @@
 //! a list. Only `reserve` and what lists blocks or entities need memory; `set` takes some where there is. It serves the data of a region.
 #![tactic(auto)]
 
+mod block_area;
 mod block_list;
 mod blocks;
 mod cells;
 mod chunks;
 mod entities;
 mod entity_list;
+mod ground;
 mod held;
 mod moves;
 mod steps;

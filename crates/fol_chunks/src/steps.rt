@@ -7,75 +7,73 @@ ghost use Rattle.fol_keyed.specs.Order.{chunk_cmp};
 ghost use Rattle.fol_chunks.specs.Contents.{is_recorded};
 ghost use Rattle.fol_chunks.specs.Rows.{stepped};
 
-use fol_keyed::{ChunkList, ChunkSet, Rectangle};
+use crate::block_area::BlockArea;
+use crate::ground::Ground;
+use fol_keyed::ChunkList;
 use fol_model::{BlockPos, ChunkPos, Entity, chunk_of};
 
-/// The entity after its movement: ahead by its speed, where it is and stays in recorded chunks.
-fn step<S: ChunkSet>(entity: Entity, recorded: &S) -> Entity
-    requires { All (λ c. IsTrue (is_chunk c)) (S.listed recorded.now) }
-    ensures { result ≡ stepped (is_recorded (S.listed recorded.now)) entity }
-{
-    match (
-        entity.at.x.checked_add(entity.vx),
-        entity.at.z.checked_add(entity.vz),
-    ) {
-        (Some(x), Some(z)) => moved_to(
-            entity,
-            BlockPos {
-                x,
-                y: entity.at.y,
-                z,
-            },
-            recorded,
-        ),
-        _ => entity,
+/// Any chunks: those of the entity's blocks are looked up.
+impl<'a> Ground for ChunkList<'a> {
+    ghost listed = { λ list. list.chunks.now };
+
+    fn step(&self, entity: Entity) -> Entity {
+        match (
+            entity.at.x.checked_add(entity.vx),
+            entity.at.z.checked_add(entity.vz),
+        ) {
+            (Some(x), Some(z)) => moved_to(
+                entity,
+                BlockPos {
+                    x,
+                    y: entity.at.y,
+                    z,
+                },
+                self,
+            ),
+            _ => entity,
+        }
     }
 }
 
 /// The entity at a block, where its chunk and the block's are recorded.
-fn moved_to<S: ChunkSet>(entity: Entity, at: BlockPos, recorded: &S) -> Entity
-    ensures { result ≡ (if is_recorded (S.listed recorded.now) (chunk_around entity.at)
-        && is_recorded (S.listed recorded.now) (chunk_around at) then record entity { at = at }
+fn moved_to(entity: Entity, at: BlockPos, recorded: &ChunkList) -> Entity
+    ensures { result ≡ (if is_recorded recorded.now.chunks.now (chunk_around entity.at)
+        && is_recorded recorded.now.chunks.now (chunk_around at) then record entity { at = at }
         else entity) }
 {
     if has_both(recorded, chunk_of(entity.at), chunk_of(at)) {
-        Entity {
-            id: entity.id,
-            at,
-            vx: entity.vx,
-            vz: entity.vz,
-        }
+        Entity { at, ..entity }
     } else {
         entity
     }
 }
 
 /// Whether both chunks are recorded. Often they are the same.
-fn has_both<S: ChunkSet>(recorded: &S, here: ChunkPos, there: ChunkPos) -> bool
-    ensures { result
-        ≡ (is_recorded (S.listed recorded.now) here && is_recorded (S.listed recorded.now) there) }
+fn has_both(recorded: &ChunkList, here: ChunkPos, there: ChunkPos) -> bool
+    ensures { result ≡ (is_recorded recorded.now.chunks.now here
+        && is_recorded recorded.now.chunks.now there) }
 {
-    recorded.contains(here) && (here == there || recorded.contains(there))
+    recorded.has(here) && (here == there || recorded.has(there))
 }
 
-/// Moves every entity of a list, by a look-up in the recorded chunks.
-fn step_within<S: ChunkSet>(entities: &mut [Entity], recorded: &S)
-    requires { All (λ c. IsTrue (is_chunk c)) (S.listed recorded.now) }
-    ensures { entities.new ≡ map (stepped (is_recorded (S.listed recorded.now))) entities.old }
+/// Moves every entity of a list on the same ground.
+fn step_on<G: Ground>(entities: &mut [Entity], ground: &G)
+    requires { All (λ c. IsTrue (is_chunk c)) (G.listed ground.now) }
+    ensures { entities.new ≡ map (stepped (is_recorded (G.listed ground.now))) entities.old }
 {
     for i in 0..entities.len() {
-        entities[i] = step(entities[i], recorded);
+        entities[i] = ground.step(entities[i]);
     }
 }
 
-/// The rectangle of the chunks, where there is one and where there are entities enough to pay for the search.
-fn rectangle_for(entities: usize, chunks: &[ChunkPos]) -> Option<Rectangle>
-    ensures { IfSome result (λ r. r.chunks.now ≡ chunks.now) }
+/// The area of the chunks, where they are a rectangle and where there are entities enough to pay for the search.
+fn area_for(entities: usize, chunks: &[ChunkPos]) -> Option<BlockArea>
+    ensures { IfSome result (λ area. area.chunks.now ≡ chunks.now) }
 {
     if entities < chunks.len() / 4 {
         return None;
     }
-    Rectangle::of(chunks)
+    BlockArea::of(chunks)
 }
 
 /// Moves every entity of a list.
@@ -84,8 +82,8 @@ pub fn step_all(entities: &mut [Entity], chunks: &[ChunkPos])
     requires places { All (λ c. IsTrue (is_chunk c)) chunks.now }
     ensures { entities.new ≡ map (stepped (is_recorded chunks.now)) entities.old }
 {
-    match rectangle_for(entities.len(), chunks) {
-        Some(rectangle) => step_within(entities, &rectangle),
-        None => step_within(entities, &ChunkList::of(chunks)),
+    match area_for(entities.len(), chunks) {
+        Some(area) => step_on(entities, &area),
+        None => step_on(entities, &ChunkList::of(chunks)),
     }
 }

@@ -25,10 +25,10 @@ pub record IsFilled (first last : ChunkPos) (xs : List ChunkPos) (i : ℕ) : Typ
   pub only : (k : ℕ) (d : ChunkPos) → k < i → UpTo first last (get_or xs (i - 1) d) (get_or xs k d)
   pub all : (c : ChunkPos) → UpTo first last (get_or xs (i - 1) c) c → (k : ℕ) × (k < i) × ((d : ChunkPos) → get_or xs k d ≡ c)
 
-le_z_true : (a b : ℤ) → int_le a b ≡ true → a ≤ℤ b
+pub le_z_true : (a b : ℤ) → int_le a b ≡ true → a ≤ℤ b
 le_z_true a b h = grind (arith, ints)
 
-true_le_z : (a b : ℤ) → a ≤ℤ b → int_le a b ≡ true
+pub true_le_z : (a b : ℤ) → a ≤ℤ b → int_le a b ≡ true
 true_le_z a b h = grind (arith, ints)
 
 same_place : (a b : ChunkPos) → a.x ≡ b.x → a.z ≡ b.z → a ≡ b

@@ -6,7 +6,6 @@
 #![tactic(auto)]
 
 mod chunk_list;
-mod chunk_set;
 mod order;
 mod rectangle;
 mod row;
@@ -15,7 +14,6 @@ mod rows;
 mod tests;
 
 pub use chunk_list::ChunkList;
-pub use chunk_set::ChunkSet;
 pub use order::{compare_blocks, compare_chunks, compare_sections};
 pub use rectangle::Rectangle;
 pub use row::Row;

@@ -1,26 +1,26 @@
-//! The chunks of a rectangle, in which a chunk is looked up by its coordinates alone.
+//! Lists of chunks that are all those of a rectangle.
 
-ghost use Rattle.std.specs.Prelude.{◌≡◌, ◌<◌, ◌-◌, ◌&&◌, int_le, true, length, slice_index_or, IfSome};
-ghost use Rattle.std.proofs.Props.{props};
+ghost use Rattle.std.specs.Prelude.{◌≡◌, ◌<◌, ◌-◌, ◌&&◌, true, length, slice_index_or, IfSome};
 ghost use Rattle.fol_model.specs.declared.places.ChunkPos.{ChunkPos};
 ghost use Rattle.fol_keyed.specs.Members.{is_listed};
 ghost use Rattle.fol_keyed.specs.Rectangles.{is_between, Follows};
 
 use fol_model::ChunkPos;
 
-/// Chunks that are all those between two corners.
+/// All chunks between two corners.
 #[derive(Clone, Copy)]
-pub struct Rectangle<'a> {
-    chunks: &'a [ChunkPos],
-    first: ChunkPos,
-    last: ChunkPos,
-    ghost exact: { (c : ChunkPos) → is_listed chunks.now c ≡ is_between first last c } by { Prim.hlevel props },
+pub struct Rectangle {
+    /// The corner whose coordinates are the least.
+    pub first: ChunkPos,
+    /// The corner whose coordinates are the greatest.
+    pub last: ChunkPos,
 }
 
-impl<'a> Rectangle<'a> {
+impl Rectangle {
     /// The rectangle of these chunks, where they stand row by row and are just the chunks of one. Looks at each of them.
-    pub fn of(chunks: &'a [ChunkPos]) -> Option<Rectangle<'a>>
-        ensures { IfSome result (λ r. r.chunks.now ≡ chunks.now) }
+    pub fn of(chunks: &[ChunkPos]) -> Option<Rectangle>
+        ensures { IfSome result (λ r.
+            (c : ChunkPos) → is_listed chunks.now c ≡ is_between r.first r.last c) }
     {
         if chunks.is_empty() {
             return None;
@@ -30,26 +30,8 @@ impl<'a> Rectangle<'a> {
         if !are_all_between(chunks, first, last) {
             return None;
         }
-        Some(Rectangle {
-            chunks,
-            first,
-            last,
-        })
+        Some(Rectangle { first, last })
     }
-
-    /// Whether the chunk is one of the rectangle.
-    pub fn has(&self, c: ChunkPos) -> bool
-        ensures { result ≡ is_listed self.now.chunks.now c }
-    {
-        is_from_to(self.first.x, c.x, self.last.x) && is_from_to(self.first.z, c.z, self.last.z)
-    }
-}
-
-/// Whether a number is one from `low` to `high`.
-fn is_from_to(low: i32, number: i32, high: i32) -> bool
-    ensures { result ≡ (int_le low number && int_le number high) }
-{
-    low <= number && number <= high
 }
 
 /// Whether the chunks, which begin and end by these two, stand row by row and are all those between them.

@@ -1,7 +1,7 @@
 use Rattle.std.proofs.Common.{◌≡◌, ◌++◌, map, take, drop}
 use Rattle.fol_chunks.specs.Contents.{is_recorded}
 use Rattle.fol_chunks.specs.Rows.{stepped}
-use Rattle.fol_chunks.proofs.steps.step_within.Given as goal
+use Rattle.fol_chunks.proofs.steps.step_on.Given as goal
 
 abbrev pub invariant-loop-i : goal.invariant-loop-i
-invariant-loop-i g l = l.entities ≡ map (stepped (is_recorded (g.S.ChunkSet.listed l.recorded))) (take l.i l.fn.entities) ++ drop l.i l.fn.entities
+invariant-loop-i g l = l.entities ≡ map (stepped (is_recorded (g.G.Ground.listed l.ground))) (take l.i l.fn.entities) ++ drop l.i l.fn.entities
