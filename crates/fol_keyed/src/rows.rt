@@ -81,6 +81,9 @@ pub fn move_listed<T: Row>(rows: &mut Vec<T>, list: &ChunkList, into: &mut Vec<T
 {
     let kept = into.len();
     copy_listed(rows, list, into);
+    if into.len() == kept {
+        return;
+    }
     rows.retain(|row| !list.has(row.chunk()));
     let left = rows.len();
     match rows.extend_from_slice(&into[kept..]) {

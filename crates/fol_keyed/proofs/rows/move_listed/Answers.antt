@@ -1,11 +1,11 @@
 use Rattle.std.proofs.Common.{◌≡◌, not, refl, ◌∙◌, ap, length, take, arith, rules}
 use Rattle.std.specs.List.{filter}
 use Rattle.std.proofs.lemmas.Fn.{filter_same}
-use Rattle.std.proofs.lemmas.List.{take_at}
+use Rattle.std.proofs.lemmas.List.{take_at, length-append}
 use Rattle.std.proofs.lemmas.List.Filters.{length-filter_both}
 use Rattle.std.proofs.lemmas.List.Kept.{IsStrictlySortedBy-filter}
 use Rattle.fol_keyed.specs.Members.{is_listed}
-use Rattle.fol_keyed.proofs.Behind.{behind, passed_on}
+use Rattle.fol_keyed.proofs.Behind.{behind, none_passed, passed_on}
 use Rattle.fol_keyed.proofs.rows.move_listed.Goals as goal
 
 pub unreachable-requires : goal.unreachable-requires
@@ -38,3 +38,9 @@ returns-clause-left g c =
     let kept : c.retain.new.self.items ≡ filter (λ r. not (is_listed c.args.list.now.chunks.now (g.T.Row.place r))) c.args.rows.now.items =
     filter_same _ (λ r. not (is_listed c.args.list.now.chunks.now (g.T.Row.place r))) _ (λ x b f k. search rules) _ _ c.retain.ensures.filtered in
     c.truncate.ensures.items ∙ rw c.in-Ok.ensures.items (take_at c.retain.new.self.items _ c.len-left.result (omega arith)) ∙ kept
+
+pub returns-then-len-kept-clause-left : goal.returns-then-len-kept-clause-left
+returns-then-len-kept-clause-left g c =
+    let copied = rw c.deref.ensures.value at c.copy_listed.ensures.items in
+    none_passed (λ r. is_listed c.args.list.now.chunks.now (g.T.Row.place r)) c.args.rows.now.items
+    (omega (arith, length-append c.args.into.now.items (filter (λ r. is_listed c.args.list.now.chunks.now (g.T.Row.place r)) c.args.rows.now.items), ap length copied))
