@@ -111,8 +111,8 @@ module _ (s : Stock) (d : Dated) (bags : List Slot) (spare slots : ℕ)
   kept u = let P : Slot → Type 0 = λ b. Kept (slot s u) b in subst P (sym (e u)) (pick (is_bag u (place s d.task.chunk)))
     where
       pick : (q : Bool) → Kept (slot s u) (if q then record (slot s u) { calm = stays_calm (slot s u) } else slot s u)
-      pick true = record { here = refl; taken = refl; chunks = refl; handed = refl; touched = refl; listed = λ o. o; calm = λ o. (and_parts (slot s u).calm (not (slot s u).listed) o).0 }
-      pick false = record { here = refl; taken = refl; chunks = refl; handed = refl; touched = refl; listed = λ o. o; calm = λ o. o }
+      pick true = record { here = refl; taken = refl; chunks = refl; list = refl; touched = refl; listed = λ o. o; calm = λ o. (and_parts (slot s u).calm (not (slot s u).listed) o).0 }
+      pick false = record { here = refl; taken = refl; chunks = refl; list = refl; touched = refl; listed = λ o. o; calm = λ o. o }
 
   -- a listed bag that has the chunk is calm no more
   stirred : (u : ℕ) → (slot t u).listed ≡ true → is_recorded (slot s u).chunks d.task.chunk ≡ true → (slot t u).calm ≡ true → ⊥

@@ -116,11 +116,11 @@ resized s arrivals bags spare slots e f h =
         same k (in_bag u) = refl
 
         kept_same : (b : Slot) → Kept b b
-        kept_same b = record { here = refl; taken = refl; chunks = refl; handed = refl; touched = refl; listed = λ o. o; calm = λ o. o }
+        kept_same b = record { here = refl; taken = refl; chunks = refl; list = refl; touched = refl; listed = λ o. o; calm = λ o. o }
 
 -- a bag that is closed keeps nothing
-pub closed_bag : (s : Stock) (id : ℕ) (b : Slot) → b.here ≡ false → b.taken ≡ false → b.listed ≡ false → IsBag s id b
-closed_bag s id b here taken listed =
+pub closed_bag : (s : Stock) (id : ℕ) (b : Slot) → b.here ≡ false → b.taken ≡ false → b.listed ≡ false → b.list ≡ b.chunks → IsBag s id b
+closed_bag s id b here taken listed list =
     let shut : (b.here || b.taken) ≡ false = rw (here, taken) refl in
     record {
       claims = λ o c q. clash (sym o ∙ shut);
@@ -130,7 +130,7 @@ closed_bag s id b here taken listed =
       opened = λ o. clash (sym o ∙ listed);
       one = rw here refl;
       out = λ o k x q. clash (sym o ∙ taken);
-      handed = λ o p. clash (sym o ∙ (rw here refl));
+      list = λ o. list;
     }
   where
     clash : {P : Type 0} → true ≡ false → P
@@ -201,7 +201,7 @@ module _ (s : Stock) (bags : List Slot) (spare slots : ℕ) where
         ])
       where
         kept_self : (b : Slot) → Kept b b
-        kept_self b = record { here = refl; taken = refl; chunks = refl; handed = refl; touched = refl; listed = λ o. o; calm = λ o. o }
+        kept_self b = record { here = refl; taken = refl; chunks = refl; list = refl; touched = refl; listed = λ o. o; calm = λ o. o }
 
     pub one_found : IsSound s → ((k : Key) → things d.body k ≡ things (slot s id).body k) → (k : Key) → found t k ≡ found s k
     one_found h same k = same_found s t (one_columns same) h.unique k

@@ -52,7 +52,7 @@ module _ (places : PlaceRows) (spare slots : ℕ) (homes : (q : ChunkPos) → pl
     lies = λ k w x q. clash k w x q;
     spot_range = λ c i e. let z : None ≡ Some i = sym (ap (λ (p : Place). p.spot) (homes c)) ∙ e in absurd (let f : ⊥ = cc in f);
     bag_range = λ c i e. let z : None ≡ Some i = sym (ap (λ (p : Place). p.bag) (homes c)) ∙ e in absurd (let f : ⊥ = cc in f);
-    bags = λ u. closed_bag bare u (slot bare u) (ap (λ (b : Slot). b.here) (closed u)) (ap (λ (b : Slot). b.taken) (closed u)) (ap (λ (b : Slot). b.listed) (closed u));
+    bags = λ u. closed_bag bare u (slot bare u) (ap (λ (b : Slot). b.here) (closed u)) (ap (λ (b : Slot). b.taken) (closed u)) (ap (λ (b : Slot). b.listed) (closed u)) (ap (λ (b : Slot). b.list) (closed u) ∙ sym (ap (λ (b : Slot). b.chunks) (closed u)));
     spot_times = λ i. timely_empty no_data (lit≤ tt) refl;
     bag_times = λ u. let P : Slot → Type 0 = λ b. IsTimely b.body in subst P (sym (closed u)) (timely_empty no_data (lit≤ tt) refl);
     arrival_times = All-nil (IsInTime 0);

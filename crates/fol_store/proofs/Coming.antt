@@ -44,10 +44,6 @@ or_second : (a b : Bool) → b ≡ true → (a || b) ≡ true
 or_second true b e = refl
 or_second false b e = e
 
-never_and : (b : Bool) → (b && false) ≡ true → false ≡ true
-never_and true e = e
-never_and false e = e
-
 -- one of many is set, and then changed
 pub set_twice : {X : Type 0} (id : ℕ) (f g h : ℕ → X) (a : X) (m : X → X) → ((u : ℕ) → g u ≡ (if nat_eq id u then a else f u)) → ((u : ℕ) → h u ≡ (if nat_eq id u then m (g id) else g u))
     → (u : ℕ) → h u ≡ (if nat_eq id u then m a else f u)
@@ -65,7 +61,7 @@ module _ (s : Stock) (bags : List Slot) (places : PlaceRows) (spare slots id : �
   t = with_parts s s.spots bags places spare slots
 
   abbrev d : Slot
-  d = record (slot s id) { listed = listed; calm = false; chunks = chunks; touched = touched }
+  d = record (slot s id) { listed = listed; calm = false; chunks = chunks; list = chunks; touched = touched }
 
   module _ (e : (u : ℕ) → slot t u ≡ (if nat_eq id u then d else slot s u)) (h : IsSound s) (long : length bags ≡ length s.bags) (there : id < length s.bags) (here : (slot s id).here ≡ true)
       (more_spare : s.spare ≤ spare) (more_slots : s.slots ≤ slots) where
@@ -137,7 +133,7 @@ module _ (s : Stock) (bags : List Slot) (places : PlaceRows) (spare slots id : �
           opened = λ o. no (sym off ∙ o);
           one = (h.bags id).one;
           out = λ o k x q. no (sym not_taken ∙ o);
-          handed = λ o p. no (never_and (slot s id).here (let f : ((slot s id).here && false) ≡ true = rw off at o in f));
+          list = λ o. refl;
         })
         (record {
           same = refl;
@@ -171,7 +167,7 @@ module _ (s : Stock) (bags : List Slot) (places : PlaceRows) (spare slots id : �
           opened = λ o. rw here refl;
           one = (h.bags id).one;
           out = λ o k x q. no (sym not_taken ∙ o);
-          handed = λ o p. no p;
+          list = λ o. refl;
         })
         (record {
           same = refl;

@@ -6,7 +6,7 @@ use denote.Param.Send.{IsSend, sendable}
 use denote.Param.SendFields.{as_row_send, declared_send}
 use denote.RattleType.{RattleType}
 use denote.Struct.Tuple.{Tuple}
-use Rattle.std.proofs.Crossing.{Box-send, Vec-send}
+use Rattle.std.proofs.Crossing.{crosses, Box-send, Vec-send}
 use Rattle.std.proofs.MapsCrossing.{HashMap-send}
 use Rattle.std.specs.contracts.alloc.Global as Global
 use Rattle.std.specs.contracts.collections.HashMap as HashMap
@@ -25,11 +25,15 @@ use Rattle.fol_store.specs.contracts.kept.Kept as kept
 use Rattle.fol_store.specs.contracts.places.Place as place
 use Rattle.fol_store.specs.contracts.places.Places as places
 use Rattle.fol_store.specs.contracts.places.Places.TheInside as inside
+use Rattle.fol_store.specs.contracts.recalled.Recalled as recalled
 use Rattle.fol_store.specs.contracts.slot.Slot as slot
 use Rattle.fol_store.specs.contracts.store.Store as store
 
+Recalled-send : IsSend (recalled.the_field).row
+Recalled-send = search crosses depth 14
+
 Slot-send : IsSend (slot.the_field).row
-Slot-send = search (sendable, RegionData-send, Sequence-send, ChunkPos-send) depth 14
+Slot-send = search (sendable, RegionData-send, Recalled-send, Sequence-send, ChunkPos-send) depth 14
 
 Kept-send : IsSend (kept.the_field).row
 Kept-send = search (sendable, Box-send, Slot-send) depth 14

@@ -176,8 +176,8 @@ module _ (s : Stock) (bags : List Slot) (places : PlaceRows) (spare slots u id :
       spot_range = spots_within s bags places spare slots u id chunks source target d.pours h;
       bag_range = bags_within s bags places spare slots u id chunks source target d.pours h;
       kept = each_bag (λ n b. Kept (slot s n) b)
-          (record { here = refl; taken = refl; chunks = refl; handed = refl; touched = refl; listed = λ o. never o; calm = λ o. o })
-          (record { here = refl; taken = refl; chunks = refl; handed = refl; touched = refl; listed = λ o. o; calm = λ o. o })
+          (record { here = refl; taken = refl; chunks = refl; list = refl; touched = refl; listed = λ o. never o; calm = λ o. o })
+          (record { here = refl; taken = refl; chunks = refl; list = refl; touched = refl; listed = λ o. o; calm = λ o. o })
           (λ n a b. kept_self (slot s n));
       fewer = λ n o c q. elim (home_cases s bags places spare slots u id chunks source target d.pours c n q) [
         | inl z ↦ let P : ℕ → Type 0 = λ m. is_recorded (slot s m).chunks c ≡ true in inr (subst P (sym z.here) (d.listed c z.listed))

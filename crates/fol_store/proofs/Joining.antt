@@ -89,11 +89,7 @@ none_shared s v u id e h differ listed id_listed q r = elim (cases_Bool (is_reco
   | inr a ↦ a
 ]
 
--- the chunks of a whole bag that is here are those to be handed out
-pub handed_listed : (s : Stock) (u : ℕ) → IsSound s → (slot s u).here ≡ true → (slot s u).listed ≡ true → (slot s u).calm ≡ true → (slot s u).handed ≡ (slot s u).chunks
-handed_listed s u h here listed calm = (h.bags u).handed (rw (here, listed) refl) calm
-
-module _ (s : Stock) (bags : List Slot) (places : PlaceRows) (spare slots u id : ℕ) (moved : List ChunkPos) (left come : RegionData) (listed calm : Bool) (chunks handed touched : List ChunkPos) where
+module _ (s : Stock) (bags : List Slot) (places : PlaceRows) (spare slots u id : ℕ) (moved : List ChunkPos) (left come : RegionData) (listed calm : Bool) (chunks touched : List ChunkPos) where
   abbrev t : Stock
   t = with_parts s s.spots bags places spare slots
 
@@ -101,7 +97,7 @@ module _ (s : Stock) (bags : List Slot) (places : PlaceRows) (spare slots u id :
   source = let b : Slot = record no_slot { body = left } in b
 
   abbrev target : Slot
-  target = record (slot s id) { body = come; listed = listed; calm = calm; chunks = chunks; handed = handed; touched = touched }
+  target = record (slot s id) { body = come; listed = listed; calm = calm; chunks = chunks; list = chunks; touched = touched }
 
   pub record MergesBags : Type 0 where
     pub pours : Pours s bags places spare slots u id moved source target
@@ -109,7 +105,6 @@ module _ (s : Stock) (bags : List Slot) (places : PlaceRows) (spare slots u id :
     -- what moves is among its chunks, and is all of them where the other is listed
     pub mine : (q : ChunkPos) → is_recorded moved q ≡ true → is_recorded (slot s u).chunks q ≡ true
     pub all : listed ≡ true → moved ≡ (slot s u).chunks
-    pub twice : listed ≡ true → handed ≡ chunks
     pub none_noted : listed ≡ true → touched ≡ []
     pub more_spare : s.spare ≤ spare
     pub more_slots : s.slots ≤ slots
@@ -161,7 +156,7 @@ module _ (s : Stock) (bags : List Slot) (places : PlaceRows) (spare slots u id :
       opened = λ o. rw d.both.id_here refl;
       one = (h.bags id).one;
       out = λ o k x q. no (sym not_taken ∙ o);
-      handed = λ o p. d.twice (rw d.both.id_here at o);
+      list = λ o. refl;
     }
       where
         near_it : listed ≡ true → (k : Key) (w : Where) (x : Thing k) → column t k w ≡ Some x → is_recorded chunks (chunk_at k x) ≡ true → w ≡ in_bag id
@@ -198,7 +193,7 @@ module _ (s : Stock) (bags : List Slot) (places : PlaceRows) (spare slots u id :
         lies = moved_lies s t (in_bag u) (in_bag id) (λ k x. is_recorded moved (chunk_at k x)) apart moves (comes_over s bags places spare slots u id moved source target d.pours h) (stays_over s bags places spare slots u id moved source target d.pours h);
         spot_range = spots_within s bags places spare slots u id moved source target d.pours h;
         bag_range = bags_within s bags places spare slots u id moved source target d.pours h;
-        bags = by_bag s bags places spare slots u id moved source target d.pours (λ n b. IsBag t n b) (closed_bag t u source refl refl refl) own_bag other_bag;
+        bags = by_bag s bags places spare slots u id moved source target d.pours (λ n b. IsBag t n b) (closed_bag t u source refl refl refl refl) own_bag other_bag;
         spot_times = h.spot_times;
         bag_times = times_over s bags places spare slots u id moved source target d.pours h;
         arrival_times = h.arrival_times;

@@ -1,5 +1,5 @@
 -- A thing is laid into a spot.
-use Rattle.std.proofs.Common.{◌≡◌, ◌≢◌, ℕ, ◌<◌, List, length, refl, sym, ◌∙◌, ap, subst, ◌⊎◌, inl, inr, arith, Some, None}
+use Rattle.std.proofs.Common.{◌≡◌, ◌≢◌, ℕ, ◌<◌, false, List, length, refl, sym, ◌∙◌, ap, subst, ◌⊎◌, inl, inr, arith, Some, None}
 use Rattle.std.specs.Prelude.{nat_eq, if◌then◌else◌}
 use Rattle.std.proofs.lemmas.Bool.{cases_Bool, cases_eq, eqb-true}
 use Rattle.fol_model.specs.declared.places.ChunkPos.{ChunkPos}
@@ -78,7 +78,9 @@ module _ (s : Stock) (spots : List RegionData) (i : ℕ) (c : ChunkPos) (r : Reg
       ];
       spot_range = λ q n e. let l : n < length s.spots = h.spot_range q n e in let g : length spots ≡ length s.spots = d.long in omega arith;
       bag_range = h.bag_range;
-      bags = λ u. closed_bag t u (slot s u) (ap (λ (b : Bag). b.here) (shut u ∙ d.closed.bags u)) (ap (λ (b : Bag). b.taken) (shut u ∙ d.closed.bags u)) (ap (λ (b : Bag). b.listed) (shut u ∙ d.closed.bags u));
+      bags = λ u.
+          let taken : (slot s u).taken ≡ false = ap (λ (b : Bag). b.taken) (shut u ∙ d.closed.bags u) in
+          closed_bag t u (slot s u) (ap (λ (b : Bag). b.here) (shut u ∙ d.closed.bags u)) taken (ap (λ (b : Bag). b.listed) (shut u ∙ d.closed.bags u)) ((h.bags u).list taken);
       spot_times = λ n. elim (cases_eq i n) [
         | inl q ↦ let P : ℕ → Type 0 = λ m. IsTimely (spot t m) in subst P q (subst IsTimely (sym spot_here) d.timely)
         | inr f ↦ subst IsTimely (sym (spot_other n f)) (h.spot_times n)

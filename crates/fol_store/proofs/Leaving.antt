@@ -38,7 +38,7 @@ module _ (s : Stock) (spots : List RegionData) (bags : List Slot) (places : Plac
   t = with_parts s spots bags places spare slots
 
   abbrev d : Slot
-  d = record (slot s id) { body = in_it; calm = false; chunks = chunks }
+  d = record (slot s id) { body = in_it; calm = false; chunks = chunks; list = chunks }
 
   pub record LosesOne : Type 0 where
     pub each_spot : (n : ℕ) → spot t n ≡ (if nat_eq i n then out_of_it else spot s n)
@@ -125,7 +125,7 @@ module _ (s : Stock) (spots : List RegionData) (bags : List Slot) (places : Plac
       opened = (h.bags id).opened;
       one = (h.bags id).one;
       out = λ o k x q. no (sym not_taken ∙ o);
-      handed = λ o p. no p;
+      list = λ o. refl;
     }
       where
         close : (k : Key) (w : Where) (x : Thing k) → Near id (slot s id) (chunk_at k x) w → Near id d (chunk_at k x) w

@@ -101,7 +101,7 @@ module _ (s : Stock) (bags : List Slot) (spare slots id : ℕ) where
           opened = λ o. (h.bags id).opened o;
           one = (h.bags id).one;
           out = λ o k x q. (h.bags id).out o k x (sym (columns k (in_bag id)) ∙ q);
-          handed = λ o p. (h.bags id).handed o p;
+          list = λ o. (h.bags id).list o;
         }
 
     pub marked_is : ((u : ℕ) → slot t u ≡ (if nat_eq id u then marked else slot s u)) → (c : ChunkPos) → (place s c).bag ≡ Some id → is_recorded list c ≡ true → IsNoted t c
@@ -112,7 +112,7 @@ module _ (s : Stock) (bags : List Slot) (spare slots id : ℕ) where
         subst P g (ap (λ (b : Slot). is_recorded b.touched c) (slot_here s bags spare slots id marked e) ∙ r)
 
   abbrev taken_from : Slot
-  taken_from = record (slot s id) { listed = false; handed = []; touched = [] }
+  taken_from = record (slot s id) { listed = false; touched = [] }
 
   module _ (e : (u : ℕ) → slot t u ≡ (if nat_eq id u then taken_from else slot s u)) (here : (slot s id).here ≡ true) (listed : (slot s id).listed ≡ true) (h : IsSound s) where
     no : {P : Type 0} → false ≡ true → P
@@ -130,10 +130,6 @@ module _ (s : Stock) (bags : List Slot) (spare slots id : ℕ) where
           same = record { found = one_found s bags spare slots id taken_from e h (λ k. refl); bags = long; spare = more_spare; slots = more_slots };
         }
       where
-        never_and : (b : Bool) → (b && false) ≡ true → false ≡ true
-        never_and true z = z
-        never_and false z = z
-
         bag : SameColumns s t → IsBag t id taken_from
         bag columns = record {
           claims = λ o c q. (h.bags id).claims o c q;
@@ -143,7 +139,7 @@ module _ (s : Stock) (bags : List Slot) (spare slots id : ℕ) where
           opened = λ o. no o;
           one = (h.bags id).one;
           out = λ o k x q. no (sym not_taken ∙ o);
-          handed = λ o p. no (never_and (slot s id).here o);
+          list = λ o. (h.bags id).list o;
         }
 
     home : (c : ChunkPos) → is_recorded (slot s id).chunks c ≡ true → (place s c).bag ≡ Some id

@@ -38,7 +38,7 @@ pub record OpenStep (s t : Stock) (id : ℕ) (b : Bag) : Type 0 where
 
 module _ (s : Stock) (bags : List Slot) (spare slots id tick owed : ℕ) (body : RegionData) where
   abbrev pub opened : Slot
-  opened = record { body = body; here = true; taken = false; listed = true; calm = true; chunks = []; handed = []; touched = []; since = [] }
+  opened = record { body = body; here = true; taken = false; listed = true; calm = true; chunks = []; list = []; touched = []; since = [] }
 
   pub open_step : ((u : ℕ) → slot (with_bags s bags spare slots) u ≡ (if nat_eq id u then opened else slot s u)) → SameThings (record no_data { tick = tick; owed = owed }) body → body.queues.tasks ≡ []
       → id ≡ length s.bags → length bags ≡ id + 1 → tick ≤ 2 ^ 62 → IsSound s → OpenStep s (with_bags s bags spare slots) id (new_bag tick owed)
@@ -67,5 +67,5 @@ module _ (s : Stock) (bags : List Slot) (spare slots id tick owed : ℕ) (body :
         opened = λ o. refl;
         one = refl;
         out = λ o k x q. never o;
-        handed = λ o p. refl;
+        list = λ o. refl;
       }

@@ -104,7 +104,7 @@ module _ (s : Stock) (bags : List Slot) (places : PlaceRows) (spare slots u id :
     source_bag : IsBag t u source
     source_bag =
         moved_bag s t (in_bag u) (in_bag id) (λ k x. is_recorded moved (chunk_at k x)) apart moves u (slot s u) source
-        (record { here = refl; taken = refl; chunks = refl; handed = refl; touched = refl; listed = λ o. never o; calm = λ o. o })
+        (record { here = refl; taken = refl; chunks = refl; list = refl; touched = refl; listed = λ o. never o; calm = λ o. o })
         (λ c q. inl (not_here u (λ e. d.pair.apart (sym e)) c q))
         (λ o c q. never (sym not_taken ∙ o))
         (λ o k x q p r. never o)
@@ -163,7 +163,7 @@ module _ (s : Stock) (bags : List Slot) (places : PlaceRows) (spare slots u id :
   first_left = record (slot s u) { body = left; listed = false }
 
   abbrev second_listed : Slot
-  second_listed = record (slot s id) { body = come; listed = true; calm = false; chunks = chunks; touched = touched }
+  second_listed = record (slot s id) { body = come; listed = true; calm = false; chunks = chunks; list = chunks; touched = touched }
 
   pub record ListsBag : Type 0 where
     pub pours : Pours s bags places spare slots u id chunks first_left second_listed
@@ -202,7 +202,7 @@ module _ (s : Stock) (bags : List Slot) (places : PlaceRows) (spare slots u id :
       opened = λ o. rw d.pair.id_here refl;
       one = (h.bags id).one;
       out = λ o k x q. never (sym second_home ∙ o);
-      handed = λ o p. never p;
+      list = λ o. refl;
     }
 
     pub listed_over : Handed id chunks s after
@@ -239,7 +239,7 @@ module _ (s : Stock) (bags : List Slot) (spare slots u id : ℕ) (chunks : List 
         moved_bag s still (in_bag u) (in_bag id) (λ k x. is_recorded [] (chunk_at k x))
         (apart_bags s bags s.places spare slots u id [] first_same second_same d.pours)
         (moves_over s bags s.places spare slots u id [] first_same second_same d.pours) id (slot s id) second_same
-        (record { here = refl; taken = refl; chunks = refl; handed = refl; touched = refl; listed = λ o. o; calm = λ o. o })
+        (record { here = refl; taken = refl; chunks = refl; list = refl; touched = refl; listed = λ o. o; calm = λ o. o })
         (λ c q. elim (home_cases s bags s.places spare slots u id [] first_same second_same d.pours c id q) [ inl z ↦ never z.listed | inr z ↦ inl z ])
         (λ o c q. home_keeps s bags s.places spare slots u id [] first_same second_same d.pours c id q (λ e. refl))
         (λ o k x q p r. never (sym d.pair.id_unlisted ∙ o))

@@ -54,10 +54,10 @@ apart_found s body f g (of_task n) x y p q =
     let h : IsTrue (is_none (found s (of_task n)) || is_none (rests_of body n)) = g n in
     let z : false ≡ true = rw (q, p) at h in cc
 
-module _ (s : Stock) (bags : List Slot) (spare slots id : ℕ) (body : RegionData) (handed : List ChunkPos) where
+module _ (s : Stock) (bags : List Slot) (spare slots id : ℕ) (body : RegionData) (list : List ChunkPos) where
   -- the bag with its things
   abbrev pub filled : Slot
-  filled = record (slot s id) { body = body; here = true; taken = false; handed = handed }
+  filled = record (slot s id) { body = body; here = true; taken = false; list = list }
 
   abbrev t : Stock
   t = with_bags s bags spare slots
@@ -65,7 +65,7 @@ module _ (s : Stock) (bags : List Slot) (spare slots id : ℕ) (body : RegionDat
   abbrev rec : ChunkPos → Bool
   rec = is_recorded (slot s id).chunks
 
-  module _ (e : (u : ℕ) → slot t u ≡ (if nat_eq id u then filled else slot s u)) (same : handed ≡ (slot s id).chunks) (taken : (slot s id).taken ≡ true) (h : IsSound s)
+  module _ (e : (u : ℕ) → slot t u ≡ (if nat_eq id u then filled else slot s u)) (same : list ≡ (slot s id).chunks) (taken : (slot s id).taken ≡ true) (h : IsSound s)
       (all_there : (k : Key) (x : Thing k) → things body k ≡ Some x → rec (chunk_at k x) ≡ true)
       (apart : (k : Key) (x y : Thing k) → things body k ≡ Some x → found s k ≡ Some y → ⊥) where
     col_here : (k : Key) → column t k (in_bag id) ≡ things body k
@@ -142,7 +142,7 @@ module _ (s : Stock) (bags : List Slot) (spare slots id : ℕ) (body : RegionDat
           opened = λ o. refl;
           one = refl;
           out = λ o k x q. (let z : false ≡ true = o in cc);
-          handed = λ o p. same;
+          list = λ o. same;
         }
           where
             near_same : (c : ChunkPos) (w : Where) → Near id (slot s id) c w → Near id filled c w

@@ -33,7 +33,7 @@ module _ (s : Stock) (bags : List Slot) (spare slots id : ℕ) (r : RegionData) 
     ])
 
     kept_filled : Kept (slot s id) filled
-    kept_filled = record { here = refl; taken = refl; chunks = refl; handed = refl; touched = refl; listed = λ o. o; calm = λ o. o }
+    kept_filled = record { here = refl; taken = refl; chunks = refl; list = refl; touched = refl; listed = λ o. o; calm = λ o. o }
 
     -- the same things, and perhaps more room
     pub same_sound : SameThings (slot s id).body r → IsTimely r → length bags ≡ length s.bags → IsSound t

@@ -46,7 +46,7 @@ module _ (s : Stock) (bags : List Slot) (spare slots id : ℕ) (body : RegionDat
     bags_same = fun_ext (λ u. ap shown (e u) ∙ pick u)
 
     kept : Kept (slot s id) left
-    kept = record { here = refl; taken = refl; chunks = refl; handed = refl; touched = refl; listed = λ o. o; calm = λ o. o }
+    kept = record { here = refl; taken = refl; chunks = refl; list = refl; touched = refl; listed = λ o. o; calm = λ o. o }
 
     pub released : IsTimely body → length bags ≡ length s.bags → s.spare ≤ spare → s.slots ≤ slots → IsSound s → Released s t
     released timely long more_spare more_slots h =

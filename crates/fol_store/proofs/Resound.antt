@@ -18,7 +18,7 @@ pub record Kept (b d : Slot) : Type 0 where
   pub here : d.here ≡ b.here
   pub taken : d.taken ≡ b.taken
   pub chunks : d.chunks ≡ b.chunks
-  pub handed : d.handed ≡ b.handed
+  pub list : d.list ≡ b.list
   pub touched : d.touched ≡ b.touched
   pub listed : d.listed ≡ true → b.listed ≡ true
   pub calm : d.calm ≡ true → b.calm ≡ true
@@ -44,10 +44,6 @@ or_first true b c f h = ap (λ z. z || c) (f refl)
 or_first false true c f h = refl
 or_first false false c f h = h
 
-pub and_second : (a b c : Bool) → (b ≡ true → c ≡ true) → (a && b) ≡ true → (a && c) ≡ true
-and_second true b c f h = f h
-and_second false b c f h = h
-
 -- a bag that is kept, from what lies on its chunks afterwards
 pub kept_bag : (s t : Stock) (id : ℕ) (b d : Slot) → Kept b d
     → ((c : ChunkPos) → (place t c).bag ≡ Some id → ((place s c).bag ≡ Some id) ⊎ (is_recorded b.chunks c ≡ true))
@@ -65,7 +61,7 @@ kept_bag s t id b d kept fewer more near out h =
       opened = λ o. opens ∙ h.opened (kept.listed o);
       one = rw (kept.here, kept.taken) h.one;
       out = out;
-      handed = λ o p. rw (kept.handed, kept.chunks) (h.handed (and_second b.here d.listed b.listed kept.listed (sym (ap (λ z. z && d.listed) kept.here) ∙ o)) (kept.calm p));
+      list = λ o. rw (kept.list, kept.chunks) (h.list (sym kept.taken ∙ o));
     }
   where
     ap2or : d.here ≡ b.here → d.taken ≡ b.taken → (d.here || d.taken) ≡ (b.here || b.taken)
@@ -75,7 +71,7 @@ kept_bag s t id b d kept fewer more near out h =
     held_before o = or_first d.listed b.listed b.taken kept.listed (sym (ap (λ z. d.listed || z) kept.taken) ∙ o)
 
 pub kept_self : (b : Slot) → Kept b b
-kept_self b = record { here = refl; taken = refl; chunks = refl; handed = refl; touched = refl; listed = λ o. o; calm = λ o. o }
+kept_self b = record { here = refl; taken = refl; chunks = refl; list = refl; touched = refl; listed = λ o. o; calm = λ o. o }
 
 module _ (s t : Stock) where
   -- no part changes
@@ -103,7 +99,7 @@ module _ (s t : Stock) where
         opened = λ o. opens ∙ h.opened (kept.listed o);
         one = rw (kept.here, kept.taken) h.one;
         out = λ o k x q. h.out (sym kept.taken ∙ o) k x (sym (e k (in_bag id)) ∙ q);
-        handed = λ o p. rw (kept.handed, kept.chunks) (h.handed (and_second b.here d.listed b.listed kept.listed (sym (ap (λ z. z && d.listed) kept.here) ∙ o)) (kept.calm p));
+        list = λ o. rw (kept.list, kept.chunks) (h.list (sym kept.taken ∙ o));
       }
     where
       ap2or : d.here ≡ b.here → d.taken ≡ b.taken → (d.here || d.taken) ≡ (b.here || b.taken)
@@ -160,7 +156,7 @@ module _ (s t : Stock) («from» to : Where) (p : (k : Key) → Thing k → Bool
               | inl c ↦ none_come o (sym c.there)
               | inr c ↦ h.out (sym kept.taken ∙ o) k x c.had
             ];
-        handed = λ o p. rw (kept.handed, kept.chunks) (h.handed (and_second b.here d.listed b.listed kept.listed (sym (ap (λ z. z && d.listed) kept.here) ∙ o)) (kept.calm p));
+        list = λ o. rw (kept.list, kept.chunks) (h.list (sym kept.taken ∙ o));
       }
     where
       ap2or : d.here ≡ b.here → d.taken ≡ b.taken → (d.here || d.taken) ≡ (b.here || b.taken)
@@ -212,6 +208,7 @@ module _ (s t : Stock) («from» to : Where) (p : (k : Key) → Thing k → Bool
               let taken : (slot s id).taken ≡ false = or_right (slot s id).here (slot s id).taken z in
               closed t id (slot t id) ((r.kept id).here ∙ here) ((r.kept id).taken ∙ taken)
               (not_listed id (slot t id).listed refl z)
+              (rw ((r.kept id).list, (r.kept id).chunks) ((h.bags id).list taken))
             where
               or_left : (a b : Bool) → (a || b) ≡ false → a ≡ false
               or_left true b e = e
@@ -228,8 +225,8 @@ module _ (s t : Stock) («from» to : Where) (p : (k : Key) → Thing k → Bool
               clash : {P : Type 0} → true ≡ false → P
               clash e = absurd (let z : ⊥ = cc in z)
 
-              closed : (t : Stock) (id : ℕ) (b : Slot) → b.here ≡ false → b.taken ≡ false → b.listed ≡ false → IsBag t id b
-              closed t id b here taken listed =
+              closed : (t : Stock) (id : ℕ) (b : Slot) → b.here ≡ false → b.taken ≡ false → b.listed ≡ false → b.list ≡ b.chunks → IsBag t id b
+              closed t id b here taken listed list =
                   let f : (b.here || b.taken) ≡ false = rw (here, taken) refl in
                   record {
                     claims = λ o c q. clash (sym o ∙ f);
@@ -239,5 +236,5 @@ module _ (s t : Stock) («from» to : Where) (p : (k : Key) → Thing k → Bool
                     opened = λ o. clash (sym o ∙ listed);
                     one = rw here refl;
                     out = λ o k x q. clash (sym o ∙ taken);
-                    handed = λ o p. clash (sym o ∙ (rw here refl));
+                    list = λ o. list;
                   }

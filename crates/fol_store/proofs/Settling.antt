@@ -25,10 +25,10 @@ module _ (s : Stock) (bags : List Slot) (spare slots id : ℕ) (list : List Chun
   t = with_bags s bags spare slots
 
   abbrev listed : Slot
-  listed = record (slot s id) { listed = false; chunks = list }
+  listed = record (slot s id) { listed = false; chunks = list; list = list }
 
   abbrev finished : Slot
-  finished = record (slot s id) { listed = true; calm = true; handed = list; touched = [] }
+  finished = record (slot s id) { listed = true; calm = true; touched = [] }
 
   no : {P : Type 0} → false ≡ true → P
   no e = absurd (let z : ⊥ = cc in z)
@@ -66,17 +66,13 @@ module _ (s : Stock) (bags : List Slot) (spare slots id : ℕ) (list : List Chun
         opened = λ o. no o;
         one = (h.bags id).one;
         out = λ o k x q. no (sym not_taken ∙ o);
-        handed = λ o p. no (never_and (slot s id).here o);
+        list = λ o. refl;
       }
-        where
-          never_and : (b : Bool) → (b && false) ≡ true → false ≡ true
-          never_and true e = e
-          never_and false e = e
 
-  pub now_whole : ((u : ℕ) → slot t u ≡ (if nat_eq id u then finished else slot s u)) → (slot s id).here ≡ true → list ≡ (slot s id).chunks
+  pub now_whole : ((u : ℕ) → slot t u ≡ (if nat_eq id u then finished else slot s u)) → (slot s id).here ≡ true
       → ((q : ChunkPos) → is_recorded (slot s id).chunks q ≡ true → IsGathered s id q)
       → length bags ≡ length s.bags → s.spare ≤ spare → s.slots ≤ slots → IsSound s → Settled s t id (let b : Bag = record (bag_of s id) { listed = true; calm = true } in b)
-  now_whole e here same gathered long more_spare more_slots h =
+  now_whole e here gathered long more_spare more_slots h =
       let step = one_step s bags spare slots id finished e (let b : Bag = record (bag_of s id) { listed = true; calm = true } in b) h (λ k. refl) long (h.bag_times id) bag (ap (λ (b : Bag). let r : Bag = record b { listed = true; calm = true } in r) (sym (bag_slot s id))) in
       record {
         sound = step.sound;
@@ -95,5 +91,5 @@ module _ (s : Stock) (bags : List Slot) (spare slots id : ℕ) (list : List Chun
         opened = λ o. rw here refl;
         one = (h.bags id).one;
         out = λ o k x q. (h.bags id).out o k x (sym (columns k (in_bag id)) ∙ q);
-        handed = λ o p. same;
+        list = λ o. (h.bags id).list o;
       }

@@ -90,7 +90,7 @@ module _ (s : Stock) (spots : List RegionData) (bags : List Slot) (places : Plac
     bag_times = by_bag (λ n b. IsTimely b.body) d.timely h.bag_times
 
     kept : (n : ℕ) → Kept (slot s n) (slot t n)
-    kept = by_bag (λ n b. Kept (slot s n) b) (record { here = refl; taken = refl; chunks = refl; handed = refl; touched = refl; listed = λ o. o; calm = λ o. o }) (λ n. kept_self (slot s n))
+    kept = by_bag (λ n b. Kept (slot s n) b) (record { here = refl; taken = refl; chunks = refl; list = refl; touched = refl; listed = λ o. o; calm = λ o. o }) (λ n. kept_self (slot s n))
 
     still_listed : (n : ℕ) → (slot t n).listed ≡ true → (slot s n).listed ≡ true
     still_listed n = (kept n).listed

@@ -79,6 +79,18 @@ target_kept id chunks s t h d = record {
   free = free_kept id chunks (bag_of s) (bag_of t) (ap (λ (b : Bag). b.taken) d.own) (ap (λ (b : Bag). b.chunks) d.own) d.others h.free;
 }
 
+-- the bag that is being gathered has its own chunks after a step, and a step for these comes after it
+pub target_own : (id : ℕ) (chunks : List ChunkPos) (s t : Stock) → IsTarget id chunks s → Draws id chunks s t → IsTarget id (bag_of t id).chunks t
+target_own id chunks s t h d =
+    let k : IsTarget id chunks t = target_kept id chunks s t h d in
+    let P : List ChunkPos → Type 0 = λ l. IsTarget id l t in
+    subst P (sym k.chunks_are) k
+
+pub draws_own : (id : ℕ) (chunks : List ChunkPos) (r s t : Stock) → IsTarget id chunks r → Draws id chunks r s → Draws id (bag_of s id).chunks s t → Draws id chunks r t
+draws_own id chunks r s t h a b =
+    let P : List ChunkPos → Type 0 = λ l. Draws id l s t in
+    draws_trans id chunks r s t a (subst P (target_kept id chunks r s h a).chunks_are b)
+
 -- a store with other places
 abbrev pub with_places : Stock → PlaceRows → Stock
 with_places s places = record s { places = places }
@@ -210,6 +222,10 @@ target_listed id chunks s h c r = ap (λ l. is_recorded l c) h.chunks_are ∙ r
 
 pub here_not_taken : (id : ℕ) (s : Stock) → IsSound s → (slot s id).here ≡ true → (slot s id).taken ≡ false
 here_not_taken id s h e = let f : ((slot s id).here && (slot s id).taken) ≡ false = (h.bags id).one in rw e at f
+
+-- the list of a bag that is here is that of its chunks
+pub listed_here : (id : ℕ) (s : Stock) → IsSound s → (slot s id).here ≡ true → (slot s id).list ≡ (slot s id).chunks
+listed_here id s h e = (h.bags id).list (here_not_taken id s h e)
 
 -- a bag that has one of the chunks was not taken out
 pub source_not_taken : (id u : ℕ) (chunks : List ChunkPos) (s : Stock) → IsTarget id chunks s → IsSound s → (c : ChunkPos) → is_recorded chunks c ≡ true → (place s c).bag ≡ Some u → (slot s u).taken ≡ false

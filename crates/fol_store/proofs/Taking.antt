@@ -23,7 +23,7 @@ use Rattle.fol_store.proofs.BagSteps.{with_bags, slot_here, slot_other}
 module _ (s : Stock) (bags : List Slot) (spare slots id : ℕ) (body : RegionData) where
   -- the bag without its things
   abbrev pub emptied : Slot
-  emptied = record (slot s id) { body = body; here = false; taken = true; handed = [] }
+  emptied = record (slot s id) { body = body; here = false; taken = true; list = [] }
 
   abbrev t : Stock
   t = with_bags s bags spare slots
@@ -135,7 +135,7 @@ module _ (s : Stock) (bags : List Slot) (spare slots id : ℕ) (body : RegionDat
           opened = λ o. refl;
           one = refl;
           out = λ o k x q. let f : None ≡ Some x = sym (col_here k) ∙ q in cc;
-          handed = λ o p. (let f : false ≡ true = o in cc);
+          list = λ o. (let f : true ≡ false = o in cc);
         }
 
     pub taken_sound : length bags ≡ length s.bags → IsTimely body → IsSound t

@@ -37,8 +37,8 @@ pub record IsBag (s : Stock) (id : ℕ) (b : Slot) : Type 0 where
   pub one : (b.here && b.taken) ≡ false
   -- nothing is left of a bag that a worker has
   pub out : b.taken ≡ true → (k : Key) (x : Thing k) → column s k (in_bag id) ≡ Some x → ⊥
-  -- a whole bag can be handed out
-  pub handed : (b.here && b.listed) ≡ true → b.calm ≡ true → b.handed ≡ b.chunks
+  -- its chunks are there, unless a worker has them
+  pub list : b.taken ≡ false → b.list ≡ b.chunks
 
 pub record IsSound (s : Stock) : Type 0 where
   -- no thing lies in two parts

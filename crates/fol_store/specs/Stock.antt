@@ -29,7 +29,7 @@ pub record Stock : Type 0 where
 
 -- of an id that no region had so far
 abbrev pub no_slot : Slot
-no_slot = record { body = no_data; here = false; taken = false; listed = false; calm = false; chunks = []; handed = []; touched = []; since = [] }
+no_slot = record { body = no_data; here = false; taken = false; listed = false; calm = false; chunks = []; list = []; touched = []; since = [] }
 
 abbrev pub slot : Stock → ℕ → Slot
 slot s id = slice_index_or s.bags id no_slot

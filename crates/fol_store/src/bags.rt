@@ -1,6 +1,6 @@
 //! The bags by region.
 
-ghost use Rattle.std.specs.Prelude.{◌≡◌, ◌+◌, ◌<◌, ◌≤◌, true, ℕ, nat_eq, if◌then◌else◌, [], ◌∷◌, ◌++◌, length, vec_len, IfOk, OnOk, IfSome, IsTrue};
+ghost use Rattle.std.specs.Prelude.{◌≡◌, ◌+◌, ◌<◌, ◌≤◌, true, false, ℕ, nat_eq, if◌then◌else◌, [], ◌∷◌, ◌++◌, length, vec_len, IfOk, OnOk, IfSome, IsTrue};
 ghost use Rattle.std.specs.Option.{is_none};
 ghost use Rattle.fol_store.specs.Stock.{no_slot};
 ghost use Rattle.fol_store.specs.Slots.{slot_in};
@@ -162,7 +162,9 @@ impl Bags {
 
     /// Gives back the memory of a bag that no region has any more, where nothing lies in it.
     pub fn release(&mut self, id: usize)
-        requires { id < length self.old.items }
+        requires there { id < length self.old.items }
+        requires list { (slot_in self.old.items id).taken ≡ false
+            → (slot_in self.old.items id).list ≡ (slot_in self.old.items id).chunks }
         ensures things { (k : Key) → things (slot_in self.new.items id).body k
             ≡ things (slot_in self.old.items id).body k }
         ensures timely { IsTimely (slot_in self.old.items id).body

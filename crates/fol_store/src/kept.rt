@@ -1,6 +1,6 @@
 //! Where the bag of a region lies.
 
-ghost use Rattle.std.specs.Prelude.{◌≡◌, true, IfSome, IsTrue};
+ghost use Rattle.std.specs.Prelude.{◌≡◌, true, false, IfSome, IsTrue};
 ghost use Rattle.std.specs.Option.{is_none};
 ghost use Rattle.fol_store.specs.Stock.{no_slot};
 ghost use Rattle.fol_store.specs.Things.{Key, things, IsTimely};
@@ -78,6 +78,7 @@ impl Kept {
 
     /// Gives back the memory of a bag that no region has any more, where nothing lies in it.
     pub fn release(&mut self)
+        requires { self.old.taken ≡ false → self.old.list ≡ self.old.chunks }
         ensures things { (k : Key) → things self.new.body k ≡ things self.old.body k }
         ensures timely { IsTimely self.old.body → IsTimely self.new.body }
         ensures here { self.old.here ≡ true → self.new.body ≡ self.old.body }
@@ -90,6 +91,7 @@ impl Kept {
 
     /// Whether there is a bag that no region has any more, and in which nothing lies.
     fn is_over(&self) -> bool
+        requires { self.now.taken ≡ false → self.now.list ≡ self.now.chunks }
         ensures things { IsTrue result → (k : Key) → things self.now.body k ≡ things no_slot.body k }
         ensures rest { IsTrue result → self.now ≡ record no_slot { body = self.now.body } }
     {

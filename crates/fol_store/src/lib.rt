@@ -17,6 +17,7 @@ mod bags;
 mod kept;
 mod members;
 mod places;
+mod recalled;
 mod rows;
 mod shift;
 mod slot;

@@ -1,10 +1,11 @@
 //! A chunk comes to a list of chunks, which stand by z and then by x, or leaves it.
 
-ghost use Rattle.std.specs.Prelude.{◌≡◌, ◌≤◌, ◌<◌, true, false, length, slice_index_or, MatchResult, IfOk, OnOk, OnErr};
+ghost use Rattle.std.specs.Prelude.{◌≡◌, ◌≤◌, ◌<◌, ◌||◌, ◌&&◌, not, true, false, length, slice_index_or, MatchResult, IfOk, OnOk, OnErr};
 ghost use Rattle.std.specs.List.{insert, remove as without};
 ghost use Rattle.std.specs.List.Sorted.{IsStrictlySortedBy, IsPartitionPoint};
 ghost use Rattle.std.specs.declared.cmp.Ordering.TheVariants.{Less, Greater};
 ghost use Rattle.fol_model.specs.declared.places.ChunkPos.{ChunkPos};
+ghost use Rattle.fol_model.specs.Geometry.{same_chunk};
 ghost use Rattle.fol_chunks.specs.Contents.{is_recorded};
 ghost use Rattle.fol_chunks.specs.Order.{chunk_cmp};
 ghost use Rattle.fol_store.specs.Relisted.{IsUnion};
@@ -14,8 +15,36 @@ use fol_model::{ChunkPos, Sequence};
 use std::alloc::{AllocError, Global};
 use std::mem;
 
+/// A chunk comes into a list, if it is not there. If memory runs out, the list stays.
+pub fn widen(alloc: Global, chunks: &mut Sequence<ChunkPos>, c: ChunkPos) -> Result<(), AllocError>
+    requires { IsStrictlySortedBy chunk_cmp chunks.old }
+    ensures order { OnOk result (IsStrictlySortedBy chunk_cmp chunks.new) }
+    ensures has { OnOk result ((q : ChunkPos)
+        → is_recorded chunks.new q ≡ (is_recorded chunks.old q || same_chunk c q)) }
+    ensures kept { (q : ChunkPos) → is_recorded chunks.old q ≡ true
+        → is_recorded chunks.new q ≡ true }
+{
+    match place_of(chunks.as_slice(), c) {
+        Ok(_) => Ok(()),
+        Err(i) => insert(alloc, chunks, i, c),
+    }
+}
+
+/// A chunk leaves a list, if it is there.
+pub fn narrow(alloc: Global, chunks: &mut Sequence<ChunkPos>, c: ChunkPos)
+    requires { IsStrictlySortedBy chunk_cmp chunks.old }
+    ensures order { IsStrictlySortedBy chunk_cmp chunks.new }
+    ensures has { (q : ChunkPos) → is_recorded chunks.new q
+        ≡ (is_recorded chunks.old q && not (same_chunk c q)) }
+{
+    match place_of(chunks.as_slice(), c) {
+        Ok(i) => remove(alloc, chunks, i),
+        Err(_) => {}
+    }
+}
+
 /// Where the chunk stands in the list, or where it would stand.
-pub fn place_of(chunks: &[ChunkPos], c: ChunkPos) -> Result<usize, usize>
+fn place_of(chunks: &[ChunkPos], c: ChunkPos) -> Result<usize, usize>
     requires { IsStrictlySortedBy chunk_cmp chunks.now }
     ensures { MatchResult result (λ i. (i < length chunks.now)
         × ((d : ChunkPos) → slice_index_or chunks.now i d ≡ c)) (λ i. (i ≤ length chunks.now)
@@ -26,7 +55,7 @@ pub fn place_of(chunks: &[ChunkPos], c: ChunkPos) -> Result<usize, usize>
 }
 
 /// Puts a chunk at a place of the list. If memory runs out, the list stays.
-pub fn insert(
+fn insert(
     alloc: Global,
     chunks: &mut Sequence<ChunkPos>,
     i: usize,
@@ -55,7 +84,7 @@ fn insert_in(chunks: &mut Vec<ChunkPos>, i: usize, c: ChunkPos) -> Result<(), Al
 }
 
 /// Takes the chunk at a place out of the list.
-pub fn remove(alloc: Global, chunks: &mut Sequence<ChunkPos>, i: usize)
+fn remove(alloc: Global, chunks: &mut Sequence<ChunkPos>, i: usize)
     requires { i < length chunks.old }
     ensures { chunks.new ≡ without chunks.old i }
 {

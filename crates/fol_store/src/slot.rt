@@ -1,7 +1,6 @@
 //! The bag of a region, as the store keeps it.
 
 ghost use Rattle.std.specs.Prelude.{◌≡◌, ◌≤◌, true, not, ◌||◌, ◌&&◌, [], ◌∷◌, ◌++◌, ◌⊎◌, length, false, IsTrue, OnOk};
-ghost use Rattle.std.specs.List.{insert};
 ghost use Rattle.std.specs.List.Sorted.{IsStrictlySortedBy};
 ghost use Rattle.fol_model.specs.declared.places.ChunkPos.{ChunkPos};
 ghost use Rattle.fol_model.specs.Geometry.{same_chunk};
@@ -12,6 +11,7 @@ ghost use Rattle.fol_store.specs.Moves.{SameThings};
 ghost use Rattle.fol_store.specs.Things.{Key, no_data, things, IsTimely};
 
 use crate::members;
+use crate::recalled::Recalled;
 use fol_data::RegionData;
 use fol_model::{ChunkPos, Sequence};
 use std::alloc::{AllocError, Global};
@@ -29,10 +29,10 @@ pub struct Slot {
     pub listed: bool,
     /// Whether no task came on its chunks since they were listed.
     pub calm: bool,
-    /// The chunks for which it was gathered.
-    pub chunks: Sequence<ChunkPos>,
-    /// The same chunks, to be handed out with the bag, where it is listed and calm.
-    pub handed: Sequence<ChunkPos>,
+    /// The chunks for which it was gathered, as contracts see them while a worker has the bag too.
+    pub chunks: Recalled,
+    /// These chunks, in order, unless a worker has the bag and them.
+    pub list: Sequence<ChunkPos>,
     /// Chunks in whose spots something may lie; of a listed bag, all such ones.
     pub touched: Sequence<ChunkPos>,
     /// Chunks that may have come or left while a worker had the bag.
@@ -51,14 +51,15 @@ impl Slot {
           calm = true;
         } }
     {
+        let list = Sequence::new(alloc);
         Slot {
             body: new_data(alloc, tick, owed),
             here: true,
             taken: false,
             listed: true,
             calm: true,
-            chunks: Sequence::new(alloc),
-            handed: Sequence::new(alloc),
+            chunks: Recalled::of(&list),
+            list,
             touched: Sequence::new(alloc),
             since: Sequence::new(alloc),
         }
@@ -66,6 +67,7 @@ impl Slot {
 
     /// Whether no region has it any more, and nothing lies in it.
     pub fn is_over(&self) -> bool
+        requires { self.now.taken ≡ false → self.now.list ≡ self.now.chunks }
         ensures things { IsTrue result → (k : Key) → things self.now.body k ≡ things no_data k }
         ensures rest { IsTrue result → self.now ≡ record no_slot { body = self.now.body } }
     {
@@ -84,15 +86,11 @@ impl Slot {
 
     /// Whether no list has a chunk.
     fn has_no_chunk(&self) -> bool
-        ensures chunks { IsTrue result → self.now.chunks ≡ [] }
-        ensures handed { IsTrue result → self.now.handed ≡ [] }
+        ensures list { IsTrue result → self.now.list ≡ [] }
         ensures touched { IsTrue result → self.now.touched ≡ [] }
         ensures since { IsTrue result → self.now.since ≡ [] }
     {
-        self.chunks.is_empty()
-            && self.handed.is_empty()
-            && self.touched.is_empty()
-            && self.since.is_empty()
+        self.list.is_empty() && self.touched.is_empty() && self.since.is_empty()
     }
 
     /// Where nothing lies in it, the room for what lay there goes back.
@@ -106,56 +104,53 @@ impl Slot {
         }
     }
 
+    /// Gives it other chunks.
+    pub fn relist(&mut self, chunks: Vec<ChunkPos>)
+        ensures { self.new ≡ record self.old {
+          chunks = chunks.items;
+          list = chunks.items;
+        } }
+    {
+        self.list = Sequence::of(chunks);
+        self.chunks = Recalled::of(&self.list);
+    }
+
     /// A chunk comes, and is noted. If memory runs out, it may be there and not noted, and no chunk is lost.
     pub fn admit(&mut self, alloc: Global, c: ChunkPos) -> Result<(), AllocError>
-        requires { IsStrictlySortedBy chunk_cmp self.old.chunks }
-        ensures order { OnOk result (IsStrictlySortedBy chunk_cmp self.new.chunks) }
+        requires { IsStrictlySortedBy chunk_cmp self.old.list }
+        ensures order { OnOk result (IsStrictlySortedBy chunk_cmp self.new.list) }
         ensures has { OnOk result ((q : ChunkPos)
-            → is_recorded self.new.chunks q ≡ (is_recorded self.old.chunks q || same_chunk c q)) }
+            → is_recorded self.new.list q ≡ (is_recorded self.old.list q || same_chunk c q)) }
         ensures noted { OnOk result (self.new.touched ≡ self.old.touched ++ c ∷ []) }
-        ensures kept { (q : ChunkPos) → is_recorded self.old.chunks q ≡ true
-            → is_recorded self.new.chunks q ≡ true }
+        ensures kept { (q : ChunkPos) → is_recorded self.old.list q ≡ true
+            → is_recorded self.new.list q ≡ true }
         ensures rest { self.new ≡ record self.old {
-          chunks = self.new.chunks;
+          chunks = self.new.list;
+          list = self.new.list;
           touched = self.new.touched;
         } }
     {
-        self.widen(alloc, c)?;
+        let result = members::widen(alloc, &mut self.list, c);
+        self.chunks = Recalled::of(&self.list);
+        result?;
         self.touched.push(c)
     }
 
-    /// A chunk comes into the list.
-    fn widen(&mut self, alloc: Global, c: ChunkPos) -> Result<(), AllocError>
-        requires { IsStrictlySortedBy chunk_cmp self.old.chunks }
-        ensures order { OnOk result (IsStrictlySortedBy chunk_cmp self.new.chunks) }
-        ensures has { OnOk result ((q : ChunkPos)
-            → is_recorded self.new.chunks q ≡ (is_recorded self.old.chunks q || same_chunk c q)) }
-        ensures kept { (q : ChunkPos) → is_recorded self.old.chunks q ≡ true
-            → is_recorded self.new.chunks q ≡ true }
-        ensures rest { self.new ≡ record self.old { chunks = self.new.chunks } }
-    {
-        match members::place_of(self.chunks.as_slice(), c) {
-            Ok(_) => Ok(()),
-            Err(i) => members::insert(alloc, &mut self.chunks, i, c),
-        }
-    }
-
-    /// A chunk leaves. The bag is calm no more, since the list to be handed out has it still.
+    /// A chunk leaves. The bag is calm no more.
     pub fn dismiss(&mut self, alloc: Global, c: ChunkPos)
-        requires { IsStrictlySortedBy chunk_cmp self.old.chunks }
-        ensures order { IsStrictlySortedBy chunk_cmp self.new.chunks }
-        ensures has { (q : ChunkPos) → is_recorded self.new.chunks q
-            ≡ (is_recorded self.old.chunks q && not (same_chunk c q)) }
+        requires { IsStrictlySortedBy chunk_cmp self.old.list }
+        ensures order { IsStrictlySortedBy chunk_cmp self.new.list }
+        ensures has { (q : ChunkPos) → is_recorded self.new.list q
+            ≡ (is_recorded self.old.list q && not (same_chunk c q)) }
         ensures rest { self.new ≡ record self.old {
           calm = false;
-          chunks = self.new.chunks;
+          chunks = self.new.list;
+          list = self.new.list;
         } }
     {
         self.calm = false;
-        match members::place_of(self.chunks.as_slice(), c) {
-            Ok(i) => members::remove(alloc, &mut self.chunks, i),
-            Err(_) => {}
-        }
+        members::narrow(alloc, &mut self.list, c);
+        self.chunks = Recalled::of(&self.list);
     }
 }
 

@@ -27,15 +27,6 @@ use fol_queues::Dated;
 use std::alloc::{AllocError, Global};
 use std::mem;
 
-/// What was taken from a bag that is to be settled.
-#[derive(Drop)]
-pub struct Reopened {
-    /// Its chunks as they were to be handed out when it was whole.
-    pub chunks: Vec<ChunkPos>,
-    /// Those on whose spots tasks may lie.
-    pub touched: Vec<ChunkPos>,
-}
-
 /// The lists of a bag that is listed, and into which what lies in the spots of its chunks has yet to go.
 #[derive(Drop)]
 pub struct Listing {
@@ -104,8 +95,7 @@ fn shut(alloc: Global, bags: &mut Bags, id: usize)
     slot.taken = false;
     slot.listed = false;
     slot.calm = false;
-    slot.chunks = Sequence::new(alloc);
-    slot.handed = Sequence::new(alloc);
+    slot.relist(Vec::new(alloc));
     slot.touched = Sequence::new(alloc);
     slot.since = Sequence::new(alloc);
 }
@@ -117,23 +107,23 @@ pub fn relist(bags: &mut Bags, id: usize, chunks: Vec<ChunkPos>)
         ≡ (if nat_eq id u then record (slot_in bags.old.items id) {
           listed = false;
           chunks = chunks.items;
+          list = chunks.items;
         } else slot_in bags.old.items u) }
     ensures len { length bags.new.items ≡ length bags.old.items }
     ensures free { bags.new.free ≡ bags.old.free }
 {
     let slot = bags.slot_mut(id);
     slot.listed = false;
-    slot.chunks = Sequence::of(chunks);
+    slot.relist(chunks);
 }
 
-/// Says that all that lies on the chunks of a bag lies in it, and gives it the list to be handed out.
-pub fn finish(alloc: Global, bags: &mut Bags, id: usize, handed: Vec<ChunkPos>)
+/// Says that all that lies on the chunks of a bag lies in it.
+pub fn finish(alloc: Global, bags: &mut Bags, id: usize)
     requires { is_open (slot_in bags.old.items id) ≡ true }
     ensures slots { (u : ℕ) → slot_in bags.new.items u
         ≡ (if nat_eq id u then record (slot_in bags.old.items id) {
           listed = true;
           calm = true;
-          handed = handed.items;
           touched = [];
         } else slot_in bags.old.items u) }
     ensures len { length bags.new.items ≡ length bags.old.items }
@@ -142,7 +132,6 @@ pub fn finish(alloc: Global, bags: &mut Bags, id: usize, handed: Vec<ChunkPos>)
     let slot = bags.slot_mut(id);
     slot.listed = true;
     slot.calm = true;
-    slot.handed = Sequence::of(handed);
     slot.touched = Sequence::new(alloc);
 }
 
@@ -154,6 +143,7 @@ pub fn list(bags: &mut Bags, id: usize, lists: Listing)
           listed = true;
           calm = false;
           chunks = lists.chunks.items;
+          list = lists.chunks.items;
           touched = lists.touched.items;
         } else slot_in bags.old.items u) }
     ensures len { length bags.new.items ≡ length bags.old.items }
@@ -163,7 +153,7 @@ pub fn list(bags: &mut Bags, id: usize, lists: Listing)
     let slot = bags.slot_mut(id);
     slot.listed = true;
     slot.calm = false;
-    slot.chunks = Sequence::of(chunks);
+    slot.relist(chunks);
     slot.touched = Sequence::of(touched);
 }
 
@@ -304,15 +294,13 @@ pub fn add(chunks: &mut Vec<ChunkPos>, c: ChunkPos) -> Result<(), AllocError>
     Ok(())
 }
 
-/// Takes the noted chunks of a bag, and its chunks as they are to be handed out. The bag has to be gathered anew, or finished.
-pub fn reopen(alloc: Global, bags: &mut Bags, id: usize) -> Reopened
+/// Takes the noted chunks of a bag, which has to be gathered anew, or finished.
+pub fn reopen(alloc: Global, bags: &mut Bags, id: usize) -> Vec<ChunkPos>
     requires { is_open (slot_in bags.old.items id) ≡ true }
-    ensures touched { result.touched.items ≡ (slot_in bags.old.items id).touched }
-    ensures handed { result.chunks.items ≡ (slot_in bags.old.items id).handed }
+    ensures touched { result.items ≡ (slot_in bags.old.items id).touched }
     ensures slots { (u : ℕ) → slot_in bags.new.items u
         ≡ (if nat_eq id u then record (slot_in bags.old.items id) {
           listed = false;
-          handed = [];
           touched = [];
         } else slot_in bags.old.items u) }
     ensures len { length bags.new.items ≡ length bags.old.items }
@@ -320,12 +308,7 @@ pub fn reopen(alloc: Global, bags: &mut Bags, id: usize) -> Reopened
 {
     let slot = bags.slot_mut(id);
     slot.listed = false;
-    let handed = mem::replace(&mut slot.handed, Sequence::new(alloc));
-    let touched = mem::replace(&mut slot.touched, Sequence::new(alloc));
-    Reopened {
-        chunks: handed.into_vec(),
-        touched: touched.into_vec(),
-    }
+    mem::replace(&mut slot.touched, Sequence::new(alloc)).into_vec()
 }
 
 /// Notes that a chunk of a listed bag may have come or left. If memory runs out, the bag has to be gathered anew.
@@ -383,23 +366,24 @@ pub fn is_ready(bags: &Bags, id: usize) -> bool
 /// A chunk comes to a listed bag, and is noted. The bag is calm no more; if memory runs out, it has to be gathered anew.
 pub fn admit(alloc: Global, bags: &mut Bags, id: usize, c: ChunkPos) -> Result<(), AllocError>
     requires open { is_open (slot_in bags.old.items id) ≡ true }
-    requires order { IsStrictlySortedBy chunk_cmp (slot_in bags.old.items id).chunks }
-    ensures order { OnOk result (IsStrictlySortedBy chunk_cmp (slot_in bags.new.items id).chunks) }
-    ensures has { OnOk result ((q : ChunkPos) → is_recorded (slot_in bags.new.items id).chunks q
-        ≡ (is_recorded (slot_in bags.old.items id).chunks q || same_chunk c q)) }
+    requires order { IsStrictlySortedBy chunk_cmp (slot_in bags.old.items id).list }
+    ensures order { OnOk result (IsStrictlySortedBy chunk_cmp (slot_in bags.new.items id).list) }
+    ensures has { OnOk result ((q : ChunkPos) → is_recorded (slot_in bags.new.items id).list q
+        ≡ (is_recorded (slot_in bags.old.items id).list q || same_chunk c q)) }
     ensures noted { OnOk result ((slot_in bags.new.items id).touched
         ≡ (slot_in bags.old.items id).touched ++ c ∷ []) }
     ensures listed { OnOk result ((slot_in bags.new.items id).listed
         ≡ (slot_in bags.old.items id).listed) }
-    ensures kept { (q : ChunkPos) → is_recorded (slot_in bags.old.items id).chunks q ≡ true
-        → is_recorded (slot_in bags.new.items id).chunks q ≡ true }
+    ensures kept { (q : ChunkPos) → is_recorded (slot_in bags.old.items id).list q ≡ true
+        → is_recorded (slot_in bags.new.items id).list q ≡ true }
     ensures unlisted { OnErr result ((slot_in bags.new.items id).listed ≡ false) }
     ensures slots { (u : ℕ) → slot_in bags.new.items u
         ≡ (if nat_eq id u
         then record (slot_in bags.old.items id) {
           listed = (slot_in bags.new.items id).listed;
           calm = false;
-          chunks = (slot_in bags.new.items id).chunks;
+          chunks = (slot_in bags.new.items id).list;
+          list = (slot_in bags.new.items id).list;
           touched = (slot_in bags.new.items id).touched;
         }
         else slot_in bags.old.items u) }
@@ -416,15 +400,16 @@ pub fn admit(alloc: Global, bags: &mut Bags, id: usize, c: ChunkPos) -> Result<(
 /// A chunk leaves a bag, which is calm no more.
 pub fn dismiss(alloc: Global, bags: &mut Bags, id: usize, c: ChunkPos)
     requires open { is_open (slot_in bags.old.items id) ≡ true }
-    requires order { IsStrictlySortedBy chunk_cmp (slot_in bags.old.items id).chunks }
-    ensures order { IsStrictlySortedBy chunk_cmp (slot_in bags.new.items id).chunks }
-    ensures has { (q : ChunkPos) → is_recorded (slot_in bags.new.items id).chunks q
-        ≡ (is_recorded (slot_in bags.old.items id).chunks q && not (same_chunk c q)) }
+    requires order { IsStrictlySortedBy chunk_cmp (slot_in bags.old.items id).list }
+    ensures order { IsStrictlySortedBy chunk_cmp (slot_in bags.new.items id).list }
+    ensures has { (q : ChunkPos) → is_recorded (slot_in bags.new.items id).list q
+        ≡ (is_recorded (slot_in bags.old.items id).list q && not (same_chunk c q)) }
     ensures slots { (u : ℕ) → slot_in bags.new.items u
         ≡ (if nat_eq id u
         then record (slot_in bags.old.items id) {
           calm = false;
-          chunks = (slot_in bags.new.items id).chunks;
+          chunks = (slot_in bags.new.items id).list;
+          list = (slot_in bags.new.items id).list;
         } else slot_in bags.old.items u) }
     ensures len { length bags.new.items ≡ length bags.old.items }
     ensures free { bags.new.free ≡ bags.old.free }
@@ -433,11 +418,11 @@ pub fn dismiss(alloc: Global, bags: &mut Bags, id: usize, c: ChunkPos)
     slot.dismiss(alloc, c);
 }
 
-/// Takes out what lies in a bag, and the chunks to be handed out with it.
+/// Takes out what lies in a bag, and its chunks.
 pub fn take_out(alloc: Global, bags: &mut Bags, id: usize) -> Taken
     requires { is_open (slot_in bags.old.items id) ≡ true }
     ensures body { result.body ≡ (slot_in bags.old.items id).body }
-    ensures handed { result.chunks.items ≡ (slot_in bags.old.items id).handed }
+    ensures list { result.chunks.items ≡ (slot_in bags.old.items id).list }
     ensures left { SameThings no_data (slot_in bags.new.items id).body }
     ensures tasks { (slot_in bags.new.items id).body.queues.tasks ≡ [] }
     ensures slots { (u : ℕ) → slot_in bags.new.items u
@@ -446,7 +431,7 @@ pub fn take_out(alloc: Global, bags: &mut Bags, id: usize) -> Taken
           body = (slot_in bags.new.items id).body;
           here = false;
           taken = true;
-          handed = [];
+          list = [];
         } else slot_in bags.old.items u) }
     ensures len { length bags.new.items ≡ length bags.old.items }
     ensures free { bags.new.free ≡ bags.old.free }
@@ -454,10 +439,10 @@ pub fn take_out(alloc: Global, bags: &mut Bags, id: usize) -> Taken
     let slot = bags.slot_mut(id);
     slot.here = false;
     slot.taken = true;
-    let handed = mem::replace(&mut slot.handed, Sequence::new(alloc));
+    let list = mem::replace(&mut slot.list, Sequence::new(alloc));
     let body = mem::replace(&mut slot.body, new_data(alloc, 0, 0));
     Taken {
-        chunks: handed.into_vec(),
+        chunks: list.into_vec(),
         body,
     }
 }
@@ -470,7 +455,7 @@ pub fn put_in(bags: &mut Bags, id: usize, chunks: Vec<ChunkPos>, body: RegionDat
           body = body;
           here = true;
           taken = false;
-          handed = chunks.items;
+          list = chunks.items;
         } else slot_in bags.old.items u) }
     ensures len { length bags.new.items ≡ length bags.old.items }
     ensures free { bags.new.free ≡ bags.old.free }
@@ -478,7 +463,7 @@ pub fn put_in(bags: &mut Bags, id: usize, chunks: Vec<ChunkPos>, body: RegionDat
     let slot = bags.slot_mut(id);
     slot.here = true;
     slot.taken = false;
-    slot.handed = Sequence::of(chunks);
+    slot.list = Sequence::of(chunks);
     slot.body = body;
 }
 
@@ -603,7 +588,7 @@ fn pour_out(
     result
 }
 
-/// Closes a bag, and moves what lies on its chunks into another one, which gets these lists and is whole; it gives the chunks that moved.
+/// Closes a bag, and moves what lies on its chunks into another one, which gets these chunks and is whole; it gives the chunks that moved.
 /// If memory runs out, nothing has moved, and the other bag has to be gathered anew.
 pub fn merge(
     alloc: Global,
@@ -611,9 +596,8 @@ pub fn merge(
     from: usize,
     into: usize,
     chunks: Vec<ChunkPos>,
-    handed: Vec<ChunkPos>,
 ) -> Result<Vec<ChunkPos>, AllocError>
-    requires order { IsStrictlySortedBy chunk_cmp (slot_in bags.old.items from).handed }
+    requires order { IsStrictlySortedBy chunk_cmp (slot_in bags.old.items from).list }
     requires from_open { is_open (slot_in bags.old.items from) ≡ true }
     requires into_open { is_open (slot_in bags.old.items into) ≡ true }
     requires differ { from ≢ into }
@@ -621,12 +605,12 @@ pub fn merge(
     requires into_timely { IsTimely (slot_in bags.old.items into).body }
     requires apart { AreApart (slot_in bags.old.items from).body
         (slot_in bags.old.items into).body }
-    ensures moved { IfOk result (λ list. list.items ≡ (slot_in bags.old.items from).handed) }
+    ensures moved { IfOk result (λ list. list.items ≡ (slot_in bags.old.items from).list) }
     ensures timely { IsTimely (slot_in bags.new.items from).body }
     ensures into_timely { IsTimely (slot_in bags.new.items into).body }
-    ensures loses { OnOk result (Loses (slot_in bags.old.items from).handed
+    ensures loses { OnOk result (Loses (slot_in bags.old.items from).list
         (slot_in bags.old.items from).body (slot_in bags.new.items from).body) }
-    ensures gains { OnOk result (Gains (slot_in bags.old.items from).handed
+    ensures gains { OnOk result (Gains (slot_in bags.old.items from).list
         (slot_in bags.old.items from).body (slot_in bags.old.items into).body
         (slot_in bags.new.items into).body) }
     ensures err { OnErr result (SameThings (slot_in bags.old.items from).body
@@ -642,7 +626,7 @@ pub fn merge(
           listed = true;
           calm = true;
           chunks = chunks.items;
-          handed = handed.items;
+          list = chunks.items;
           touched = [];
         }
         else slot_in bags.old.items u))) }
@@ -654,6 +638,7 @@ pub fn merge(
           body = (slot_in bags.new.items into).body;
           listed = false;
           chunks = chunks.items;
+          list = chunks.items;
         } else slot_in bags.old.items u))) }
     ensures len { length bags.new.items ≡ length bags.old.items }
     ensures free { bags.new.free ≡ bags.old.free }
@@ -661,23 +646,24 @@ pub fn merge(
     let moved = dissolve(alloc, bags, from);
     relist(bags, into, chunks);
     shift_bags(alloc, bags, from, &moved, into)?;
-    finish(alloc, bags, into, handed);
+    finish(alloc, bags, into);
     Ok(moved)
 }
 
-/// Closes a bag, and takes its chunks as they are to be handed out; what lies in it stays in it.
+/// Closes a bag, and takes its chunks; what lies in it stays in it.
 fn dissolve(alloc: Global, bags: &mut Bags, id: usize) -> Vec<ChunkPos>
     requires { is_open (slot_in bags.old.items id) ≡ true }
-    ensures handed { result.items ≡ (slot_in bags.old.items id).handed }
+    ensures list { result.items ≡ (slot_in bags.old.items id).list }
     ensures slots { (u : ℕ) → slot_in bags.new.items u
         ≡ (if nat_eq id u then record no_slot { body = (slot_in bags.old.items id).body }
         else slot_in bags.old.items u) }
     ensures len { length bags.new.items ≡ length bags.old.items }
     ensures free { bags.new.free ≡ bags.old.free }
 {
-    let Reopened { chunks, touched: _ } = reopen(alloc, bags, id);
+    let slot = bags.slot_mut(id);
+    let list = mem::replace(&mut slot.list, Sequence::new(alloc));
     shut(alloc, bags, id);
-    chunks
+    list.into_vec()
 }
 
 /// Two bags change what lies in them. The first has to be gathered anew.

@@ -1,13 +1,13 @@
 //! The tasks that came on the chunks of a listed bag go into it.
 
-ghost use Rattle.std.specs.Prelude.{◌≡◌, ◌≢◌, ◌≤◌, ◌<◌, [], true, false, ℕ, IfOk, OnOk, OnErr};
+ghost use Rattle.std.specs.Prelude.{◌≡◌, ◌≢◌, ◌≤◌, ◌<◌, [], true, false, ℕ, OnOk, OnErr};
 ghost use Rattle.fol_model.specs.ActionStep.{at_id};
 ghost use Rattle.fol_model.specs.declared.places.ChunkPos.{ChunkPos};
 ghost use Rattle.fol_chunks.specs.Contents.{is_recorded};
 ghost use Rattle.fol_store.specs.Gathered.{Touched};
 
 use crate::places::has_bag;
-use crate::slots::{self, Reopened};
+use crate::slots;
 use crate::store::Store;
 use fol_model::ChunkPos;
 use std::alloc::AllocError;
@@ -38,17 +38,6 @@ impl Store {
         self.draw_noted(id as usize)
     }
 
-    /// The chunks of a bag, in the memory of another list where there is room.
-    fn list_again(&self, id: usize, list: Vec<ChunkPos>) -> Result<Vec<ChunkPos>, AllocError>
-        requires { (bag_of self.now id).here ≡ true }
-        ensures { IfOk result (λ list. list.items ≡ (bag_of self.now id).chunks) }
-    {
-        let mut list = list;
-        list.clear();
-        list.extend_from_slice(self.chunks_of(id))?;
-        Ok(list)
-    }
-
     /// Moves what lies in the noted spots of a listed bag into it, where no task is to be handed out.
     fn draw_noted(&mut self, id: usize) -> Result<(), AllocError>
         requires here { (bag_of self.old id).here ≡ true }
@@ -61,47 +50,37 @@ impl Store {
             ≡ record (bag_of self.old id) { listed = false }) }
         ensures others { (u : ℕ) → u ≢ id → bag_of self.new u ≡ bag_of self.old u }
     {
-        let Reopened { chunks, touched } = self.reopen(id);
-        let chunks = match self.list_again(id, chunks) {
-            Ok(chunks) => chunks,
-            Err(_) => return Err(AllocError),
-        };
-        match self.draw_touched(id, &chunks, &touched) {
+        let touched = self.reopen(id);
+        match self.draw_touched(id, &touched) {
             Ok(()) => {}
             Err(_) => return Err(AllocError),
         }
-        self.finish(id, chunks);
+        self.finish(id);
         Ok(())
     }
 
-    /// Takes the lists of a listed bag, for which what came is to be drawn.
-    fn reopen(&mut self, id: usize) -> Reopened
+    /// Takes the noted chunks of a listed bag, for which what came is to be drawn.
+    fn reopen(&mut self, id: usize) -> Vec<ChunkPos>
         requires here { (bag_of self.old id).here ≡ true }
         requires listed { (bag_of self.old id).listed ≡ true }
         requires empty { self.old.arrivals ≡ [] }
         ensures same { SameMeaning self.old self.new }
         ensures bags { bag_of self.new
             ≡ at_id (bag_of self.old) id (record (bag_of self.old id) { listed = false }) }
-        ensures reopened { IsReopened id (bag_of self.old id).chunks result.touched.items
-            self.new }
+        ensures reopened { IsReopened id (bag_of self.new id).chunks result.items self.new }
     {
         slots::reopen(self.alloc, &mut self.bags, id)
     }
 
     /// Moves what lies in the spots of the noted chunks into their bag.
-    fn draw_touched(
-        &mut self,
-        id: usize,
-        chunks: &[ChunkPos],
-        touched: &[ChunkPos],
-    ) -> Result<(), AllocError>
-        requires { IsReopened id chunks.now touched.now self.old }
-        ensures draws { Draws id chunks.now self.old self.new }
-        ensures gathered { OnOk result ((q : ChunkPos) → is_recorded chunks.now q ≡ true
-            → IsGathered self.new id q) }
+    fn draw_touched(&mut self, id: usize, touched: &[ChunkPos]) -> Result<(), AllocError>
+        requires { IsReopened id (bag_of self.old id).chunks touched.now self.old }
+        ensures draws { Draws id (bag_of self.old id).chunks self.old self.new }
+        ensures gathered { OnOk result ((q : ChunkPos)
+            → is_recorded (bag_of self.old id).chunks q ≡ true → IsGathered self.new id q) }
     {
         for c in touched {
-            match self.draw_known(id, chunks, *c) {
+            match self.draw_known(id, *c) {
                 Ok(()) => {}
                 Err(_) => return Err(AllocError),
             }
@@ -110,15 +89,15 @@ impl Store {
     }
 
     /// Moves what lies in the spot of a chunk into a bag, if the bag has the chunk.
-    fn draw_known(&mut self, id: usize, chunks: &[ChunkPos], c: ChunkPos) -> Result<(), AllocError>
-        requires { IsTarget id chunks.now self.old }
-        ensures draws { Draws id chunks.now self.old self.new }
+    fn draw_known(&mut self, id: usize, c: ChunkPos) -> Result<(), AllocError>
+        requires { IsTarget id (bag_of self.old id).chunks self.old }
+        ensures draws { Draws id (bag_of self.old id).chunks self.old self.new }
         ensures places { self.new.places ≡ self.old.places }
         ensures gathered { OnOk result ((place self.old c).bag ≡ Some id
             → IsGathered self.new id c) }
     {
         if has_bag(self.places.at(c), id) {
-            self.draw_rest(id, chunks, c)
+            self.draw_rest(id, c)
         } else {
             Ok(())
         }

@@ -43,26 +43,21 @@ impl Store {
         ensures gathered { OnOk result (IsGathered self.new id c) }
     {
         match self.draw_home(id, chunks, c) {
-            Ok(()) => self.draw_rest(id, chunks, c),
+            Ok(()) => self.draw_rest(id, c),
             Err(_) => Err(AllocError),
         }
     }
 
     /// Moves what lies in the spot of a chunk into the bag that has the chunk.
-    pub(super) fn draw_rest(
-        &mut self,
-        id: usize,
-        chunks: &[ChunkPos],
-        c: ChunkPos,
-    ) -> Result<(), AllocError>
-        requires target { IsTarget id chunks.now self.old }
+    pub(super) fn draw_rest(&mut self, id: usize, c: ChunkPos) -> Result<(), AllocError>
+        requires target { IsTarget id (bag_of self.old id).chunks self.old }
         requires home { (place self.old c).bag ≡ Some id }
-        ensures draws { Draws id chunks.now self.old self.new }
+        ensures draws { Draws id (bag_of self.old id).chunks self.old self.new }
         ensures gathered { OnOk result (IsGathered self.new id c) }
         ensures places { self.new.places ≡ self.old.places }
     {
         match self.places.at(c).spot {
-            Some(i) => self.draw_spot(i, id, chunks, c),
+            Some(i) => self.draw_spot(i, id, c),
             None => Ok(()),
         }
     }
@@ -140,17 +135,11 @@ impl Store {
     }
 
     /// Moves what lies in the spot of a chunk into the bag that has the chunk.
-    fn draw_spot(
-        &mut self,
-        i: usize,
-        id: usize,
-        chunks: &[ChunkPos],
-        c: ChunkPos,
-    ) -> Result<(), AllocError>
-        requires target { IsTarget id chunks.now self.old }
+    fn draw_spot(&mut self, i: usize, id: usize, c: ChunkPos) -> Result<(), AllocError>
+        requires target { IsTarget id (bag_of self.old id).chunks self.old }
         requires spot { (place self.old c).spot ≡ Some i }
         requires home { (place self.old c).bag ≡ Some id }
-        ensures draws { Draws id chunks.now self.old self.new }
+        ensures draws { Draws id (bag_of self.old id).chunks self.old self.new }
         ensures gathered { OnOk result (IsGathered self.new id c) }
         ensures places { self.new.places ≡ self.old.places }
     {

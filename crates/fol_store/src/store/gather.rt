@@ -38,12 +38,8 @@ impl Store {
             Ok(list) => list,
             Err(_) => return Err(AllocError),
         };
-        let handed = match Vec::from_slice(self.alloc, chunks) {
-            Ok(list) => list,
-            Err(_) => return Err(AllocError),
-        };
         self.unsettle(id);
-        self.fill(id as usize, chunks, listed, handed)
+        self.fill(id as usize, chunks, listed)
     }
 
     /// Moves what lies on the chunks into a bag, and all else out of it.
@@ -52,7 +48,6 @@ impl Store {
         id: usize,
         chunks: &[ChunkPos],
         listed: Vec<ChunkPos>,
-        handed: Vec<ChunkPos>,
     ) -> Result<(), AllocError>
         requires here { (bag_of self.old id).here ≡ true }
         requires not_taken { (bag_of self.old id).taken ≡ false }
@@ -60,7 +55,6 @@ impl Store {
         requires order { IsStrictlySortedBy chunk_cmp chunks.now }
         requires free { AreFree (bag_of self.old) chunks.now }
         requires listed { listed.items ≡ chunks.now }
-        requires handed { handed.items ≡ chunks.now }
         ensures same { SameMeaning self.old self.new }
         ensures whole { OnOk result (bag_of self.new id
             ≡ record (bag_of self.old id) { listed = true; calm = true; chunks = chunks.now }) }
@@ -75,7 +69,7 @@ impl Store {
             Ok(()) => {}
             Err(_) => return Err(AllocError),
         }
-        self.finish(id, handed);
+        self.finish(id);
         Ok(())
     }
 
@@ -127,16 +121,15 @@ impl Store {
     }
 
     /// Says that a bag is whole, where all that lies on its chunks lies in it.
-    pub(super) fn finish(&mut self, id: usize, handed: Vec<ChunkPos>)
+    pub(super) fn finish(&mut self, id: usize)
         requires here { (bag_of self.old id).here ≡ true }
-        requires chunks { (bag_of self.old id).chunks ≡ handed.items }
-        requires gathered { (q : ChunkPos) → is_recorded handed.items q ≡ true
+        requires gathered { (q : ChunkPos) → is_recorded (bag_of self.old id).chunks q ≡ true
             → IsGathered self.old id q }
         ensures same { SameMeaning self.old self.new }
         ensures bags { bag_of self.new
             ≡ at_id (bag_of self.old) id
             (record (bag_of self.old id) { listed = true; calm = true }) }
     {
-        slots::finish(self.alloc, &mut self.bags, id, handed);
+        slots::finish(self.alloc, &mut self.bags, id);
     }
 }

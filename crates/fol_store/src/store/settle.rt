@@ -240,8 +240,8 @@ impl Store {
             → ⊥)) }
     {
         let list = ChunkList::of(chunks);
-        for k in 0..self.count_of(id) {
-            let c = self.chunk_of_bag(id, k);
+        for k in 0..self.chunks_of(id).len() {
+            let c = self.chunks_of(id)[k];
             if !list.has(c) {
                 match self.evict(id, c) {
                     Ok(()) => {}
@@ -251,29 +251,4 @@ impl Store {
         }
         Ok(())
     }
-
-    /// How many chunks a bag has.
-    fn count_of(&self, id: usize) -> usize
-        requires { (bag_of self.now id).here ≡ true }
-        ensures { result ≡ length (bag_of self.now id).chunks }
-    {
-        self.bags.slot(id).chunks.len()
-    }
-
-    /// One of the chunks of a bag.
-    fn chunk_of_bag(&self, id: usize, k: usize) -> ChunkPos
-        requires here { (bag_of self.now id).here ≡ true }
-        requires range { k < length (bag_of self.now id).chunks }
-        ensures { (d : ChunkPos) → result ≡ slice_index_or (bag_of self.now id).chunks k d }
-    {
-        chunk_at(self.bags.slot(id).chunks.as_slice(), k)
-    }
-}
-
-/// One of the chunks of a list.
-fn chunk_at(chunks: &[ChunkPos], k: usize) -> ChunkPos
-    requires { k < length chunks.now }
-    ensures { (d : ChunkPos) → result ≡ slice_index_or chunks.now k d }
-{
-    chunks[k]
 }

@@ -9,13 +9,6 @@ use crate::{members, slots};
 use fol_model::ChunkPos;
 use std::alloc::AllocError;
 
-/// The chunks of two bags: for one bag to keep, and to be handed out with it.
-#[derive(Drop)]
-struct Lists {
-    chunks: Vec<ChunkPos>,
-    handed: Vec<ChunkPos>,
-}
-
 impl Store {
     ghost use Rattle.fol_store.specs.Stock.{Stock, flat_of, jobs_of, bag_of, next_of};
     ghost use Rattle.fol_store.specs.Steps.{SameWorld};
@@ -60,8 +53,8 @@ impl Store {
     {
         let _bags = &self.bags;
         match self.prepare_both(from, into) {
-            Ok(lists) => {
-                self.pour(from as usize, into as usize, lists);
+            Ok(chunks) => {
+                self.pour(from as usize, into as usize, chunks);
                 self.release(from as usize);
             }
             Err(_) => self.dissolve(from, into),
@@ -83,7 +76,7 @@ impl Store {
     }
 
     /// Makes two listed bags whole, and lists the chunks of both.
-    fn prepare_both(&mut self, from: u64, into: u64) -> Result<Lists, AllocError>
+    fn prepare_both(&mut self, from: u64, into: u64) -> Result<Vec<ChunkPos>, AllocError>
         requires from { (bag_of self.old from).here ≡ true }
         requires into { (bag_of self.old into).here ≡ true }
         requires differ { from ≢ into }
@@ -95,10 +88,8 @@ impl Store {
             ≡ record (bag_of self.old from) { calm = true }) }
         ensures into { OnOk result (bag_of self.new into
             ≡ record (bag_of self.old into) { calm = true }) }
-        ensures chunks { IfOk result (λ lists.
-            IsUnion (bag_of self.old into).chunks (bag_of self.old from).chunks
-            lists.chunks.items) }
-        ensures handed { IfOk result (λ lists. lists.handed.items ≡ lists.chunks.items) }
+        ensures chunks { IfOk result (λ list.
+            IsUnion (bag_of self.old into).chunks (bag_of self.old from).chunks list.items) }
         ensures from_stays { Stays (bag_of self.old from) (bag_of self.new from) }
         ensures into_stays { Stays (bag_of self.old into) (bag_of self.new into) }
         ensures others { (u : ℕ) → u ≢ from → u ≢ into → bag_of self.new u ≡ bag_of self.old u }
@@ -133,7 +124,7 @@ impl Store {
     }
 
     /// The chunks of two listed bags, in order.
-    fn list_both(&self, from: usize, into: usize) -> Result<Lists, AllocError>
+    fn list_both(&self, from: usize, into: usize) -> Result<Vec<ChunkPos>, AllocError>
         requires from { (bag_of self.now from).here ≡ true }
         requires into { (bag_of self.now into).here ≡ true }
         requires differ { from ≢ into }
@@ -141,14 +132,10 @@ impl Store {
         requires into_listed { (bag_of self.now into).listed ≡ true }
         requires from_order { IsInOrder (bag_of self.now from) }
         requires into_order { IsInOrder (bag_of self.now into) }
-        ensures chunks { IfOk result (λ lists.
-            IsUnion (bag_of self.now into).chunks (bag_of self.now from).chunks
-            lists.chunks.items) }
-        ensures handed { IfOk result (λ lists. lists.handed.items ≡ lists.chunks.items) }
+        ensures { IfOk result (λ list.
+            IsUnion (bag_of self.now into).chunks (bag_of self.now from).chunks list.items) }
     {
-        let chunks = members::union(self.alloc, self.chunks_of(into), self.chunks_of(from))?;
-        let handed = Vec::from_slice(self.alloc, &chunks)?;
-        Ok(Lists { chunks, handed })
+        members::union(self.alloc, self.chunks_of(into), self.chunks_of(from))
     }
 
     /// The chunks of a bag.
@@ -156,12 +143,12 @@ impl Store {
         requires { (bag_of self.now id).here ≡ true }
         ensures { result.now ≡ (bag_of self.now id).chunks }
     {
-        self.bags.slot(id).chunks.as_slice()
+        self.bags.slot(id).list.as_slice()
     }
 
-    /// What lies on the chunks of a whole bag goes into another one, whose lists are those of both. If memory runs out, the other has to
+    /// What lies on the chunks of a whole bag goes into another one, whose chunks are those of both. If memory runs out, the other has to
     /// be gathered anew.
-    fn pour(&mut self, from: usize, into: usize, lists: Lists)
+    fn pour(&mut self, from: usize, into: usize, chunks: Vec<ChunkPos>)
         requires from { (bag_of self.old from).here ≡ true }
         requires into { (bag_of self.old into).here ≡ true }
         requires differ { from ≢ into }
@@ -169,13 +156,11 @@ impl Store {
         requires into_whole { is_whole (bag_of self.old into) ≡ true }
         requires from_order { IsInOrder (bag_of self.old from) }
         requires chunks { IsUnion (bag_of self.old into).chunks (bag_of self.old from).chunks
-            lists.chunks.items }
-        requires handed { lists.handed.items ≡ lists.chunks.items }
+            chunks.items }
         ensures joined { Joined from into (bag_of self.old) (bag_of self.new) }
         ensures same { SameWorld self.old self.new }
     {
-        let Lists { chunks, handed } = lists;
-        match slots::merge(self.alloc, &mut self.bags, from, into, chunks, handed) {
+        match slots::merge(self.alloc, &mut self.bags, from, into, chunks) {
             Ok(moved) => self.places.rehome(&moved, from, into),
             Err(_) => {}
         }

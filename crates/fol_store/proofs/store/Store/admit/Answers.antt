@@ -1,5 +1,9 @@
-use Rattle.std.proofs.Common.{◌≡◌, ◌-◌, true, false, refl, arith, vec_len}
+use Rattle.std.proofs.Common.{◌≡◌, ◌-◌, ◌||◌, true, false, refl, ◌∙◌, ap, arith, vec_len}
 use Rattle.std.specs.Vec.{vec_capacity}
+use Rattle.std.specs.List.Sorted.{IsStrictlySortedBy}
+use Rattle.fol_model.specs.Geometry.{same_chunk}
+use Rattle.fol_chunks.specs.Contents.{is_recorded}
+use Rattle.fol_chunks.specs.Order.{chunk_cmp}
 use Rattle.fol_store.specs.contracts.store.Store.{the_view}
 use Rattle.fol_store.specs.declared.slot.Slot.{Slot}
 use Rattle.fol_store.specs.Slots.{slot_in}
@@ -7,6 +11,7 @@ use Rattle.fol_store.specs.Stock.{slot, bag_of, place}
 use Rattle.fol_store.proofs.BagSteps.{here_range, here_open, first_open}
 use Rattle.fol_store.proofs.Coming.{Followed, came, unlisted, set_twice, wider}
 use Rattle.fol_store.proofs.Drawing.{with_parts}
+use Rattle.fol_store.proofs.Stepping.{listed_here}
 use Rattle.fol_store.proofs.store.Store.admit.Goals as goal
 
 pub admit-requires-clause-open : goal.admit-requires-clause-open
@@ -17,7 +22,10 @@ admit-requires-clause-open c =
 
 pub admit-requires-clause-order : goal.admit-requires-clause-order
 unfolding bag_of
-admit-requires-clause-order c = rw (← c.self.view_is) at c.requires.order
+admit-requires-clause-order c =
+    let here : (slot (the_view c.self.inside) c.args.id).here ≡ true = rw (← c.self.view_is) at c.requires.here in
+    let order : IsStrictlySortedBy chunk_cmp (slot (the_view c.self.inside) c.args.id).chunks = rw (← c.self.view_is) at c.requires.order in
+    rw (listed_here c.args.id (the_view c.self.inside) c.self.invariant here) order
 
 pub unlist-requires : goal.unlist-requires
 unfolding bag_of
@@ -30,28 +38,31 @@ with_chunk c =
     let listed : (slot (the_view c.self.inside) c.args.id).listed ≡ true = rw (← c.self.view_is) at c.requires.listed in
     let there : c.args.place ≡ place (the_view c.self.inside) c.args.c = rw (← c.self.view_is) at c.requires.there in
     let d : Slot = slot_in c.admit.new.bags.items c.args.id in
-    came (the_view c.self.inside) c.admit.new.bags.items c.set.new.self _ _ c.args.id c.args.c d.listed d.chunks d.touched
+    let same : (slot (the_view c.self.inside) c.args.id).list ≡ (slot (the_view c.self.inside) c.args.id).chunks = listed_here c.args.id (the_view c.self.inside) c.self.invariant here in
+    came (the_view c.self.inside) c.admit.new.bags.items c.set.new.self _ _ c.args.id c.args.c d.listed d.list d.touched
     c.admit.ensures.slots c.self.invariant (omega arith) (here_range c.self.inside.bags.items c.args.id here) here (omega arith) (omega (arith, c.admit.ensures.len, c.admit.ensures.free))
-    listed c.args.place there c.requires.none c.in-Ok-set.ensures.ok c.in-Ok.ensures.order c.in-Ok.ensures.has c.in-Ok.ensures.noted
+    listed c.args.place there c.requires.none c.in-Ok-set.ensures.ok c.in-Ok.ensures.order (λ q. c.in-Ok.ensures.has q ∙ ap (λ l. is_recorded l q || same_chunk c.args.c q) same) c.in-Ok.ensures.noted
 
 without_place : (c : goal.After-unlist) → Followed (the_view c.self.inside) (with_parts (the_view c.self.inside) c.self.inside.spots.items c.unlist.new.bags.items c.set.new.self (vec_capacity c.self.inside.arrivals - vec_len c.self.inside.arrivals) c.unlist.new.bags.free) c.args.id (wider (the_view c.self.inside) c.args.id c.args.c)
 unfolding bag_of
 without_place c =
     let here : (slot (the_view c.self.inside) c.args.id).here ≡ true = rw (← c.self.view_is) at c.requires.here in
     let d : Slot = slot_in c.admit.new.bags.items c.args.id in
-    unlisted (the_view c.self.inside) c.unlist.new.bags.items c.set.new.self _ _ c.args.id c.args.c false d.chunks d.touched
+    let same : (slot (the_view c.self.inside) c.args.id).list ≡ (slot (the_view c.self.inside) c.args.id).chunks = listed_here c.args.id (the_view c.self.inside) c.self.invariant here in
+    unlisted (the_view c.self.inside) c.unlist.new.bags.items c.set.new.self _ _ c.args.id c.args.c false d.list d.touched
     (set_twice c.args.id (slot (the_view c.self.inside)) (slot_in c.admit.new.bags.items) (slot_in c.unlist.new.bags.items) _ (λ (z : Slot). let y : Slot = record z { listed = false } in y) c.admit.ensures.slots c.unlist.ensures.slots)
     c.self.invariant (omega arith) (here_range c.self.inside.bags.items c.args.id here) here (omega arith) (omega (arith, c.admit.ensures.len, c.admit.ensures.free, c.unlist.ensures.len, c.unlist.ensures.free))
-    refl c.in-Err-set.ensures.err c.admit.ensures.kept
+    refl c.in-Err-set.ensures.err (λ q r. c.admit.ensures.kept q (ap (λ l. is_recorded l q) same ∙ r))
 
 without_room : (c : goal.In-Err) → Followed (the_view c.self.inside) (with_parts (the_view c.self.inside) c.self.inside.spots.items c.admit.new.bags.items c.self.inside.places (vec_capacity c.self.inside.arrivals - vec_len c.self.inside.arrivals) c.admit.new.bags.free) c.args.id (wider (the_view c.self.inside) c.args.id c.args.c)
 unfolding bag_of
 without_room c =
     let here : (slot (the_view c.self.inside) c.args.id).here ≡ true = rw (← c.self.view_is) at c.requires.here in
     let d : Slot = slot_in c.admit.new.bags.items c.args.id in
-    unlisted (the_view c.self.inside) c.admit.new.bags.items c.self.inside.places _ _ c.args.id c.args.c d.listed d.chunks d.touched
+    let same : (slot (the_view c.self.inside) c.args.id).list ≡ (slot (the_view c.self.inside) c.args.id).chunks = listed_here c.args.id (the_view c.self.inside) c.self.invariant here in
+    unlisted (the_view c.self.inside) c.admit.new.bags.items c.self.inside.places _ _ c.args.id c.args.c d.listed d.list d.touched
     c.admit.ensures.slots c.self.invariant (omega arith) (here_range c.self.inside.bags.items c.args.id here) here (omega arith) (omega (arith, c.admit.ensures.len, c.admit.ensures.free))
-    c.in-Err.ensures.unlisted (λ q. refl) c.admit.ensures.kept
+    c.in-Err.ensures.unlisted (λ q. refl) (λ q r. c.admit.ensures.kept q (ap (λ l. is_recorded l q) same ∙ r))
 
 pub invariant_of-self : goal.invariant_of-self
 invariant_of-self c = (with_chunk c).sound

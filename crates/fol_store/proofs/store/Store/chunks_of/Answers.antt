@@ -4,6 +4,7 @@ use Rattle.fol_store.specs.declared.slot.Slot.{Slot}
 use Rattle.fol_store.specs.Bag.{Bag}
 use Rattle.fol_store.specs.Stock.{slot, bag_of}
 use Rattle.fol_store.proofs.BagSteps.{here_open, bag_slot}
+use Rattle.fol_store.proofs.Stepping.{listed_here}
 use Rattle.fol_store.proofs.store.Store.chunks_of.Goals as goal
 
 pub slot-requires : goal.slot-requires
@@ -15,5 +16,5 @@ pub returns : goal.returns
 returns c =
     let h : (slot (the_view c.self.inside) c.args.id).here ≡ true = sym (ap (λ (b : Bag). b.here) (bag_slot (the_view c.self.inside) c.args.id)) ∙ (rw (← c.self.view_is) at c.requires) in
     let e : c.slot.result.now ≡ slot (the_view c.self.inside) c.args.id = c.slot.ensures in
-    let list : c.as_slice.result.now ≡ (bag_of (the_view c.self.inside) c.args.id).chunks = c.as_slice.ensures ∙ ap (λ (b : Slot). b.chunks) e ∙ sym (ap (λ (b : Bag). b.chunks) (bag_slot (the_view c.self.inside) c.args.id)) in
+    let list : c.as_slice.result.now ≡ (bag_of (the_view c.self.inside) c.args.id).chunks = c.as_slice.ensures ∙ ap (λ (b : Slot). b.list) e ∙ listed_here c.args.id (the_view c.self.inside) c.self.invariant h ∙ sym (ap (λ (b : Bag). b.chunks) (bag_slot (the_view c.self.inside) c.args.id)) in
     rw (← c.self.view_is) list

@@ -22,8 +22,8 @@ shift_to_bag-requires-clause-order c = (tt, tt)
 
 pub shift_to_bag-requires-clause-bag_open : goal.shift_to_bag-requires-clause-bag_open
 shift_to_bag-requires-clause-bag_open c =
-    let target : IsTarget c.args.id c.args.chunks.now (the_view c.self.inside) = rw (← c.self.view_is) at c.requires.target in
-    here_open c.self.inside.bags.items c.args.id (target_here c.args.id c.args.chunks.now (the_view c.self.inside) target)
+    let target : IsTarget c.args.id (bag_of (the_view c.self.inside) c.args.id).chunks (the_view c.self.inside) = rw (← c.self.view_is) at c.requires.target in
+    here_open c.self.inside.bags.items c.args.id (target_here c.args.id (bag_of (the_view c.self.inside) c.args.id).chunks (the_view c.self.inside) target)
 
 pub shift_to_bag-requires-clause-apart : goal.shift_to_bag-requires-clause-apart
 shift_to_bag-requires-clause-apart c = λ k x y p q.
@@ -36,7 +36,7 @@ after c = with_parts (the_view c.self.inside) c.shift_to_bag.new.spots.items c.s
 pair : (c : goal.After-shift_to_bag) → (slot_in c.shift_to_bag.new.bags.items c.args.id).body.tick ≡ (slot (the_view c.self.inside) c.args.id).body.tick → (slot_in c.shift_to_bag.new.bags.items c.args.id).body.owed ≡ (slot (the_view c.self.inside) c.args.id).body.owed
     → OnePair (the_view c.self.inside) c.shift_to_bag.new.spots.items c.shift_to_bag.new.bags.items c.self.inside.places (vec_capacity c.self.inside.arrivals - vec_len c.self.inside.arrivals) c.shift_to_bag.new.bags.free c.args.i c.args.id c.args.c (slot_in c.shift_to_bag.new.bags.items c.args.id).body (spot_in c.shift_to_bag.new.spots.items c.args.i)
 pair c tick owed =
-    let target : IsTarget c.args.id c.args.chunks.now (the_view c.self.inside) = rw (← c.self.view_is) at c.requires.target in
+    let target : IsTarget c.args.id (bag_of (the_view c.self.inside) c.args.id).chunks (the_view c.self.inside) = rw (← c.self.view_is) at c.requires.target in
     record {
       each_spot = c.shift_to_bag.ensures.spots;
       each_bag = c.shift_to_bag.ensures.slots;
@@ -50,22 +50,22 @@ pair c tick owed =
       more_slots = omega (arith, c.shift_to_bag.ensures.len, c.shift_to_bag.ensures.free);
       at_spot = rw (← c.self.view_is) at c.requires.spot;
       at_bag = rw (← c.self.view_is) at c.requires.home;
-      not_taken = here_not_taken c.args.id (the_view c.self.inside) c.self.invariant (target_here c.args.id c.args.chunks.now (the_view c.self.inside) target);
+      not_taken = here_not_taken c.args.id (the_view c.self.inside) c.self.invariant (target_here c.args.id (bag_of (the_view c.self.inside) c.args.id).chunks (the_view c.self.inside) target);
     }
 
-draws : (c : goal.After-shift_to_bag) → Spotted (the_view c.self.inside) (after c) → ((q : ChunkPos) → IsGathered (the_view c.self.inside) c.args.id q → IsGathered (after c) c.args.id q) → Drawn c.args.id c.args.chunks.now (the_view c.self.inside) (after c)
+draws : (c : goal.After-shift_to_bag) → Spotted (the_view c.self.inside) (after c) → ((q : ChunkPos) → IsGathered (the_view c.self.inside) c.args.id q → IsGathered (after c) c.args.id q) → Drawn c.args.id (bag_of (the_view c.self.inside) c.args.id).chunks (the_view c.self.inside) (after c)
 draws c spotted keeps = record {
   sound = spotted.sound;
   draws = record {
     same = spotted.same;
     arrivals = refl;
     own = ap (λ (f : ℕ → Bag). f c.args.id) spotted.bags;
-    others = others_same c.args.id c.args.chunks.now (bag_of (the_view c.self.inside)) (bag_of (after c)) spotted.bags;
+    others = others_same c.args.id (bag_of (the_view c.self.inside) c.args.id).chunks (bag_of (the_view c.self.inside)) (bag_of (after c)) spotted.bags;
     gathered = keeps;
   };
 }
 
-step : (c : goal.After-shift_to_bag) → Drawn c.args.id c.args.chunks.now (the_view c.self.inside) (after c)
+step : (c : goal.After-shift_to_bag) → Drawn c.args.id (bag_of (the_view c.self.inside) c.args.id).chunks (the_view c.self.inside) (after c)
 step c =
     elim (answer_cases c.shift_to_bag.result) [
       | inl w ↦
@@ -92,7 +92,7 @@ returns-clause-draws c = rw (← c.self.view_is) (step c).draws
 
 pub returns-clause-gathered : goal.returns-clause-gathered
 returns-clause-gathered c =
-    let target : IsTarget c.args.id c.args.chunks.now (the_view c.self.inside) = rw (← c.self.view_is) at c.requires.target in
+    let target : IsTarget c.args.id (bag_of (the_view c.self.inside) c.args.id).chunks (the_view c.self.inside) = rw (← c.self.view_is) at c.requires.target in
     elim (answer_cases c.shift_to_bag.result) [
       | inl w ↦
           let loses : Loses (c.args.c ∷ []) (spot_in c.self.inside.spots.items c.args.i) (spot_in c.shift_to_bag.new.spots.items c.args.i) = rw w.1 at c.shift_to_bag.ensures.loses in

@@ -3,18 +3,18 @@ use Rattle.std.proofs.lemmas.Bool.{cases_Bool, cases_eq}
 use Rattle.fol_model.specs.declared.places.ChunkPos.{ChunkPos}
 use Rattle.fol_chunks.specs.Contents.{is_recorded}
 use Rattle.fol_store.specs.Places.{PlaceRows, place_at}
-use Rattle.fol_store.specs.Stock.{place}
+use Rattle.fol_store.specs.Stock.{place, bag_of}
 use Rattle.fol_store.specs.Steps.{IsGathered}
 use Rattle.fol_store.proofs.BagSteps.{get_or-any}
-use Rattle.fol_store.proofs.Stepping.{draws_trans, target_kept, recorded_index}
+use Rattle.fol_store.proofs.Stepping.{target_own, draws_own, recorded_index}
 use Rattle.fol_store.proofs.store.Store.draw_touched.Goals as goal
 
 pub draw_known-requires : goal.draw_known-requires
-draw_known-requires c = target_kept c.args.id c.args.chunks.now c.args.self.now c.loop-c.self c.requires.target c.loop-c.invariant.draws
+draw_known-requires c = target_own c.args.id (bag_of c.args.self.now c.args.id).chunks c.args.self.now c.loop-c.self c.requires.target c.loop-c.invariant.draws
 
 pub loop-c-preserved : goal.loop-c-preserved
 loop-c-preserved c = record {
-  draws = draws_trans c.args.id c.args.chunks.now c.args.self.now c.loop-c.self c.draw_known.new.self c.loop-c.invariant.draws c.draw_known.ensures.draws;
+  draws = draws_own c.args.id (bag_of c.args.self.now c.args.id).chunks c.args.self.now c.loop-c.self c.draw_known.new.self c.requires.target c.loop-c.invariant.draws c.draw_known.ensures.draws;
   places = c.draw_known.ensures.places ∙ c.loop-c.invariant.places;
   drawn = λ k d l h.
       elim (cases_eq c.loop-c.c-index k) [

@@ -14,7 +14,7 @@ use Rattle.fol_store.proofs.Coming.{Followed, set_twice}
 use Rattle.fol_store.proofs.Drawing.{with_parts, loses_none, gains_none}
 use Rattle.fol_store.proofs.Leaving.{left_one, narrower}
 use Rattle.fol_store.proofs.Spotting.{Spotted, from_spot}
-use Rattle.fol_store.proofs.Stepping.{here_not_taken}
+use Rattle.fol_store.proofs.Stepping.{here_not_taken, listed_here}
 use Rattle.fol_store.proofs.BagSteps.{here_open, first_open}
 use Rattle.fol_store.proofs.store.Store.expel_to.Goals as goal
 
@@ -40,20 +40,22 @@ unfolding bag_of
 dismiss-requires-clause-order c =
     let order : IsStrictlySortedBy chunk_cmp (slot (the_view c.self.inside) c.args.id).chunks = rw (← c.self.view_is) at c.requires.order in
     let mine : slot_in c.shift_from_bag.new.bags.items c.args.id ≡ record (slot (the_view c.self.inside) c.args.id) { body = (slot_in c.shift_from_bag.new.bags.items c.args.id).body } = c.shift_from_bag.ensures.slots c.args.id ∙ rw (nat_self c.args.id) refl in
+    let here : (slot (the_view c.self.inside) c.args.id).here ≡ true = rw (← c.self.view_is) at c.requires.here in
     let P : List ChunkPos → Type 0 = λ xs. IsStrictlySortedBy chunk_cmp xs in
-    subst P (sym (ap (λ (z : Slot). z.chunks) mine)) order
+    subst P (sym (ap (λ (z : Slot). z.list) mine ∙ listed_here c.args.id (the_view c.self.inside) c.self.invariant here)) order
 
 moved : (c : goal.After-dismiss) → Followed (the_view c.self.inside) (with_parts (the_view c.self.inside) c.shift_from_bag.new.spots.items c.dismiss.new.bags.items c.unname.new.self (vec_capacity c.self.inside.arrivals - vec_len c.self.inside.arrivals) c.dismiss.new.bags.free) c.args.id (narrower (the_view c.self.inside) c.args.id c.args.c)
 unfolding bag_of
 moved c =
     let s : Stock = the_view c.self.inside in
+    let here : (slot s c.args.id).here ≡ true = rw (← c.self.view_is) at c.requires.here in
     let between : Slot = slot_in c.shift_from_bag.new.bags.items c.args.id in
     let d : Slot = slot_in c.dismiss.new.bags.items c.args.id in
     let mine : between ≡ record (slot s c.args.id) { body = between.body } = c.shift_from_bag.ensures.slots c.args.id ∙ rw (nat_self c.args.id) refl in
-    left_one s c.shift_from_bag.new.spots.items c.dismiss.new.bags.items c.unname.new.self _ _ c.args.i c.args.id c.args.c between.body (spot_in c.shift_from_bag.new.spots.items c.args.i) d.chunks
+    left_one s c.shift_from_bag.new.spots.items c.dismiss.new.bags.items c.unname.new.self _ _ c.args.i c.args.id c.args.c between.body (spot_in c.shift_from_bag.new.spots.items c.args.i) d.list
     (record {
       each_spot = c.shift_from_bag.ensures.spots;
-      each_bag = set_twice c.args.id (slot s) (slot_in c.shift_from_bag.new.bags.items) (slot_in c.dismiss.new.bags.items) _ (λ (z : Slot). let y : Slot = record z { calm = false; chunks = d.chunks } in y) c.shift_from_bag.ensures.slots c.dismiss.ensures.slots;
+      each_bag = set_twice c.args.id (slot s) (slot_in c.shift_from_bag.new.bags.items) (slot_in c.dismiss.new.bags.items) _ (λ (z : Slot). let y : Slot = record z { calm = false; chunks = d.list; list = d.list } in y) c.shift_from_bag.ensures.slots c.dismiss.ensures.slots;
       spots_long = omega arith;
       bags_long = omega arith;
       timely = c.shift_from_bag.ensures.timely;
@@ -63,12 +65,12 @@ moved c =
       at_spot = rw (← c.self.view_is) at c.requires.spot;
       at_bag = rw (← c.self.view_is) at c.requires.home;
       homes = c.unname.ensures;
-      here = rw (← c.self.view_is) at c.requires.here;
+      here = here;
       listed = rw (← c.self.view_is) at c.requires.listed;
       loses = c.in_ok-shift_from_bag.ensures.loses;
       gains = c.in_ok-shift_from_bag.ensures.gains;
       order = c.dismiss.ensures.order;
-      has = λ q. c.dismiss.ensures.has q ∙ ap (λ (z : Slot). is_recorded z.chunks q && not (same_chunk c.args.c q)) mine;
+      has = λ q. c.dismiss.ensures.has q ∙ ap (λ l. is_recorded l q && not (same_chunk c.args.c q)) (ap (λ (z : Slot). z.list) mine ∙ listed_here c.args.id s c.self.invariant here);
     })
     c.self.invariant
 

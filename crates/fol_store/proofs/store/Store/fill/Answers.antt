@@ -1,4 +1,5 @@
 use Rattle.std.proofs.Common.{ℕ, true, sym, ◌∙◌, ap}
+use Rattle.fol_chunks.specs.Contents.{is_recorded}
 use Rattle.fol_store.specs.Bag.{Bag}
 use Rattle.fol_store.specs.Stock.{bag_of}
 use Rattle.fol_store.proofs.Stepping.{others_same, others_trans}
@@ -29,10 +30,10 @@ finish-requires-clause-here c =
     let own = own_at c.args.id c.args.chunks.now (bag_of c.args.self.now) (bag_of c.prepare.new.self) _ c.in-Ok.ensures.ok in
     ap (λ (b : Bag). b.here) (c.draw_all.ensures.draws.own ∙ own) ∙ c.requires.here
 
-pub finish-requires-clause-chunks : goal.finish-requires-clause-chunks
-finish-requires-clause-chunks c =
+pub finish-requires-clause-gathered : goal.finish-requires-clause-gathered
+finish-requires-clause-gathered c = λ q r.
     let own = own_at c.args.id c.args.chunks.now (bag_of c.args.self.now) (bag_of c.prepare.new.self) _ c.in-Ok.ensures.ok in
-    ap (λ (b : Bag). b.chunks) (c.draw_all.ensures.draws.own ∙ own) ∙ sym c.requires.handed
+    c.in-Ok-draw_all.ensures.gathered q (sym (ap (λ (b : Bag). is_recorded b.chunks q) (c.draw_all.ensures.draws.own ∙ own)) ∙ r)
 
 pub returns-clause-whole : goal.returns-clause-whole
 returns-clause-whole c =

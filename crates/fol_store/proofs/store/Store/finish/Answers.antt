@@ -1,4 +1,4 @@
-use Rattle.std.proofs.Common.{◌≡◌, ◌-◌, true, sym, ◌∙◌, ap, arith, vec_len}
+use Rattle.std.proofs.Common.{◌≡◌, ◌-◌, true, [], sym, ◌∙◌, ap, arith, vec_len}
 use Rattle.std.specs.Vec.{vec_capacity}
 use Rattle.fol_model.specs.declared.places.ChunkPos.{ChunkPos}
 use Rattle.fol_chunks.specs.Contents.{is_recorded}
@@ -19,10 +19,9 @@ step : (c : goal.After-finish) → Settled (the_view c.self.inside) (with_bags (
 unfolding bag_of
 step c =
     let here : (slot (the_view c.self.inside) c.args.id).here ≡ true = rw (← c.self.view_is) at c.requires.here in
-    let chunks : (slot (the_view c.self.inside) c.args.id).chunks ≡ c.args.handed.items = rw (← c.self.view_is) at c.requires.chunks in
-    let gathered : (q : ChunkPos) → is_recorded c.args.handed.items q ≡ true → IsGathered (the_view c.self.inside) c.args.id q = rw (← c.self.view_is) at c.requires.gathered in
-    now_whole (the_view c.self.inside) c.finish.new.bags.items _ _ c.args.id c.args.handed.items c.finish.ensures.slots here (sym chunks)
-    (λ q r. gathered q (sym (ap (λ l. is_recorded l q) chunks) ∙ r)) (omega arith) (omega arith) (omega (arith, c.finish.ensures.len, c.finish.ensures.free)) c.self.invariant
+    let gathered : (q : ChunkPos) → is_recorded (slot (the_view c.self.inside) c.args.id).chunks q ≡ true → IsGathered (the_view c.self.inside) c.args.id q = rw (← c.self.view_is) at c.requires.gathered in
+    now_whole (the_view c.self.inside) c.finish.new.bags.items _ _ c.args.id [] c.finish.ensures.slots here
+    gathered (omega arith) (omega arith) (omega (arith, c.finish.ensures.len, c.finish.ensures.free)) c.self.invariant
 
 pub invariant_of-self : goal.invariant_of-self
 invariant_of-self c = (step c).sound

@@ -38,7 +38,7 @@ moved c =
       pours = record {
         each = shift_and_list s c.args.from c.args.to (let b : Slot = record (slot s c.args.from) { body = (slot s c.args.to).body; listed = false } in b) (let b : Slot = record (slot s c.args.to) { body = (slot s c.args.from).body } in b)
             (slot_in c.swap_bodies.new.bags.items) (slot_in c.list.new.bags.items)
-            (λ (x : Slot). let b : Slot = record x { listed = true; calm = false; chunks = c.args.lists.chunks.items; touched = c.args.lists.touched.items } in b)
+            (λ (x : Slot). let b : Slot = record x { listed = true; calm = false; chunks = c.args.lists.chunks.items; list = c.args.lists.chunks.items; touched = c.args.lists.touched.items } in b)
             c.requires.differ c.swap_bodies.ensures.slots c.list.ensures.slots;
         loses = swap_loses s c.args.from c.args.to c.args.lists.chunks.items c.self.invariant p n all;
         gains = swap_gains s c.args.from c.args.to c.args.lists.chunks.items c.self.invariant p n all;

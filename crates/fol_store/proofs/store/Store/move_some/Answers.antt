@@ -42,7 +42,7 @@ moved c =
         each = shift_and_list s c.args.from c.args.to (let b : Slot = record (slot s c.args.from) { body = (slot_in c.shift_bags.new.bags.items c.args.from).body; listed = false } in b)
             (let b : Slot = record (slot s c.args.to) { body = (slot_in c.shift_bags.new.bags.items c.args.to).body } in b)
             (slot_in c.shift_bags.new.bags.items) (slot_in c.list.new.bags.items)
-            (λ (x : Slot). let b : Slot = record x { listed = true; calm = false; chunks = c.args.lists.chunks.items; touched = c.args.lists.touched.items } in b)
+            (λ (x : Slot). let b : Slot = record x { listed = true; calm = false; chunks = c.args.lists.chunks.items; list = c.args.lists.chunks.items; touched = c.args.lists.touched.items } in b)
             c.requires.differ c.shift_bags.ensures.slots c.list.ensures.slots;
         loses = rw c.deref.ensures.value at c.in-Ok.ensures.loses;
         gains = rw c.deref.ensures.value at c.in-Ok.ensures.gains;

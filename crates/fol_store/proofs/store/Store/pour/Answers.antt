@@ -10,7 +10,8 @@ use Rattle.fol_store.specs.Slots.{slot_in}
 use Rattle.fol_store.specs.Stock.{slot, place, in_bag, bag_of}
 use Rattle.fol_store.proofs.BagSteps.{here_range, here_open}
 use Rattle.fol_store.proofs.Drawing.{with_parts, loses_none, gains_none}
-use Rattle.fol_store.proofs.Joining.{Merged, both_whole, handed_listed, merged_bags}
+use Rattle.fol_store.proofs.Joining.{Merged, both_whole, merged_bags}
+use Rattle.fol_store.proofs.Stepping.{listed_here}
 use Rattle.fol_store.proofs.store.Store.pour.Goals as goal
 
 pub merge-requires-clause-order : goal.merge-requires-clause-order
@@ -18,7 +19,7 @@ unfolding bag_of
 merge-requires-clause-order c =
     let k = both_whole _ _ _ _ _ c.self.view_is c.requires.from c.requires.into c.requires.from_whole c.requires.into_whole c.requires.chunks in
     let order : IsStrictlySortedBy chunk_cmp (slot (the_view c.self.inside) c.args.from).chunks = (rw (← c.self.view_is) at c.requires.from_order) k.listed in
-    rw (handed_listed (the_view c.self.inside) c.args.from c.self.invariant k.here k.listed k.calm) order
+    rw (listed_here c.args.from (the_view c.self.inside) c.self.invariant k.here) order
 
 pub merge-requires-clause-from_open : goal.merge-requires-clause-from_open
 merge-requires-clause-from_open c =
@@ -38,9 +39,9 @@ merge-requires-clause-apart c = λ k x y p q.
 moved : (c : goal.After-drop-moved) → Merged c.args.from c.args.into (the_view c.self.inside) (with_parts (the_view c.self.inside) c.self.inside.spots.items c.merge.new.bags.items c.rehome.new.self (vec_capacity c.self.inside.arrivals - vec_len c.self.inside.arrivals) c.merge.new.bags.free)
 moved c =
     let k = both_whole _ _ _ _ _ c.self.view_is c.requires.from c.requires.into c.requires.from_whole c.requires.into_whole c.requires.chunks in
-    let all : (slot (the_view c.self.inside) c.args.from).handed ≡ (slot (the_view c.self.inside) c.args.from).chunks = handed_listed (the_view c.self.inside) c.args.from c.self.invariant k.here k.listed k.calm in
-    merged_bags (the_view c.self.inside) c.merge.new.bags.items c.rehome.new.self _ _ c.args.from c.args.into (slot (the_view c.self.inside) c.args.from).handed
-    (slot_in c.merge.new.bags.items c.args.from).body (slot_in c.merge.new.bags.items c.args.into).body true true c.args.lists.chunks.items c.args.lists.handed.items []
+    let all : (slot (the_view c.self.inside) c.args.from).list ≡ (slot (the_view c.self.inside) c.args.from).chunks = listed_here c.args.from (the_view c.self.inside) c.self.invariant k.here in
+    merged_bags (the_view c.self.inside) c.merge.new.bags.items c.rehome.new.self _ _ c.args.from c.args.into (slot (the_view c.self.inside) c.args.from).list
+    (slot_in c.merge.new.bags.items c.args.from).body (slot_in c.merge.new.bags.items c.args.into).body true true c.args.chunks.items []
     (record {
       pours = record {
         each = c.in-Ok.ensures.slots;
@@ -56,7 +57,6 @@ moved c =
       both = k;
       mine = λ q r. ap (λ (l : List ChunkPos). is_recorded l q) (sym all) ∙ r;
       all = λ o. all;
-      twice = λ o. c.requires.handed;
       none_noted = λ o. refl;
       more_spare = omega arith;
       more_slots = omega (arith, c.merge.ensures.len, c.merge.ensures.free);
@@ -67,7 +67,7 @@ stayed : (c : goal.In-Err) → Merged c.args.from c.args.into (the_view c.self.i
 stayed c =
     let k = both_whole _ _ _ _ _ c.self.view_is c.requires.from c.requires.into c.requires.from_whole c.requires.into_whole c.requires.chunks in
     merged_bags (the_view c.self.inside) c.merge.new.bags.items c.self.inside.places _ _ c.args.from c.args.into []
-    (slot_in c.merge.new.bags.items c.args.from).body (slot_in c.merge.new.bags.items c.args.into).body false (slot (the_view c.self.inside) c.args.into).calm c.args.lists.chunks.items (slot (the_view c.self.inside) c.args.into).handed (slot (the_view c.self.inside) c.args.into).touched
+    (slot_in c.merge.new.bags.items c.args.from).body (slot_in c.merge.new.bags.items c.args.into).body false (slot (the_view c.self.inside) c.args.into).calm c.args.chunks.items (slot (the_view c.self.inside) c.args.into).touched
     (record {
       pours = record {
         each = c.in-Err.ensures.slots_err;
@@ -83,7 +83,6 @@ stayed c =
       both = k;
       mine = λ q r. (let z : false ≡ true = r in cc);
       all = λ o. (let z : false ≡ true = o in cc);
-      twice = λ o. (let z : false ≡ true = o in cc);
       none_noted = λ o. (let z : false ≡ true = o in cc);
       more_spare = omega arith;
       more_slots = omega (arith, c.merge.ensures.len, c.merge.ensures.free);

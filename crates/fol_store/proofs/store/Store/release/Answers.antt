@@ -6,6 +6,9 @@ use Rattle.fol_store.proofs.BagSteps.{with_bags}
 use Rattle.fol_store.proofs.Releasing.{Released, released}
 use Rattle.fol_store.proofs.store.Store.release.Goals as goal
 
+pub release-requires-clause-list : goal.release-requires-clause-list
+release-requires-clause-list c = (c.self.invariant.bags c.args.id).list
+
 step : (c : goal.After-release) → Released (the_view c.self.inside) (with_bags (the_view c.self.inside) c.release.new.self.items (vec_capacity c.self.inside.arrivals - vec_len c.self.inside.arrivals) c.release.new.self.free)
 step c =
     let long : length c.release.new.self.items ≡ length c.self.inside.bags.items = c.release.ensures.len in

@@ -1,9 +1,10 @@
 use Rattle.std.proofs.Common.{◌≡◌, ◌-◌, [], true, false, sym, ◌∙◌, ap, arith, vec_len}
 use Rattle.std.specs.Vec.{vec_capacity}
 use Rattle.fol_store.specs.contracts.store.Store.{the_view}
+use Rattle.fol_store.specs.declared.slot.Slot.{Slot}
 use Rattle.fol_store.specs.Bag.{Bag}
 use Rattle.fol_store.specs.Stock.{Stock, slot, bag_of}
-use Rattle.fol_store.proofs.BagSteps.{with_bags, here_open, bag_slot}
+use Rattle.fol_store.proofs.BagSteps.{with_bags, here_open, bag_slot, slot_here}
 use Rattle.fol_store.proofs.Settling.{Settled}
 use Rattle.fol_store.proofs.Noting.{reopened_step, reopened_is}
 use Rattle.fol_store.proofs.store.Store.reopen.Goals as goal
@@ -41,4 +42,6 @@ pub returns-clause-reopened : goal.returns-clause-reopened
 unfolding bag_of
 returns-clause-reopened c =
     let none : (the_view c.self.inside).arrivals ≡ [] = rw (← c.self.view_is) at c.requires.empty in
-    rw (← c.self.view_is, c.reopen.ensures.touched) (reopened_is (the_view c.self.inside) c.reopen.new.bags.items _ _ c.args.id c.reopen.ensures.slots (here c) (listed c) c.self.invariant none)
+    let chunks : (slot (after c) c.args.id).chunks ≡ (slot (the_view c.self.inside) c.args.id).chunks =
+    ap (λ (b : Slot). b.chunks) (slot_here (the_view c.self.inside) c.reopen.new.bags.items (vec_capacity c.self.inside.arrivals - vec_len c.self.inside.arrivals) c.reopen.new.bags.free c.args.id _ c.reopen.ensures.slots) in
+    rw (c.reopen.ensures.touched, chunks) (reopened_is (the_view c.self.inside) c.reopen.new.bags.items _ _ c.args.id c.reopen.ensures.slots (here c) (listed c) c.self.invariant none)

@@ -11,6 +11,7 @@ use Rattle.fol_store.specs.Stock.{slot, shown, next_of, bag_of, due_of}
 use Rattle.fol_store.proofs.Totals.{things_none}
 use Rattle.fol_store.proofs.BagSteps.{here_open, bag_slot, bags_shown}
 use Rattle.fol_store.proofs.Opening.{timely_empty}
+use Rattle.fol_store.proofs.Stepping.{listed_here}
 use Rattle.fol_store.proofs.Taking.{emptied, taken_sound, taken_contents, taken_tasks, body_contents, body_tasks}
 use Rattle.fol_store.proofs.store.Store.take.Goals as goal
 
@@ -47,8 +48,7 @@ invariant_of-self c =
 
 pub returns-clause-chunks : goal.returns-clause-chunks
 returns-clause-chunks c =
-    let both : ((slot (the_view c.self.inside) c.args.id).here && (slot (the_view c.self.inside) c.args.id).listed) ≡ true = rw (here c, listed c) refl in
-    rw (← c.self.view_is) (c.take_out.ensures.handed ∙ (c.self.invariant.bags c.args.id).handed both (calm c) ∙ sym (ap (λ (b : Bag). b.chunks) (bag_slot (the_view c.self.inside) c.args.id)))
+    rw (← c.self.view_is) (c.take_out.ensures.list ∙ listed_here c.args.id (the_view c.self.inside) c.self.invariant (here c) ∙ sym (ap (λ (b : Bag). b.chunks) (bag_slot (the_view c.self.inside) c.args.id)))
 
 pub returns-clause-tick : goal.returns-clause-tick
 returns-clause-tick c =
