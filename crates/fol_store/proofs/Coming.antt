@@ -1,6 +1,6 @@
 -- A listed bag gets a chunk that no bag has.
 use Rattle.std.proofs.Common.{◌≡◌, ◌≢◌, ℕ, ◌<◌, ◌≤◌, Bool, true, false, ◌||◌, ◌&&◌, List, [], ◌∷◌, ◌++◌, length, refl, sym, ◌∙◌, ap, subst, ◌⊎◌, inl, inr, arith, Some, None}
-use Rattle.std.specs.Prelude.{nat_eq, if◌then◌else◌}
+use Rattle.std.specs.Prelude.{nat_eq, if◌then◌else◌, IsTrue}
 use Rattle.std.specs.List.Sorted.{IsStrictlySortedBy}
 use Rattle.std.proofs.lemmas.Bool.{cases_Bool, cases_eq}
 use Rattle.fol_model.specs.declared.places.ChunkPos.{ChunkPos}
@@ -13,14 +13,15 @@ use Rattle.fol_store.specs.declared.slot.Slot.{Slot}
 use Rattle.fol_store.specs.declared.places.Place.{Place}
 use Rattle.fol_store.specs.Places.{PlaceRows}
 use Rattle.fol_store.specs.Relisted.{Relisted}
-use Rattle.fol_store.specs.Things.{Key, Thing, chunk_at, IsTimely}
-use Rattle.fol_store.specs.Stock.{Stock, Where, arriving, in_spot, in_bag, slot, place, column, bag_of, shown}
+use Rattle.fol_store.specs.Things.{Key, Thing, things, chunk_at, IsTimely}
+use Rattle.fol_store.specs.Stock.{Stock, Where, arriving, in_spot, in_bag, slot, spot, place, column, bag_of, shown}
 use Rattle.fol_store.specs.Sound.{Allows, Near, IsBag, IsSound}
 use Rattle.fol_store.specs.Steps.{SameMeaning}
 use Rattle.fol_store.proofs.Resound.{SameColumns, same_unique, same_found, same_bag, kept_self}
 use Rattle.fol_store.proofs.BagSteps.{slot_here, slot_other, one_columns}
 use Rattle.fol_store.proofs.Drawing.{with_parts}
 use Rattle.fol_store.proofs.Noting.{recorded_front, recorded_last}
+use Rattle.fol_store.proofs.Spotting.{none_arrives}
 use Rattle.fol_store.proofs.Stepping.{here_not_taken}
 
 -- the bag of a region has other chunks, and nothing else that contracts see has changed
@@ -56,12 +57,46 @@ set_twice id f g h a m e k u = k u ∙ pick (nat_eq id u) (e u)
     pick true r = ap m here
     pick false r = r
 
-module _ (s : Stock) (bags : List Slot) (places : PlaceRows) (spare slots id : ℕ) (c : ChunkPos) (listed : Bool) (chunks touched : List ChunkPos) where
+module _ (s : Stock) (bags : List Slot) (places : PlaceRows) (spare slots id : ℕ) (c : ChunkPos) (listed calm : Bool) (chunks touched : List ChunkPos) where
   abbrev t : Stock
   t = with_parts s s.spots bags places spare slots
 
   abbrev d : Slot
-  d = record (slot s id) { listed = listed; calm = false; chunks = chunks; list = chunks; touched = touched }
+  d = record (slot s id) { listed = listed; calm = calm; chunks = chunks; list = chunks; touched = touched }
+
+  -- what lies on the chunk that comes, and on those that were there, is noted, unless nothing waits
+  pub record Expects : Type 0 where
+    pub calmer : calm ≡ true → (slot s id).calm ≡ true
+    pub none_noted : calm ≡ true → (slot s id).touched ≡ [] → touched ≡ []
+    pub none_waits : (k : Key) (x : Thing k) → column s k arriving ≡ Some x → calm ≡ true → ⊥
+    pub noted_stay : (q : ChunkPos) → is_recorded (slot s id).touched q ≡ true → is_recorded touched q ≡ true
+    pub spot_noted : (k : Key) (i : ℕ) (x : Thing k) → column s k (in_spot i) ≡ Some x → c ≡ chunk_at k x → is_recorded touched (chunk_at k x) ≡ true
+
+  -- the chunk is noted
+  expects_noted : calm ≡ false → touched ≡ (slot s id).touched ++ c ∷ [] → Expects
+  expects_noted stirred noted = record {
+    calmer = λ o. no (sym stirred ∙ o);
+    none_noted = λ o e. no (sym stirred ∙ o);
+    none_waits = λ k x q o. no (sym stirred ∙ o);
+    noted_stay = λ q r. rw noted (recorded_front (slot s id).touched (c ∷ []) q r);
+    spot_noted = λ k i x q e. rw (noted, ← e) (recorded_last (slot s id).touched c);
+  }
+
+  -- nothing waits, and nothing lies in the spot of the chunk
+  expects_none : IsSound s → calm ≡ (slot s id).calm → touched ≡ (slot s id).touched → s.arrivals ≡ [] → ((i : ℕ) (k : Key) → (place s c).spot ≡ Some i → things (spot s i) k ≡ None) → Expects
+  expects_none h same noted none bare = record {
+    calmer = λ o. sym same ∙ o;
+    none_noted = λ o e. noted ∙ e;
+    none_waits = λ k x q o. (let f : None ≡ Some x = sym (none_arrives s k none) ∙ q in absurd (let z : ⊥ = cc in z));
+    noted_stay = λ q r. ap (λ l. is_recorded l q) noted ∙ r;
+    spot_noted = λ k i x q e. (let f : None ≡ Some x = sym (bare i k (ap (λ z. (place s z).spot) e ∙ h.lies k (in_spot i) x q)) ∙ q in absurd (let z : ⊥ = cc in z));
+  }
+
+  -- either of both
+  pub expects : (quiet : Bool) → IsSound s → calm ≡ (quiet && (slot s id).calm) → touched ≡ (if quiet then (slot s id).touched else (slot s id).touched ++ c ∷ [])
+      → (IsTrue quiet → s.arrivals ≡ []) → (IsTrue quiet → (i : ℕ) (k : Key) → (place s c).spot ≡ Some i → things (spot s i) k ≡ None) → Expects
+  expects true h same noted none bare = expects_none h same noted (none refl) (bare refl)
+  expects false h same noted none bare = expects_noted same noted
 
   module _ (e : (u : ℕ) → slot t u ≡ (if nat_eq id u then d else slot s u)) (h : IsSound s) (long : length bags ≡ length s.bags) (there : id < length s.bags) (here : (slot s id).here ≡ true)
       (more_spare : s.spare ≤ spare) (more_slots : s.slots ≤ slots) where
@@ -129,7 +164,7 @@ module _ (s : Stock) (bags : List Slot) (places : PlaceRows) (spare slots id : �
           claims = λ o q p. kept q ((h.bags id).claims o q (sym (ap (λ (z : Place). z.bag) (same q)) ∙ p));
           held = λ o q p. no (sym (rw (off, not_taken) refl) ∙ o);
           near = λ o k w x q r. no (sym off ∙ o);
-          untouched = λ o p. no p;
+          untouched = λ o p. no (sym off ∙ o);
           opened = λ o. no (sym off ∙ o);
           one = (h.bags id).one;
           out = λ o k x q. no (sym not_taken ∙ o);
@@ -148,10 +183,10 @@ module _ (s : Stock) (bags : List Slot) (places : PlaceRows) (spare slots id : �
     -- with the chunk
     pub came : (slot s id).listed ≡ true → (before : Place) → before ≡ place s c → before.bag ≡ None
         → ((q : ChunkPos) → place t q ≡ (if same_chunk c q then (let p : Place = record { spot = before.spot; bag = Some id } in p) else place s q))
-        → IsStrictlySortedBy chunk_cmp chunks → ((q : ChunkPos) → is_recorded chunks q ≡ (is_recorded (slot s id).chunks q || same_chunk c q)) → touched ≡ (slot s id).touched ++ c ∷ []
+        → IsStrictlySortedBy chunk_cmp chunks → ((q : ChunkPos) → is_recorded chunks q ≡ (is_recorded (slot s id).chunks q || same_chunk c q)) → Expects
         → Followed s t id (wider s id c)
     unfolding bag_of
-    came was before is free set order has noted =
+    came was before is free set order has x =
         followed_with spots homes stays
         (record {
           claims = λ o q p. has q ∙ elim (homes q id p) [
@@ -162,8 +197,8 @@ module _ (s : Stock) (bags : List Slot) (places : PlaceRows) (spare slots id : �
             | inl y ↦ ap (λ (z : Place). z.bag) (set q) ∙ rw y refl
             | inr y ↦ stays q id ((h.bags id).held (rw was refl) q (old q y (sym (has q) ∙ p)))
           ];
-          near = λ o k w x q r. close k w x (sym (columns k w) ∙ q) (sym (has (chunk_at k x)) ∙ r);
-          untouched = λ o p. no p;
+          near = λ o k w y q r. close k w y (sym (columns k w) ∙ q) (sym (has (chunk_at k y)) ∙ r);
+          untouched = λ o p. x.none_noted p ((h.bags id).untouched was (x.calmer p));
           opened = λ o. rw here refl;
           one = (h.bags id).one;
           out = λ o k x q. no (sym not_taken ∙ o);
@@ -209,13 +244,13 @@ module _ (s : Stock) (bags : List Slot) (places : PlaceRows) (spare slots id : �
             front true b y r = refl
             front false b y r = no (sym y ∙ r)
 
-        close : (k : Key) (w : Where) (x : Thing k) → column s k w ≡ Some x → (is_recorded (slot s id).chunks (chunk_at k x) || same_chunk c (chunk_at k x)) ≡ true → Near id d (chunk_at k x) w
-        close k arriving x q r = λ z. no z
-        close k (in_spot i) x q r = elim (cases_Bool (same_chunk c (chunk_at k x))) [
-          | inl y ↦ rw noted (ap (λ z. is_recorded ((slot s id).touched ++ c ∷ []) z) (sym (same_chunk-true c (chunk_at k x) y)) ∙ recorded_last (slot s id).touched c)
-          | inr y ↦ rw noted (recorded_front (slot s id).touched (c ∷ []) (chunk_at k x) ((h.bags id).near was k (in_spot i) x q (old (chunk_at k x) y r)))
+        close : (k : Key) (w : Where) (y : Thing k) → column s k w ≡ Some y → (is_recorded (slot s id).chunks (chunk_at k y) || same_chunk c (chunk_at k y)) ≡ true → Near id d (chunk_at k y) w
+        close k arriving y q r = x.none_waits k y q
+        close k (in_spot i) y q r = elim (cases_Bool (same_chunk c (chunk_at k y))) [
+          | inl e ↦ x.spot_noted k i y q (same_chunk-true c (chunk_at k y) e)
+          | inr e ↦ x.noted_stay (chunk_at k y) ((h.bags id).near was k (in_spot i) y q (old (chunk_at k y) e r))
         ]
-        close k (in_bag u) x q r = elim (cases_Bool (same_chunk c (chunk_at k x))) [
-          | inl y ↦ let f : None ≡ Some u = sym none ∙ ap (λ z. (place s z).bag) (same_chunk-true c (chunk_at k x) y) ∙ h.lies k (in_bag u) x q in cc
-          | inr y ↦ (h.bags id).near was k (in_bag u) x q (old (chunk_at k x) y r)
+        close k (in_bag u) y q r = elim (cases_Bool (same_chunk c (chunk_at k y))) [
+          | inl e ↦ let f : None ≡ Some u = sym none ∙ ap (λ z. (place s z).bag) (same_chunk-true c (chunk_at k y) e) ∙ h.lies k (in_bag u) y q in cc
+          | inr e ↦ (h.bags id).near was k (in_bag u) y q (old (chunk_at k y) e r)
         ]

@@ -33,12 +33,18 @@ narrower s id c q = is_recorded (bag_of s id).chunks q && not (same_chunk c q)
 no : {P : Type 0} → false ≡ true → P
 no e = absurd (let z : ⊥ = cc in z)
 
+-- the one and not the other
+pub one_alone : (a b : Bool) → (a && not b) ≡ true → (a ≡ true) × (b ≡ false)
+one_alone true false e = (refl, refl)
+one_alone true true e = no e
+one_alone false b e = no e
+
 module _ (s : Stock) (spots : List RegionData) (bags : List Slot) (places : PlaceRows) (spare slots i id : ℕ) (c : ChunkPos) (in_it out_of_it : RegionData) (chunks : List ChunkPos) where
   abbrev t : Stock
   t = with_parts s spots bags places spare slots
 
   abbrev d : Slot
-  d = record (slot s id) { body = in_it; calm = false; chunks = chunks; list = chunks }
+  d = record (slot s id) { body = in_it; chunks = chunks; list = chunks }
 
   pub record LosesOne : Type 0 where
     pub each_spot : (n : ℕ) → spot t n ≡ (if nat_eq i n then out_of_it else spot s n)
@@ -79,9 +85,8 @@ module _ (s : Stock) (spots : List RegionData) (bags : List Slot) (places : Plac
 
     out : Outward s t i id c in_it out_of_it
     out = record {
-      homes = f.homes;
+      unnamed = record { homes = f.homes; at_bag = f.at_bag };
       at_spot = f.at_spot;
-      at_bag = f.at_bag;
       left = λ k. ap (λ (b : Slot). things b.body k) mine;
       came = λ k. ap (λ (r : RegionData). things r k) spot_here;
       rest = rest;
@@ -96,32 +101,27 @@ module _ (s : Stock) (spots : List RegionData) (bags : List Slot) (places : Plac
     moves = moves_out s t i id c in_it out_of_it out h
 
     before : (q : ChunkPos) (n : ℕ) → (place t q).bag ≡ Some n → (place s q).bag ≡ Some n
-    before = home_before s t i id c in_it out_of_it out h
+    before = home_before s t id c out.unnamed
 
     not_taken : (slot s id).taken ≡ false
     not_taken = here_not_taken id s h f.here
-
-    front : (a b : Bool) → (a && not b) ≡ true → (a ≡ true) × (b ≡ false)
-    front true false e = (refl, refl)
-    front true true e = no e
-    front false b e = no e
 
     own_bag : IsBag t id d
     own_bag = record {
       claims = λ o q p.
           let old : is_recorded (slot s id).chunks q ≡ true = (h.bags id).claims o q (before q id p) in
-          let away : same_chunk c q ≡ false = home_gone s t i id c in_it out_of_it out h q id p in
+          let away : same_chunk c q ≡ false = home_gone s t id c out.unnamed q id p in
           f.has q ∙ rw (old, away) refl;
       held = λ o q r.
-          let two = front (is_recorded (slot s id).chunks q) (same_chunk c q) (sym (f.has q) ∙ r) in
-          home_bag s t i id c in_it out_of_it out h q id ((h.bags id).held o q two.0) (λ e. two.1);
+          let two = one_alone (is_recorded (slot s id).chunks q) (same_chunk c q) (sym (f.has q) ∙ r) in
+          home_bag s t id c out.unnamed q id ((h.bags id).held o q two.0) (λ e. two.1);
       near = λ o k w x q r.
-          let two = front (is_recorded (slot s id).chunks (chunk_at k x)) (same_chunk c (chunk_at k x)) (sym (f.has (chunk_at k x)) ∙ r) in
+          let two = one_alone (is_recorded (slot s id).chunks (chunk_at k x)) (same_chunk c (chunk_at k x)) (sym (f.has (chunk_at k x)) ∙ r) in
           elim (moves_back where_cases (column s k) (column t k) (in_bag id) (in_spot i) (λ y. is_recorded (c ∷ []) (chunk_at k y)) apart (moves k) w x q) [
             | inl z ↦ no (sym two.1 ∙ ap (same_chunk c) (single-is c (chunk_at k x) z.passes) ∙ same_chunk-self c)
             | inr z ↦ close k w x ((h.bags id).near f.listed k w x z.had two.0)
           ];
-      untouched = λ o p. no p;
+      untouched = (h.bags id).untouched;
       opened = (h.bags id).opened;
       one = (h.bags id).one;
       out = λ o k x q. no (sym not_taken ∙ o);
@@ -129,7 +129,7 @@ module _ (s : Stock) (spots : List RegionData) (bags : List Slot) (places : Plac
     }
       where
         close : (k : Key) (w : Where) (x : Thing k) → Near id (slot s id) (chunk_at k x) w → Near id d (chunk_at k x) w
-        close k arriving x n = λ z. no z
+        close k arriving x n = n
         close k (in_spot v) x n = n
         close k (in_bag v) x n = n
 
@@ -137,7 +137,7 @@ module _ (s : Stock) (spots : List RegionData) (bags : List Slot) (places : Plac
     other_bag n g =
         moved_bag s t (in_bag id) (in_spot i) (λ k x. is_recorded (c ∷ []) (chunk_at k x)) apart moves n (slot s n) (slot s n) (kept_self (slot s n))
         (λ q p. inl (before q n p))
-        (λ o q p. home_bag s t i id c in_it out_of_it out h q n p (λ e. absurd (g (sym e))))
+        (λ o q p. home_bag s t id c out.unnamed q n p (λ e. absurd (g (sym e))))
         (λ o k x q p r. absurd (g ((h.bags n).near o k (in_bag id) x q r)))
         (λ o e. cc)
         (h.bags n)
@@ -148,7 +148,7 @@ module _ (s : Stock) (spots : List RegionData) (bags : List Slot) (places : Plac
       sound = record {
         unique = moved_unique s t (in_bag id) (in_spot i) (λ k x. is_recorded (c ∷ []) (chunk_at k x)) apart moves h.unique;
         lies = moved_lies s t (in_bag id) (in_spot i) (λ k x. is_recorded (c ∷ []) (chunk_at k x)) apart moves (comes_out s t i id c in_it out_of_it out h) (stays_out s t i id c in_it out_of_it out h);
-        spot_range = λ q n e. let l : n < length s.spots = h.spot_range q n (sym (home_spot s t i id c in_it out_of_it out h q) ∙ e) in omega (arith, f.spots_long);
+        spot_range = λ q n e. let l : n < length s.spots = h.spot_range q n (sym (home_spot s t id c out.unnamed q) ∙ e) in omega (arith, f.spots_long);
         bag_range = λ q n e. let l : n < length s.bags = h.bag_range q n (before q n e) in omega (arith, f.bags_long);
         bags = λ n. elim (cases_eq id n) [
           | inl q ↦ let P : ℕ → Type 0 = λ v. IsBag t v (slot t v) in subst P q (let Q : Slot → Type 0 = λ b. IsBag t id b in subst Q (sym mine) own_bag)

@@ -30,7 +30,9 @@ pub mod Crossing
 pub mod OneMore
 pub mod Coming
 pub mod Outward
+pub mod Counting
 pub mod Leaving
+pub mod LeavingBare
 pub mod Joining
 pub mod Relisting
 pub mod Compacting

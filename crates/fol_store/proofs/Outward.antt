@@ -16,11 +16,44 @@ use Rattle.fol_store.proofs.Columns.{Moves}
 use Rattle.fol_store.proofs.Totals.{where_cases}
 use Rattle.fol_store.proofs.Homes.{single-is, single-self}
 
+-- a chunk is no longer one of the bag
+pub record Unnamed (s t : Stock) (id : ℕ) (c : ChunkPos) : Type 0 where
+  pub homes : (q : ChunkPos) → place t q ≡ (if same_chunk c q then (record (place s c) { bag = None }) else place s q)
+  pub at_bag : (place s c).bag ≡ Some id
+
+module _ (s t : Stock) (id : ℕ) (c : ChunkPos) (u : Unnamed s t id c) where
+  pub home_spot : (q : ChunkPos) → (place t q).spot ≡ (place s q).spot
+  home_spot q = elim (cases_Bool (same_chunk c q)) [
+    | inl e ↦ ap (λ (p : Place). p.spot) (u.homes q) ∙ rw e (ap (λ z. (place s z).spot) (same_chunk-true c q e))
+    | inr e ↦ ap (λ (p : Place). p.spot) (u.homes q) ∙ rw e refl
+  ]
+
+  pub home_bag : (q : ChunkPos) (n : ℕ) → (place s q).bag ≡ Some n → (n ≡ id → same_chunk c q ≡ false) → (place t q).bag ≡ Some n
+  home_bag q n e f = elim (cases_Bool (same_chunk c q)) [
+    | inl z ↦
+        let g : Some n ≡ Some id = sym e ∙ ap (λ y. (place s y).bag) (sym (same_chunk-true c q z)) ∙ u.at_bag in
+        let m : n ≡ id = cc in
+        let y : true ≡ false = sym z ∙ f m in cc
+    | inr z ↦ ap (λ (p : Place). p.bag) (u.homes q) ∙ rw z e
+  ]
+
+  pub home_before : (q : ChunkPos) (n : ℕ) → (place t q).bag ≡ Some n → (place s q).bag ≡ Some n
+  home_before q n e = elim (cases_Bool (same_chunk c q)) [
+    | inl z ↦ let f : None ≡ Some n = sym (ap (λ (p : Place). p.bag) (u.homes q) ∙ rw z refl) ∙ e in cc
+    | inr z ↦ sym (ap (λ (p : Place). p.bag) (u.homes q) ∙ rw z refl) ∙ e
+  ]
+
+  -- no bag has the chunk afterwards
+  pub home_gone : (q : ChunkPos) (n : ℕ) → (place t q).bag ≡ Some n → same_chunk c q ≡ false
+  home_gone q n e = elim (cases_Bool (same_chunk c q)) [
+    | inl z ↦ let f : None ≡ Some n = sym (ap (λ (p : Place). p.bag) (u.homes q) ∙ rw z refl) ∙ e in cc
+    | inr z ↦ z
+  ]
+
 module _ (s t : Stock) (i id : ℕ) (c : ChunkPos) (in_it out_of_it : RegionData) where
   pub record Outward : Type 0 where
-    pub homes : (q : ChunkPos) → place t q ≡ (if same_chunk c q then (record (place s c) { bag = None }) else place s q)
+    pub unnamed : Unnamed s t id c
     pub at_spot : (place s c).spot ≡ Some i
-    pub at_bag : (place s c).bag ≡ Some id
     pub left : (k : Key) → column t k (in_bag id) ≡ things in_it k
     pub came : (k : Key) → column t k (in_spot i) ≡ things out_of_it k
     pub rest : (k : Key) (w : Where) → w ≢ in_bag id → w ≢ in_spot i → column t k w ≡ column s k w
@@ -34,41 +67,13 @@ module _ (s t : Stock) (i id : ℕ) (c : ChunkPos) (in_it out_of_it : RegionData
     pub moves_out : (k : Key) → Moves where_cases (column s k) (column t k) (in_bag id) (in_spot i) (λ x. is_recorded (c ∷ []) (chunk_at k x))
     moves_out k = record { left = o.left k ∙ o.loses.things k; come = o.came k ∙ o.gains.things k; rest = o.rest k }
 
-    pub home_spot : (q : ChunkPos) → (place t q).spot ≡ (place s q).spot
-    home_spot q = elim (cases_Bool (same_chunk c q)) [
-      | inl e ↦ ap (λ (p : Place). p.spot) (o.homes q) ∙ rw e (ap (λ z. (place s z).spot) (same_chunk-true c q e))
-      | inr e ↦ ap (λ (p : Place). p.spot) (o.homes q) ∙ rw e refl
-    ]
-
-    pub home_bag : (q : ChunkPos) (n : ℕ) → (place s q).bag ≡ Some n → (n ≡ id → same_chunk c q ≡ false) → (place t q).bag ≡ Some n
-    home_bag q n e f = elim (cases_Bool (same_chunk c q)) [
-      | inl z ↦
-          let g : Some n ≡ Some id = sym e ∙ ap (λ y. (place s y).bag) (sym (same_chunk-true c q z)) ∙ o.at_bag in
-          let m : n ≡ id = cc in
-          let y : true ≡ false = sym z ∙ f m in cc
-      | inr z ↦ ap (λ (p : Place). p.bag) (o.homes q) ∙ rw z e
-    ]
-
-    pub home_before : (q : ChunkPos) (n : ℕ) → (place t q).bag ≡ Some n → (place s q).bag ≡ Some n
-    home_before q n e = elim (cases_Bool (same_chunk c q)) [
-      | inl z ↦ let f : None ≡ Some n = sym (ap (λ (p : Place). p.bag) (o.homes q) ∙ rw z refl) ∙ e in cc
-      | inr z ↦ sym (ap (λ (p : Place). p.bag) (o.homes q) ∙ rw z refl) ∙ e
-    ]
-
-    -- no bag has the chunk afterwards
-    pub home_gone : (q : ChunkPos) (n : ℕ) → (place t q).bag ≡ Some n → same_chunk c q ≡ false
-    home_gone q n e = elim (cases_Bool (same_chunk c q)) [
-      | inl z ↦ let f : None ≡ Some n = sym (ap (λ (p : Place). p.bag) (o.homes q) ∙ rw z refl) ∙ e in cc
-      | inr z ↦ z
-    ]
-
     pub comes_out : (k : Key) (x : Thing k) → column s k (in_bag id) ≡ Some x → is_recorded (c ∷ []) (chunk_at k x) ≡ true → Allows (place t (chunk_at k x)) (in_spot i)
-    comes_out k x q r = home_spot (chunk_at k x) ∙ ap (λ z. (place s z).spot) (single-is c (chunk_at k x) r) ∙ o.at_spot
+    comes_out k x q r = home_spot s t id c o.unnamed (chunk_at k x) ∙ ap (λ z. (place s z).spot) (single-is c (chunk_at k x) r) ∙ o.at_spot
 
     pub stays_out : (k : Key) (w : Where) (x : Thing k) → column s k w ≡ Some x → (w ≡ in_bag id → is_recorded (c ∷ []) (chunk_at k x) ≡ false) → Allows (place t (chunk_at k x)) w
     stays_out k arriving x q f = tt
-    stays_out k (in_spot n) x q f = home_spot (chunk_at k x) ∙ h.lies k (in_spot n) x q
-    stays_out k (in_bag n) x q f = home_bag (chunk_at k x) n (h.lies k (in_bag n) x q) (λ e. not_same (f (ap (λ m. in_bag m) e)))
+    stays_out k (in_spot n) x q f = home_spot s t id c o.unnamed (chunk_at k x) ∙ h.lies k (in_spot n) x q
+    stays_out k (in_bag n) x q f = home_bag s t id c o.unnamed (chunk_at k x) n (h.lies k (in_bag n) x q) (λ e. not_same (f (ap (λ m. in_bag m) e)))
       where
         not_same : is_recorded (c ∷ []) (chunk_at k x) ≡ false → same_chunk c (chunk_at k x) ≡ false
         not_same e = elim (cases_Bool (same_chunk c (chunk_at k x))) [

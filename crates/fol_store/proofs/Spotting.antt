@@ -192,9 +192,8 @@ module _ (s : Stock) (spots : List RegionData) (bags : List Slot) (places : Plac
         (loses : Loses (c ∷ []) (slot s id).body in_it) (gains : Gains (c ∷ []) (slot s id).body (spot s i) out_of_it) where
       outward : Outward s t i id c in_it out_of_it
       outward = record {
-        homes = homes;
+        unnamed = record { homes = homes; at_bag = d.at_bag };
         at_spot = d.at_spot;
-        at_bag = d.at_bag;
         left = λ k. ap (λ (b : Slot). things b.body k) bag_here;
         came = λ k. ap (λ (r : RegionData). things r k) spot_here;
         rest = λ k w a b. rest k w b a;
@@ -212,11 +211,11 @@ module _ (s : Stock) (spots : List RegionData) (bags : List Slot) (places : Plac
       soundly_out = record {
         come = comes_out s t i id c in_it out_of_it outward h;
         stay = stays_out s t i id c in_it out_of_it outward h;
-        spot_range = λ q n e. let l : n < length s.spots = h.spot_range q n (sym (home_spot s t i id c in_it out_of_it outward h q) ∙ e) in let g : length spots ≡ length s.spots = d.spots_long in omega arith;
-        bag_range = λ q n e. let l : n < length s.bags = h.bag_range q n (home_before s t i id c in_it out_of_it outward h q n e) in let g : length bags ≡ length s.bags = d.bags_long in omega arith;
+        spot_range = λ q n e. let l : n < length s.spots = h.spot_range q n (sym (home_spot s t id c outward.unnamed q) ∙ e) in let g : length spots ≡ length s.spots = d.spots_long in omega arith;
+        bag_range = λ q n e. let l : n < length s.bags = h.bag_range q n (home_before s t id c outward.unnamed q n e) in let g : length bags ≡ length s.bags = d.bags_long in omega arith;
         kept = kept;
-        fewer = λ n o q e. inl (home_before s t i id c in_it out_of_it outward h q n e);
-        more = λ n o q e. home_bag s t i id c in_it out_of_it outward h q n e (λ m. absurd (not_mine n m o));
+        fewer = λ n o q e. inl (home_before s t id c outward.unnamed q n e);
+        more = λ n o q e. home_bag s t id c outward.unnamed q n e (λ m. absurd (not_mine n m o));
         lands = λ n o k x q p r. absurd (mine_whole n ((h.bags n).near (still_listed n o) k (in_bag id) x q r) o);
         none_come = λ n o e. cc;
         spot_times = spot_times;

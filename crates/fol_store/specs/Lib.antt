@@ -7,6 +7,7 @@ pub mod Columns
 pub mod Things
 pub mod Sound
 pub mod Moves
+pub mod Clear
 pub mod Slots
 pub mod KeptLends
 pub mod BagLends

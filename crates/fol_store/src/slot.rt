@@ -1,6 +1,6 @@
 //! The bag of a region, as the store keeps it.
 
-ghost use Rattle.std.specs.Prelude.{◌≡◌, ◌≤◌, true, not, ◌||◌, ◌&&◌, [], ◌∷◌, ◌++◌, ◌⊎◌, length, false, IsTrue, OnOk};
+ghost use Rattle.std.specs.Prelude.{◌≡◌, ◌≤◌, if◌then◌else◌, true, not, ◌||◌, ◌&&◌, [], ◌∷◌, ◌++◌, ◌⊎◌, length, false, IsTrue, OnOk};
 ghost use Rattle.std.specs.List.Sorted.{IsStrictlySortedBy};
 ghost use Rattle.fol_model.specs.declared.places.ChunkPos.{ChunkPos};
 ghost use Rattle.fol_model.specs.Geometry.{same_chunk};
@@ -115,16 +115,19 @@ impl Slot {
         self.chunks = Recalled::of(&self.list);
     }
 
-    /// A chunk comes, and is noted. If memory runs out, it may be there and not noted, and no chunk is lost.
-    pub fn admit(&mut self, alloc: Global, c: ChunkPos) -> Result<(), AllocError>
+    /// A chunk comes. Unless nothing lies on it, which is `quiet`, it is noted, and the bag is calm no more. If memory runs out, it may be
+    /// there and not noted, and no chunk is lost.
+    pub fn admit(&mut self, alloc: Global, c: ChunkPos, quiet: bool) -> Result<(), AllocError>
         requires { IsStrictlySortedBy chunk_cmp self.old.list }
         ensures order { OnOk result (IsStrictlySortedBy chunk_cmp self.new.list) }
         ensures has { OnOk result ((q : ChunkPos)
             → is_recorded self.new.list q ≡ (is_recorded self.old.list q || same_chunk c q)) }
-        ensures noted { OnOk result (self.new.touched ≡ self.old.touched ++ c ∷ []) }
+        ensures noted { OnOk result (self.new.touched
+            ≡ (if quiet then self.old.touched else self.old.touched ++ c ∷ [])) }
         ensures kept { (q : ChunkPos) → is_recorded self.old.list q ≡ true
             → is_recorded self.new.list q ≡ true }
         ensures rest { self.new ≡ record self.old {
+          calm = (quiet && self.old.calm);
           chunks = self.new.list;
           list = self.new.list;
           touched = self.new.touched;
@@ -132,23 +135,25 @@ impl Slot {
     {
         let result = members::widen(alloc, &mut self.list, c);
         self.chunks = Recalled::of(&self.list);
+        self.calm = quiet && self.calm;
         result?;
+        if quiet {
+            return Ok(());
+        }
         self.touched.push(c)
     }
 
-    /// A chunk leaves. The bag is calm no more.
+    /// A chunk leaves.
     pub fn dismiss(&mut self, alloc: Global, c: ChunkPos)
         requires { IsStrictlySortedBy chunk_cmp self.old.list }
         ensures order { IsStrictlySortedBy chunk_cmp self.new.list }
         ensures has { (q : ChunkPos) → is_recorded self.new.list q
             ≡ (is_recorded self.old.list q && not (same_chunk c q)) }
         ensures rest { self.new ≡ record self.old {
-          calm = false;
           chunks = self.new.list;
           list = self.new.list;
         } }
     {
-        self.calm = false;
         members::narrow(alloc, &mut self.list, c);
         self.chunks = Recalled::of(&self.list);
     }

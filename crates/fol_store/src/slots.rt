@@ -363,15 +363,23 @@ pub fn is_ready(bags: &Bags, id: usize) -> bool
     slot.here && slot.listed
 }
 
-/// A chunk comes to a listed bag, and is noted. The bag is calm no more; if memory runs out, it has to be gathered anew.
-pub fn admit(alloc: Global, bags: &mut Bags, id: usize, c: ChunkPos) -> Result<(), AllocError>
+/// A chunk comes to a listed bag. Unless nothing lies on it, which is `quiet`, it is noted, and the bag is calm no more. If memory runs
+/// out, the bag has to be gathered anew.
+pub fn admit(
+    alloc: Global,
+    bags: &mut Bags,
+    id: usize,
+    c: ChunkPos,
+    quiet: bool,
+) -> Result<(), AllocError>
     requires open { is_open (slot_in bags.old.items id) ≡ true }
     requires order { IsStrictlySortedBy chunk_cmp (slot_in bags.old.items id).list }
     ensures order { OnOk result (IsStrictlySortedBy chunk_cmp (slot_in bags.new.items id).list) }
     ensures has { OnOk result ((q : ChunkPos) → is_recorded (slot_in bags.new.items id).list q
         ≡ (is_recorded (slot_in bags.old.items id).list q || same_chunk c q)) }
     ensures noted { OnOk result ((slot_in bags.new.items id).touched
-        ≡ (slot_in bags.old.items id).touched ++ c ∷ []) }
+        ≡ (if quiet then (slot_in bags.old.items id).touched
+        else (slot_in bags.old.items id).touched ++ c ∷ [])) }
     ensures listed { OnOk result ((slot_in bags.new.items id).listed
         ≡ (slot_in bags.old.items id).listed) }
     ensures kept { (q : ChunkPos) → is_recorded (slot_in bags.old.items id).list q ≡ true
@@ -381,7 +389,7 @@ pub fn admit(alloc: Global, bags: &mut Bags, id: usize, c: ChunkPos) -> Result<(
         ≡ (if nat_eq id u
         then record (slot_in bags.old.items id) {
           listed = (slot_in bags.new.items id).listed;
-          calm = false;
+          calm = (quiet && (slot_in bags.old.items id).calm);
           chunks = (slot_in bags.new.items id).list;
           list = (slot_in bags.new.items id).list;
           touched = (slot_in bags.new.items id).touched;
@@ -391,13 +399,12 @@ pub fn admit(alloc: Global, bags: &mut Bags, id: usize, c: ChunkPos) -> Result<(
     ensures free { bags.new.free ≡ bags.old.free }
 {
     let slot = bags.slot_mut(id);
-    slot.calm = false;
-    let result = slot.admit(alloc, c);
+    let result = slot.admit(alloc, c, quiet);
     slot.listed = slot.listed && result.is_ok();
     result
 }
 
-/// A chunk leaves a bag, which is calm no more.
+/// A chunk leaves a bag.
 pub fn dismiss(alloc: Global, bags: &mut Bags, id: usize, c: ChunkPos)
     requires open { is_open (slot_in bags.old.items id) ≡ true }
     requires order { IsStrictlySortedBy chunk_cmp (slot_in bags.old.items id).list }
@@ -407,7 +414,6 @@ pub fn dismiss(alloc: Global, bags: &mut Bags, id: usize, c: ChunkPos)
     ensures slots { (u : ℕ) → slot_in bags.new.items u
         ≡ (if nat_eq id u
         then record (slot_in bags.old.items id) {
-          calm = false;
           chunks = (slot_in bags.new.items id).list;
           list = (slot_in bags.new.items id).list;
         } else slot_in bags.old.items u) }

@@ -1,16 +1,17 @@
 //! The spots by number.
 
-ghost use Rattle.std.specs.Prelude.{◌≡◌, ◌+◌, ◌<◌, ◌≤◌, ◌^◌, ℕ, None, nat_eq, if◌then◌else◌, length, true, vec_len, OnOk, OnErr, [], ◌∷◌};
+ghost use Rattle.std.specs.Prelude.{◌≡◌, ◌+◌, ◌<◌, ◌≤◌, ◌^◌, ℕ, None, Some, IsTrue, nat_eq, if◌then◌else◌, length, true, vec_len, OnOk, OnErr, [], ◌∷◌};
 ghost use Rattle.std.specs.List.Sorted.{IsStrictlySortedBy};
 ghost use Rattle.fol_chunks.specs.Order.{chunk_cmp};
 ghost use Rattle.fol_store.specs.Slots.{slot_in, spot_in};
 ghost use Rattle.fol_store.specs.Sound.{is_open};
-ghost use Rattle.fol_store.specs.Things.{no_data, things, of_task, of_entity, IsTimely};
+ghost use Rattle.fol_store.specs.Things.{Key, no_data, things, of_task, of_entity, IsTimely};
 ghost use Rattle.fol_chunks.specs.Contents.{flat_of};
 ghost use Rattle.fol_data.specs.Rests.{IsInTime};
 ghost use Rattle.fol_store.specs.Moves.{SameThings, AreApart, Loses, Gains, Queues, LaysBlock, LaysEntity};
 
 use crate::bags::Bags;
+use crate::places::Place;
 use crate::slot::new_data;
 use crate::{slots, waiting};
 use fol_data::{RegionData, Size};
@@ -31,6 +32,18 @@ pub fn add(alloc: Global, spots: &mut Vec<RegionData>) -> Result<(), AllocError>
 {
     spots.push(new_data(alloc, 0, 0))?;
     Ok(())
+}
+
+/// Whether nothing lies in the spot of a chunk with this place.
+pub fn is_bare(spots: &[RegionData], place: Place) -> bool
+    requires { (i : ℕ) → place.spot ≡ Some i → i < length spots.now }
+    ensures { IsTrue result → (i : ℕ) (k : Key) → place.spot ≡ Some i
+        → things (spot_in spots.now i) k ≡ None }
+{
+    match place.spot {
+        Some(i) => spots[i].is_empty(),
+        None => true,
+    }
 }
 
 /// Moves what lies on the chunks from a spot into a bag. If memory runs out, nothing has moved.

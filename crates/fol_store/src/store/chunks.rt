@@ -1,12 +1,14 @@
 //! The region of a listed bag has a chunk more or a chunk less.
 
-ghost use Rattle.std.specs.Prelude.{◌≡◌, ◌≢◌, ◌≤◌, ◌&&◌, ◌||◌, true, false, ℕ, [], ◌∷◌, ◌++◌, None, Some, IsTrue, OnOk, OnErr};
+ghost use Rattle.std.specs.Prelude.{◌≡◌, ◌≢◌, ◌<◌, ◌≤◌, ◌&&◌, ◌||◌, true, false, ℕ, [], ◌∷◌, ◌++◌, length, None, Some, IsTrue, OnOk, OnErr};
 ghost use Rattle.std.specs.Option.{is_none, ForSome};
 ghost use Rattle.std.specs.List.Sorted.{IsStrictlySortedBy};
 ghost use Rattle.fol_model.specs.ActionStep.{at_id};
 ghost use Rattle.fol_chunks.specs.Contents.{is_recorded};
 ghost use Rattle.fol_chunks.specs.Order.{chunk_cmp};
 ghost use Rattle.fol_store.specs.Places.{place_at};
+ghost use Rattle.fol_store.specs.Things.{Key, things};
+ghost use Rattle.fol_store.specs.Clear.{IsClearOf};
 ghost use Rattle.fol_store.specs.Relisted.{IsInOrder, Narrowed, Widened};
 
 use crate::places::{Place, has_bag};
@@ -16,12 +18,12 @@ use fol_model::ChunkPos;
 use std::alloc::AllocError;
 
 impl Store {
-    ghost use Rattle.fol_store.specs.Stock.{Stock, flat_of, jobs_of, bag_of, next_of, place};
+    ghost use Rattle.fol_store.specs.Stock.{Stock, flat_of, jobs_of, bag_of, next_of, place, slot, spot};
     ghost use Rattle.fol_store.specs.Steps.{SameMeaning};
 
-    /// The region of a bag has a chunk more. A listed bag that is here gets the chunk, if it has it not, and is calm no more, so that
-    /// what lies in the chunk's spot goes into it when it is settled; one that a worker has notes the chunk. Where another bag has
-    /// the chunk, or memory runs out, the bag has to be gathered anew.
+    /// The region of a bag has a chunk more. A listed bag that is here gets the chunk, if it has it not, and is calm no more unless
+    /// nothing waits and nothing lies in the chunk's spot, so that what lies there goes into it when it is settled; one that a worker has
+    /// notes the chunk. Where another bag has the chunk, or memory runs out, the bag has to be gathered anew.
     pub fn gain(&mut self, id: u64, c: ChunkPos)
         requires known { ((bag_of self.old id).here || (bag_of self.old id).taken) ≡ true }
         requires order { IsInOrder (bag_of self.old id) }
@@ -60,7 +62,8 @@ impl Store {
             spot: place.spot,
             bag: Some(id),
         };
-        match slots::admit(self.alloc, &mut self.bags, id, c) {
+        let quiet = self.is_quiet(place);
+        match slots::admit(self.alloc, &mut self.bags, id, c, quiet) {
             Ok(()) => match self.places.set(c, claimed) {
                 Ok(()) => {}
                 Err(_) => slots::unlist(&mut self.bags, id),
@@ -69,14 +72,25 @@ impl Store {
         }
     }
 
+    /// Whether no task waits, and nothing lies in the spot of a chunk with this place.
+    fn is_quiet(&self, place: Place) -> bool
+        requires { (i : ℕ) → place.spot ≡ Some i → i < length self.now.spots }
+        ensures waiting { IsTrue result → self.now.arrivals ≡ [] }
+        ensures bare { IsTrue result → (i : ℕ) (k : Key) → place.spot ≡ Some i
+            → things (spot self.now i) k ≡ None }
+    {
+        self.arrivals.is_empty() && spots::is_bare(&self.spots, place)
+    }
+
     /// The region of a bag has a chunk less. A listed bag that is here loses the chunk, if it has it, and what lies on it goes into the
-    /// chunk's spot; one that a worker has notes the chunk. Where memory runs out, the bag has to be gathered anew.
+    /// chunk's spot; one that a worker has notes the chunk. Each is as calm as it was. Where memory runs out, the bag has to be gathered anew.
     pub fn lose(&mut self, id: u64, c: ChunkPos)
         requires known { ((bag_of self.old id).here || (bag_of self.old id).taken) ≡ true }
         requires order { IsInOrder (bag_of self.old id) }
         ensures own { Narrowed c (bag_of self.old id) (bag_of self.new id) }
         ensures away { (bag_of self.old id).taken ≡ true → (bag_of self.new id).listed ≡ true
             → is_recorded (bag_of self.new id).since c ≡ true }
+        ensures calm { (bag_of self.new id).calm ≡ (bag_of self.old id).calm }
         ensures others { (u : ℕ) → u ≢ id → bag_of self.new u ≡ bag_of self.old u }
         ensures next { next_of self.new ≡ next_of self.old }
         ensures contents { flat_of self.new ≡ flat_of self.old }
@@ -142,6 +156,7 @@ impl Store {
         requires order { IsStrictlySortedBy chunk_cmp (bag_of self.old id).chunks }
         requires home { (place self.old c).bag ≡ Some id }
         ensures own { Narrowed c (bag_of self.old id) (bag_of self.new id) }
+        ensures calm { (bag_of self.new id).calm ≡ (bag_of self.old id).calm }
         ensures others { (u : ℕ) → u ≢ id → bag_of self.new u ≡ bag_of self.old u }
         ensures next { next_of self.new ≡ next_of self.old }
         ensures contents { flat_of self.new ≡ flat_of self.old }
@@ -155,7 +170,7 @@ impl Store {
         }
     }
 
-    /// A listed bag that has the chunk loses it, unless memory runs out.
+    /// A listed bag that has the chunk loses it, unless memory runs out. Where nothing lies on the chunk, it needs no spot.
     fn try_expel(&mut self, id: usize, c: ChunkPos) -> Result<(), AllocError>
         requires here { (bag_of self.old id).here ≡ true }
         requires listed { (bag_of self.old id).listed ≡ true }
@@ -163,11 +178,41 @@ impl Store {
         requires home { (place self.old c).bag ≡ Some id }
         ensures own { OnOk result (Narrowed c (bag_of self.old id) (bag_of self.new id)) }
         ensures others { OnOk result ((u : ℕ) → u ≢ id → bag_of self.new u ≡ bag_of self.old u) }
+        ensures calm { OnOk result ((bag_of self.new id).calm ≡ (bag_of self.old id).calm) }
         ensures err { OnErr result (bag_of self.new ≡ bag_of self.old) }
         ensures same { SameMeaning self.old self.new }
     {
+        if self.has_nothing_on(id, c) {
+            self.expel_bare(id, c);
+            return Ok(());
+        }
         let i = self.spot_of(c)?;
         self.expel_to(i, id, c)
+    }
+
+    /// Whether nothing in a bag lies on the chunk.
+    fn has_nothing_on(&self, id: usize, c: ChunkPos) -> bool
+        requires { (bag_of self.now id).here ≡ true }
+        ensures { IsTrue result → IsClearOf c (slot self.now id).body }
+    {
+        let size = self.bags.slot(id).body.size_listed(&[c]);
+        size.tasks == 0 && size.things == 0
+    }
+
+    /// A listed bag loses a chunk that it has, on which nothing in it lies.
+    fn expel_bare(&mut self, id: usize, c: ChunkPos)
+        requires here { (bag_of self.old id).here ≡ true }
+        requires listed { (bag_of self.old id).listed ≡ true }
+        requires order { IsStrictlySortedBy chunk_cmp (bag_of self.old id).chunks }
+        requires home { (place self.old c).bag ≡ Some id }
+        requires bare { IsClearOf c (slot self.old id).body }
+        ensures own { Narrowed c (bag_of self.old id) (bag_of self.new id) }
+        ensures calm { (bag_of self.new id).calm ≡ (bag_of self.old id).calm }
+        ensures others { (u : ℕ) → u ≢ id → bag_of self.new u ≡ bag_of self.old u }
+        ensures same { SameMeaning self.old self.new }
+    {
+        self.places.unname(c);
+        slots::dismiss(self.alloc, &mut self.bags, id, c);
     }
 
     /// A listed bag that has the chunk loses it, and what lies on it goes into the chunk's spot, unless memory runs out.
@@ -179,6 +224,7 @@ impl Store {
         requires home { (place self.old c).bag ≡ Some id }
         ensures own { OnOk result (Narrowed c (bag_of self.old id) (bag_of self.new id)) }
         ensures others { OnOk result ((u : ℕ) → u ≢ id → bag_of self.new u ≡ bag_of self.old u) }
+        ensures calm { OnOk result ((bag_of self.new id).calm ≡ (bag_of self.old id).calm) }
         ensures err { OnErr result (bag_of self.new ≡ bag_of self.old) }
         ensures same { SameMeaning self.old self.new }
     {

@@ -1,4 +1,5 @@
-use Rattle.std.proofs.Common.{◌≡◌, ◌-◌, ◌||◌, true, false, refl, ◌∙◌, ap, arith, vec_len}
+use Rattle.std.proofs.Common.{◌≡◌, ◌-◌, ◌||◌, ◌&&◌, ℕ, [], true, false, refl, sym, Some, None, ◌∙◌, ap, arith, vec_len}
+use Rattle.std.specs.Prelude.{IsTrue}
 use Rattle.std.specs.Vec.{vec_capacity}
 use Rattle.std.specs.List.Sorted.{IsStrictlySortedBy}
 use Rattle.fol_model.specs.Geometry.{same_chunk}
@@ -7,12 +8,19 @@ use Rattle.fol_chunks.specs.Order.{chunk_cmp}
 use Rattle.fol_store.specs.contracts.store.Store.{the_view}
 use Rattle.fol_store.specs.declared.slot.Slot.{Slot}
 use Rattle.fol_store.specs.Slots.{slot_in}
-use Rattle.fol_store.specs.Stock.{slot, bag_of, place}
+use Rattle.fol_store.specs.declared.places.Place.{Place}
+use Rattle.fol_store.specs.Things.{Key, things}
+use Rattle.fol_store.specs.Stock.{slot, spot, bag_of, place}
 use Rattle.fol_store.proofs.BagSteps.{here_range, here_open, first_open}
-use Rattle.fol_store.proofs.Coming.{Followed, came, unlisted, set_twice, wider}
+use Rattle.fol_store.proofs.Coming.{Followed, came, expects, unlisted, set_twice, wider}
 use Rattle.fol_store.proofs.Drawing.{with_parts}
 use Rattle.fol_store.proofs.Stepping.{listed_here}
 use Rattle.fol_store.proofs.store.Store.admit.Goals as goal
+
+pub is_quiet-quiet-requires : goal.is_quiet-quiet-requires
+is_quiet-quiet-requires c =
+    let there : c.args.place ≡ place (the_view c.self.inside) c.args.c = rw (← c.self.view_is) at c.requires.there in
+    rw (← c.self.view_is) (λ i e. c.self.invariant.spot_range c.args.c i (ap (λ (p : Place). p.spot) (sym there) ∙ e))
 
 pub admit-requires-clause-open : goal.admit-requires-clause-open
 unfolding bag_of
@@ -39,9 +47,11 @@ with_chunk c =
     let there : c.args.place ≡ place (the_view c.self.inside) c.args.c = rw (← c.self.view_is) at c.requires.there in
     let d : Slot = slot_in c.admit.new.bags.items c.args.id in
     let same : (slot (the_view c.self.inside) c.args.id).list ≡ (slot (the_view c.self.inside) c.args.id).chunks = listed_here c.args.id (the_view c.self.inside) c.self.invariant here in
-    came (the_view c.self.inside) c.admit.new.bags.items c.set.new.self _ _ c.args.id c.args.c d.listed d.list d.touched
+    let waiting : IsTrue c.is_quiet-quiet.result → (the_view c.self.inside).arrivals ≡ [] = rw (← c.self.view_is) at c.is_quiet-quiet.ensures.waiting in
+    let bare : IsTrue c.is_quiet-quiet.result → (i : ℕ) (k : Key) → c.args.place.spot ≡ Some i → things (spot (the_view c.self.inside) i) k ≡ None = rw (← c.self.view_is) at c.is_quiet-quiet.ensures.bare in
+    came (the_view c.self.inside) c.admit.new.bags.items c.set.new.self _ _ c.args.id c.args.c d.listed (c.is_quiet-quiet.result && (slot (the_view c.self.inside) c.args.id).calm) d.list d.touched
     c.admit.ensures.slots c.self.invariant (omega arith) (here_range c.self.inside.bags.items c.args.id here) here (omega arith) (omega (arith, c.admit.ensures.len, c.admit.ensures.free))
-    listed c.args.place there c.requires.none c.in-Ok-set.ensures.ok c.in-Ok.ensures.order (λ q. c.in-Ok.ensures.has q ∙ ap (λ l. is_recorded l q || same_chunk c.args.c q) same) c.in-Ok.ensures.noted
+    listed c.args.place there c.requires.none c.in-Ok-set.ensures.ok c.in-Ok.ensures.order (λ q. c.in-Ok.ensures.has q ∙ ap (λ l. is_recorded l q || same_chunk c.args.c q) same) (expects (the_view c.self.inside) c.admit.new.bags.items c.set.new.self _ _ c.args.id c.args.c d.listed (c.is_quiet-quiet.result && (slot (the_view c.self.inside) c.args.id).calm) d.list d.touched c.is_quiet-quiet.result c.self.invariant refl c.in-Ok.ensures.noted waiting (λ t i k e. bare t i k (ap (λ (p : Place). p.spot) there ∙ e)))
 
 without_place : (c : goal.After-unlist) → Followed (the_view c.self.inside) (with_parts (the_view c.self.inside) c.self.inside.spots.items c.unlist.new.bags.items c.set.new.self (vec_capacity c.self.inside.arrivals - vec_len c.self.inside.arrivals) c.unlist.new.bags.free) c.args.id (wider (the_view c.self.inside) c.args.id c.args.c)
 unfolding bag_of
@@ -49,7 +59,7 @@ without_place c =
     let here : (slot (the_view c.self.inside) c.args.id).here ≡ true = rw (← c.self.view_is) at c.requires.here in
     let d : Slot = slot_in c.admit.new.bags.items c.args.id in
     let same : (slot (the_view c.self.inside) c.args.id).list ≡ (slot (the_view c.self.inside) c.args.id).chunks = listed_here c.args.id (the_view c.self.inside) c.self.invariant here in
-    unlisted (the_view c.self.inside) c.unlist.new.bags.items c.set.new.self _ _ c.args.id c.args.c false d.list d.touched
+    unlisted (the_view c.self.inside) c.unlist.new.bags.items c.set.new.self _ _ c.args.id c.args.c false (c.is_quiet-quiet.result && (slot (the_view c.self.inside) c.args.id).calm) d.list d.touched
     (set_twice c.args.id (slot (the_view c.self.inside)) (slot_in c.admit.new.bags.items) (slot_in c.unlist.new.bags.items) _ (λ (z : Slot). let y : Slot = record z { listed = false } in y) c.admit.ensures.slots c.unlist.ensures.slots)
     c.self.invariant (omega arith) (here_range c.self.inside.bags.items c.args.id here) here (omega arith) (omega (arith, c.admit.ensures.len, c.admit.ensures.free, c.unlist.ensures.len, c.unlist.ensures.free))
     refl c.in-Err-set.ensures.err (λ q r. c.admit.ensures.kept q (ap (λ l. is_recorded l q) same ∙ r))
@@ -60,7 +70,7 @@ without_room c =
     let here : (slot (the_view c.self.inside) c.args.id).here ≡ true = rw (← c.self.view_is) at c.requires.here in
     let d : Slot = slot_in c.admit.new.bags.items c.args.id in
     let same : (slot (the_view c.self.inside) c.args.id).list ≡ (slot (the_view c.self.inside) c.args.id).chunks = listed_here c.args.id (the_view c.self.inside) c.self.invariant here in
-    unlisted (the_view c.self.inside) c.admit.new.bags.items c.self.inside.places _ _ c.args.id c.args.c d.listed d.list d.touched
+    unlisted (the_view c.self.inside) c.admit.new.bags.items c.self.inside.places _ _ c.args.id c.args.c d.listed (c.is_quiet-quiet.result && (slot (the_view c.self.inside) c.args.id).calm) d.list d.touched
     c.admit.ensures.slots c.self.invariant (omega arith) (here_range c.self.inside.bags.items c.args.id here) here (omega arith) (omega (arith, c.admit.ensures.len, c.admit.ensures.free))
     c.in-Err.ensures.unlisted (λ q. refl) (λ q r. c.admit.ensures.kept q (ap (λ l. is_recorded l q) same ∙ r))
 

@@ -55,7 +55,7 @@ moved c =
     left_one s c.shift_from_bag.new.spots.items c.dismiss.new.bags.items c.unname.new.self _ _ c.args.i c.args.id c.args.c between.body (spot_in c.shift_from_bag.new.spots.items c.args.i) d.list
     (record {
       each_spot = c.shift_from_bag.ensures.spots;
-      each_bag = set_twice c.args.id (slot s) (slot_in c.shift_from_bag.new.bags.items) (slot_in c.dismiss.new.bags.items) _ (λ (z : Slot). let y : Slot = record z { calm = false; chunks = d.list; list = d.list } in y) c.shift_from_bag.ensures.slots c.dismiss.ensures.slots;
+      each_bag = set_twice c.args.id (slot s) (slot_in c.shift_from_bag.new.bags.items) (slot_in c.dismiss.new.bags.items) _ (λ (z : Slot). let y : Slot = record z { chunks = d.list; list = d.list } in y) c.shift_from_bag.ensures.slots c.dismiss.ensures.slots;
       spots_long = omega arith;
       bags_long = omega arith;
       timely = c.shift_from_bag.ensures.timely;
@@ -116,3 +116,12 @@ returns-clause-others c = rw (← c.self.view_is) (moved c).others
 
 pub returns-clause-same : goal.returns-clause-same
 returns-clause-same c = rw (← c.self.view_is) (moved c).same
+
+pub returns-clause-calm : goal.returns-clause-calm
+unfolding bag_of
+returns-clause-calm c =
+    let between : Slot = slot_in c.shift_from_bag.new.bags.items c.args.id in
+    let d : Slot = slot_in c.dismiss.new.bags.items c.args.id in
+    let mine : between ≡ record (slot (the_view c.self.inside) c.args.id) { body = between.body } = c.shift_from_bag.ensures.slots c.args.id ∙ rw (nat_self c.args.id) refl in
+    let last : d ≡ record between { chunks = d.list; list = d.list } = c.dismiss.ensures.slots c.args.id ∙ rw (nat_self c.args.id) refl in
+    rw (← c.self.view_is) (ap (λ (z : Slot). z.calm) last ∙ ap (λ (z : Slot). z.calm) mine)

@@ -31,3 +31,6 @@ returns-clause-err c = on_err c.expel_to.result _ _ c.expel_to.ensures.err (λ e
 
 pub returns-in_err-i-clause-err : goal.returns-in_err-i-clause-err
 returns-in_err-i-clause-err c = let same : bag_of c.spot_of.new.self ≡ bag_of c.args.self.now = bags_same _ _ c.spot_of.ensures.bags in search (rules, same)
+
+pub returns-clause-calm : goal.returns-clause-calm
+returns-clause-calm c = on_ok c.expel_to.result _ _ c.expel_to.ensures.calm (λ e. e ∙ ap (λ (f : ℕ → Bag). (f c.args.id).calm) (bags_same _ _ c.spot_of.ensures.bags))

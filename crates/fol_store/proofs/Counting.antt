@@ -1,0 +1,85 @@
+-- Where nothing is counted on a chunk, nothing lies there.
+use Rattle.std.proofs.Common.{◌≡◌, ℕ, ◌+◌, ◌-◌, Bool, true, false, List, [], ◌∷◌, refl, sym, ◌∙◌, ap, subst, inl, inr, arith, Option, Some, None}
+use Rattle.std.specs.Prelude.{nat_eq, if◌then◌else◌, count_by}
+use Rattle.std.specs.List.{find}
+use Rattle.std.specs.Option.{option_map}
+use Rattle.std.proofs.lemmas.Bool.{cases_Bool}
+use Rattle.std.proofs.lemmas.List.Sums.{sum_by-cons}
+use Rattle.fol_keyed.proofs.Places.{same_block-true, same_chunk-true}
+use Rattle.fol_model.specs.declared.places.ChunkPos.{ChunkPos}
+use Rattle.fol_model.specs.declared.places.BlockPos.{BlockPos}
+use Rattle.fol_model.specs.declared.openings.BlockAt.{BlockAt}
+use Rattle.fol_model.specs.declared.entities.Entity.{Entity}
+use Rattle.fol_model.specs.Geometry.{same_chunk, same_block, chunk_of}
+use Rattle.fol_model.specs.ActionStep.{Flat, Standing, standing_of}
+use Rattle.fol_model.specs.Job.{Job}
+use Rattle.fol_model.specs.World.{block_in, standing_in}
+use Rattle.fol_chunks.specs.Contents.{is_recorded, size_within, nothing, flat_of as contents_of}
+use Rattle.fol_queues.specs.Waiting.{count_listed, lies_listed, dated_in, job_of}
+use Rattle.fol_queues.specs.declared.dated.Dated.{Dated}
+use Rattle.fol_data.specs.declared.region_data.RegionData.{RegionData}
+use Rattle.fol_store.specs.Things.{Key, of_block, of_entity, of_task, Thing, things, some_number, chunk_at}
+use Rattle.fol_store.specs.Clear.{IsClearOf}
+use Rattle.fol_store.proofs.Homes.{single-self}
+
+-- data without tasks, blocks and entities has nothing
+pub things_of_empty : (r : RegionData) → r.queues.tasks ≡ [] → contents_of r.chunks ≡ nothing → (k : Key) → things r k ≡ None
+things_of_empty r e f (of_block b) = ap (λ (w : Flat). some_number (w.blocks b)) f
+things_of_empty r e f (of_entity id) = ap (λ (w : Flat). w.standing id) f
+things_of_empty r e f (of_task n) = ap (λ (ds : List Dated). option_map (job_of r.tick) (dated_in ds n)) e
+
+-- the first is not counted, and none of the others is
+none_counted : {X : Type 0} (p : X → Bool) (x : X) (xs : List X) → count_by p (x ∷ xs) ≡ 0 → (p x ≡ false) × (count_by p xs ≡ 0)
+none_counted p x xs e = go (p x) refl (sym (sum_by-cons (λ y. if p y then 1 else 0) x xs) ∙ e)
+  where
+    go : (b : Bool) → p x ≡ b → (if p x then 1 else 0) + count_by p xs ≡ 0 → (p x ≡ false) × (count_by p xs ≡ 0)
+    go false n f = (n, (let g : 0 + count_by p xs ≡ 0 = rw n at f in omega (arith, g)))
+    go true t f =
+        let g : 1 + count_by p xs ≡ 0 = rw t at f in
+        let z : ⊥ = omega (arith, g) in absurd z
+
+module _ (p : ChunkPos → Bool) where
+  no_block : (xs : List BlockAt) (b : BlockPos) (n : ℕ) → count_by (λ (x : BlockAt). p (chunk_of x.at)) xs ≡ 0 → some_number (block_in xs b) ≡ Some n → p (chunk_of b) ≡ false
+  no_block [] b n e f = (let z : None ≡ Some n = f in cc)
+  no_block (x ∷ xs) b n e f =
+      let two = none_counted (λ (y : BlockAt). p (chunk_of y.at)) x xs e in
+      elim (cases_Bool (same_block x.at b)) [
+        | inl t ↦ ap (λ (q : BlockPos). p (chunk_of q)) (sym (same_block-true x.at b t)) ∙ two.0
+        | inr m ↦ no_block xs b n two.1 (rw m at f)
+      ]
+
+  no_entity : (es : List Entity) (id : ℕ) (s : Standing) → count_by (λ (e : Entity). p (chunk_of e.at)) es ≡ 0 → standing_in es id ≡ Some s → p (chunk_of s.at) ≡ false
+  no_entity [] id s e f = cc
+  no_entity (x ∷ xs) id s e f =
+      let two = none_counted (λ (y : Entity). p (chunk_of y.at)) x xs e in
+      elim (cases_Bool (nat_eq x.id id)) [
+        | inl t ↦
+            let g : Some (standing_of x) ≡ Some s = rw t at f in
+            let h : standing_of x ≡ s = cc in
+            ap (λ (y : Standing). p (chunk_of y.at)) (sym h) ∙ two.0
+        | inr m ↦ no_entity xs id s two.1 (rw m at f)
+      ]
+
+  no_task : (ds : List Dated) (tick n : ℕ) (j : Job) → count_by (λ (d : Dated). p d.task.chunk) ds ≡ 0 → option_map (job_of tick) (dated_in ds n) ≡ Some j → p j.chunk ≡ false
+  no_task [] tick n j e f = (let z : None ≡ Some j = f in cc)
+  no_task (d ∷ ds) tick n j e f =
+      let two = none_counted (λ (y : Dated). p y.task.chunk) d ds e in
+      elim (cases_Bool (nat_eq d.task.number n)) [
+        | inl t ↦
+            let g : Some (job_of tick d) ≡ Some j = rw t at f in
+            let h : job_of tick d ≡ j = cc in
+            ap (λ (y : Job). p y.chunk) (sym h) ∙ two.0
+        | inr m ↦ no_task ds tick n j two.1 (rw m at f)
+      ]
+
+-- nothing is counted on the chunk
+pub clear_of : (c : ChunkPos) (r : RegionData) → count_listed (c ∷ []) r.queues ≡ 0 → size_within (is_recorded (c ∷ [])) r.chunks ≡ 0 → IsClearOf c r
+clear_of c r tasks contents k x q = elim (cases_Bool (same_chunk c (chunk_at k x))) [
+  | inl e ↦ let f : true ≡ false = sym (single-self c (chunk_at k x) (same_chunk-true c (chunk_at k x) e)) ∙ lies k x q in cc
+  | inr e ↦ e
+]
+  where
+    lies : (k : Key) (x : Thing k) → things r k ≡ Some x → is_recorded (c ∷ []) (chunk_at k x) ≡ false
+    lies (of_block b) x q = no_block (is_recorded (c ∷ [])) r.chunks.blocks b x (omega arith) q
+    lies (of_entity id) x q = no_entity (is_recorded (c ∷ [])) r.chunks.entities id x (omega arith) q
+    lies (of_task n) x q = no_task (is_recorded (c ∷ [])) r.queues.tasks r.tick n x tasks q
