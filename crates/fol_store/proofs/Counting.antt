@@ -1,7 +1,6 @@
 -- Where nothing is counted on a chunk, nothing lies there.
-use Rattle.std.proofs.Common.{◌≡◌, ℕ, ◌+◌, ◌-◌, Bool, true, false, List, [], ◌∷◌, refl, sym, ◌∙◌, ap, subst, inl, inr, arith, Option, Some, None}
+use Rattle.std.proofs.Common.{◌≡◌, ℕ, ◌+◌, Bool, true, false, List, [], ◌∷◌, refl, sym, ◌∙◌, ap, inl, inr, arith, Some, None}
 use Rattle.std.specs.Prelude.{nat_eq, if◌then◌else◌, count_by}
-use Rattle.std.specs.List.{find}
 use Rattle.std.specs.Option.{option_map}
 use Rattle.std.proofs.lemmas.Bool.{cases_Bool}
 use Rattle.std.proofs.lemmas.List.Sums.{sum_by-cons}
@@ -15,7 +14,7 @@ use Rattle.fol_model.specs.ActionStep.{Flat, Standing, standing_of}
 use Rattle.fol_model.specs.Job.{Job}
 use Rattle.fol_model.specs.World.{block_in, standing_in}
 use Rattle.fol_chunks.specs.Contents.{is_recorded, size_within, nothing, flat_of as contents_of}
-use Rattle.fol_queues.specs.Waiting.{count_listed, lies_listed, dated_in, job_of}
+use Rattle.fol_queues.specs.Waiting.{count_listed, dated_in, job_of}
 use Rattle.fol_queues.specs.declared.dated.Dated.{Dated}
 use Rattle.fol_data.specs.declared.region_data.RegionData.{RegionData}
 use Rattle.fol_store.specs.Things.{Key, of_block, of_entity, of_task, Thing, things, some_number, chunk_at}

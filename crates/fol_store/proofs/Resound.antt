@@ -1,5 +1,5 @@
 -- A store stays sound.
-use Rattle.std.proofs.Common.{◌≡◌, ◌≢◌, ℕ, ◌<◌, Bool, true, false, ◌||◌, ◌&&◌, length, refl, sym, ◌∙◌, ap, subst, ◌⊎◌, inl, inr, Some}
+use Rattle.std.proofs.Common.{◌≡◌, ◌≢◌, ℕ, ◌<◌, Bool, true, false, ◌||◌, length, refl, sym, ◌∙◌, ap, subst, ◌⊎◌, inl, inr, Some}
 use Rattle.std.specs.Prelude.{All}
 use Rattle.fol_model.specs.declared.places.ChunkPos.{ChunkPos}
 use Rattle.fol_chunks.specs.Contents.{is_recorded}

@@ -243,28 +243,6 @@ fn follows_the_chunks_of_a_region(rt: HostRuntime) -> Result<(), Fail> {
     Ok(())
 }
 
-/// A chunk on which nothing lies comes to a region and leaves it again; whether the bag is whole after each.
-fn stays_whole(store: &mut Store, id: u64, c: ChunkPos) -> (bool, bool)
-    requires here { (bag_of store.old id).here ≡ true }
-    requires order { IsInOrder (bag_of store.old id) }
-{
-    store.gain(id, c);
-    let with_it = store.is_whole(id);
-    store.lose(id, c);
-    let without_it = store.is_whole(id);
-    (with_it, without_it)
-}
-
-/// The bag of a region stays whole where nothing comes with a chunk, and nothing goes with it.
-#[test]
-fn stays_whole_where_nothing_lies(rt: HostRuntime) -> Result<(), Fail> {
-    let mut store = world(rt.alloc())?;
-    let (with_it, without_it) = stays_whole(&mut store, 1, ChunkPos { x: 7, z: 7 });
-    assert!(rt; with_it);
-    assert!(rt; without_it);
-    Ok(())
-}
-
 /// Region 1 has the second chunk, region 2 the first, and each a task; then they are united.
 fn unite(store: &mut Store)
     requires tasks { jobs_of store.old ≡ λ n. None }

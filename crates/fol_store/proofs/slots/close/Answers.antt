@@ -1,4 +1,4 @@
-use Rattle.std.proofs.Common.{◌≡◌, refl, sym, ◌∙◌, ap, false, subst}
+use Rattle.std.proofs.Common.{◌≡◌, refl, sym, ◌∙◌, false, subst}
 use Rattle.fol_queues.proofs.Numbers.{nat_self}
 use Rattle.fol_store.specs.declared.slot.Slot.{Slot}
 use Rattle.fol_store.specs.Slots.{slot_in}

@@ -1,4 +1,4 @@
-use Rattle.std.proofs.Common.{◌≡◌, ◌-◌, ◌&&◌, not, true, refl, sym, ◌∙◌, ap, arith, vec_len, None}
+use Rattle.std.proofs.Common.{◌≡◌, ◌-◌, ◌&&◌, not, true, refl, ◌∙◌, ap, arith, vec_len}
 use Rattle.std.specs.Vec.{vec_capacity}
 use Rattle.std.specs.List.Sorted.{IsStrictlySortedBy}
 use Rattle.fol_model.specs.Geometry.{same_chunk}
@@ -8,7 +8,7 @@ use Rattle.fol_queues.proofs.Numbers.{nat_self}
 use Rattle.fol_store.specs.contracts.store.Store.{the_view}
 use Rattle.fol_store.specs.declared.slot.Slot.{Slot}
 use Rattle.fol_store.specs.Slots.{slot_in}
-use Rattle.fol_store.specs.Stock.{Stock, slot, place, bag_of}
+use Rattle.fol_store.specs.Stock.{Stock, slot, bag_of}
 use Rattle.fol_store.proofs.Coming.{Followed}
 use Rattle.fol_store.proofs.Drawing.{with_parts}
 use Rattle.fol_store.proofs.Leaving.{narrower}
