@@ -168,18 +168,15 @@ arrived_push xs d none n = ap (option_map (job_of 0)) (find_push nat_eq eqb-true
     pick true o = ap (λ (j : Job). Some j) same
     pick false o = refl
 
--- the last task that came goes to a spot
-module _ (s : Stock) (xs : List Dated) (d : Dated) (spots : List RegionData) (spare i : ℕ) (middle last : RegionData) (arrivals_are : s.arrivals ≡ xs ++ d ∷ []) where
-  abbrev v : Stock
-  v = record s { arrivals = xs; spots = spots; spare = spare }
+-- the last task that came
+module _ (s : Stock) (xs : List Dated) (d : Dated) (arrivals_are : s.arrivals ≡ xs ++ d ∷ []) where
+  abbrev pub last_job : Job
+  last_job = queued d.task.chunk d.deadline d.task.action
 
-  abbrev job : Job
-  job = queued d.task.chunk d.deadline d.task.action
-
-  abbrev goes : (k : Key) → Thing k → Bool
-  goes (of_block b) x = false
-  goes (of_entity id) x = false
-  goes (of_task n) x = nat_eq d.task.number n
+  abbrev pub is_last : (k : Key) → Thing k → Bool
+  is_last (of_block b) x = false
+  is_last (of_entity id) x = false
+  is_last (of_task n) x = nat_eq d.task.number n
 
   module _ (differ : Distinct s.arrivals) where
     differs : Distinct (xs ++ d ∷ [])
@@ -188,18 +185,90 @@ module _ (s : Stock) (xs : List Dated) (d : Dated) (spots : List RegionData) (sp
     not_before : dated_in xs d.task.number ≡ None
     not_before = last_fresh xs d differs
 
-    pub arrived_last : (n : ℕ) → arrived s.arrivals (of_task n) ≡ (if nat_eq d.task.number n then Some job else arrived xs (of_task n))
+    arrived_last : (n : ℕ) → arrived s.arrivals (of_task n) ≡ (if nat_eq d.task.number n then Some last_job else arrived xs (of_task n))
     arrived_last n = ap (λ (ds : List Dated). arrived ds (of_task n)) arrivals_are ∙ arrived_push xs d not_before n
 
-    pub last_there : column s (of_task d.task.number) arriving ≡ Some job
-    last_there = arrived_last d.task.number ∙ rw (nat_self d.task.number) refl
+    pub others_differ : Distinct xs
+    others_differ = differ_left nat_eq eqb-true nat_self (λ (b : Dated). b.task.number) xs (d ∷ []) differs
 
-    pub nothing_there : IsSound s → things (spot s i) (of_task d.task.number) ≡ None
-    nothing_there h = go (things (spot s i) (of_task d.task.number)) refl
+    -- it lies nowhere else
+    pub nowhere_else : IsSound s → (w : Where) → arriving ≢ w → column s (of_task d.task.number) w ≡ None
+    nowhere_else h w n = go (column s (of_task d.task.number) w) refl
       where
-        go : (o : Option Job) → things (spot s i) (of_task d.task.number) ≡ o → things (spot s i) (of_task d.task.number) ≡ None
+        there : column s (of_task d.task.number) arriving ≡ Some last_job
+        there = arrived_last d.task.number ∙ rw (nat_self d.task.number) refl
+
+        go : (o : Option Job) → column s (of_task d.task.number) w ≡ o → column s (of_task d.task.number) w ≡ None
         go None e = e
-        go (Some y) e = let f : arriving ≡ in_spot i = h.unique (of_task d.task.number) arriving (in_spot i) job y last_there e in cc
+        go (Some y) e = absurd (n (h.unique (of_task d.task.number) arriving w last_job y there e))
+
+    pub last_chunk_is : (k : Key) (x : Thing k) → column s k arriving ≡ Some x → is_last k x ≡ true → chunk_at k x ≡ d.task.chunk
+    last_chunk_is (of_block b) x q g = (let f : false ≡ true = g in cc)
+    last_chunk_is (of_entity id) x q g = (let f : false ≡ true = g in cc)
+    last_chunk_is (of_task n) x q g =
+        let all : arrived s.arrivals (of_task n) ≡ Some last_job = rw g at (arrived_last n) in
+        let e : Some last_job ≡ Some x = sym all ∙ q in
+        let f : last_job ≡ x = cc in
+        ap (λ (j : Job). j.chunk) (sym f)
+
+    -- the others wait on
+    pub others_wait : (k : Key) → arrived xs k ≡ option_filter (λ x. not (is_last k x)) (arrived s.arrivals k)
+    others_wait (of_block b) = refl
+    others_wait (of_entity id) = refl
+    others_wait (of_task n) = elim (cases_Bool (nat_eq d.task.number n)) [
+      | inl z ↦
+          let m : d.task.number ≡ n = eqb-true d.task.number n z in
+          let none : arrived xs (of_task n) ≡ None = ap (option_map (job_of 0)) (sym (ap (dated_in xs) m) ∙ not_before) in
+          let all : arrived s.arrivals (of_task n) ≡ Some last_job = rw z at (arrived_last n) in
+          rw (z, all, none) refl
+      | inr z ↦
+          let all : arrived s.arrivals (of_task n) ≡ arrived xs (of_task n) = rw z at (arrived_last n) in
+          rw (z, all) (sym (all_pass (arrived xs (of_task n))))
+    ]
+      where
+        all_pass : {X : Type 0} (o : Option X) → option_filter (λ x. true) o ≡ o
+        all_pass None = refl
+        all_pass (Some x) = refl
+
+    -- it came into these data
+    pub came_in : (old middle last : RegionData) → SameThings old middle → Queues d middle last → things old (of_task d.task.number) ≡ None
+        → (k : Key) → things last k ≡ option_or (things old k) (option_filter (is_last k) (arrived s.arrivals k))
+    came_in old middle last same came fresh (of_block b) = ap (λ (f : Flat). some_number (f.blocks b)) came.contents ∙ same.things (of_block b) ∙ sym (or_none (things old (of_block b)))
+      where
+        or_none : {X : Type 0} (o : Option X) → option_or o None ≡ o
+        or_none None = refl
+        or_none (Some y) = refl
+    came_in old middle last same came fresh (of_entity id) = ap (λ (f : Flat). f.standing id) came.contents ∙ same.things (of_entity id) ∙ sym (or_none (things old (of_entity id)))
+      where
+        or_none : {X : Type 0} (o : Option X) → option_or o None ≡ o
+        or_none None = refl
+        or_none (Some y) = refl
+    came_in old middle last same came fresh (of_task n) =
+        elim (cases_Bool (nat_eq d.task.number n)) [
+          | inl z ↦
+              let m : d.task.number ≡ n = eqb-true d.task.number n z in
+              let none : things old (of_task n) ≡ None = sym (ap (λ q. things old (of_task q)) m) ∙ fresh in
+              let all : arrived s.arrivals (of_task n) ≡ Some last_job = rw z at (arrived_last n) in
+              (rw z at (came.tasks n)) ∙ rw (none, all, z) refl
+          | inr z ↦ (rw z at (came.tasks n)) ∙ same.things (of_task n) ∙ sym (ap (λ b. option_or (things old (of_task n)) (option_filter (λ (j : Job). b) (arrived s.arrivals (of_task n)))) z ∙ none_pass (things old (of_task n)) (arrived s.arrivals (of_task n)))
+        ]
+      where
+        none_pass : {X : Type 0} (o r : Option X) → option_or o (option_filter (λ x. false) r) ≡ o
+        none_pass None None = refl
+        none_pass None (Some x) = refl
+        none_pass (Some y) r = refl
+
+-- the last task that came goes to a spot
+module _ (s : Stock) (xs : List Dated) (d : Dated) (spots : List RegionData) (spare i : ℕ) (middle last : RegionData) (arrivals_are : s.arrivals ≡ xs ++ d ∷ []) where
+  abbrev v : Stock
+  v = record s { arrivals = xs; spots = spots; spare = spare }
+
+  abbrev goes : (k : Key) → Thing k → Bool
+  goes k x = is_last s xs d arrivals_are k x
+
+  module _ (differ : Distinct s.arrivals) where
+    pub nothing_there : IsSound s → things (spot s i) (of_task d.task.number) ≡ None
+    nothing_there h = nowhere_else s xs d arrivals_are differ h (in_spot i) (λ e. cc)
 
     module _ (h : IsSound s) (each : (n : ℕ) → spot v n ≡ (if nat_eq i n then last else spot s n)) (same : SameThings (spot s i) middle) (came : Queues d middle last) where
       spot_here : spot v i ≡ last
@@ -208,52 +277,14 @@ module _ (s : Stock) (xs : List Dated) (d : Dated) (spots : List RegionData) (sp
       spot_other : (n : ℕ) → i ≢ n → spot v n ≡ spot s n
       spot_other n f = each n ∙ elim (cases_Bool (nat_eq i n)) [ inl q ↦ absurd (f (eqb-true i n q)) | inr q ↦ rw q refl ]
 
-      all_pass : {X : Type 0} (o : Option X) → option_filter (λ x. true) o ≡ o
-      all_pass None = refl
-      all_pass (Some x) = refl
-
-      none_pass : {X : Type 0} (o r : Option X) → option_or o (option_filter (λ x. false) r) ≡ o
-      none_pass None None = refl
-      none_pass None (Some x) = refl
-      none_pass (Some y) r = refl
-
-      or_none : {X : Type 0} (o : Option X) → option_or o None ≡ o
-      or_none None = refl
-      or_none (Some y) = refl
-
-      went : (k : Key) → column v k arriving ≡ option_filter (λ x. not (goes k x)) (column s k arriving)
-      went (of_block b) = refl
-      went (of_entity id) = refl
-      went (of_task n) = elim (cases_Bool (nat_eq d.task.number n)) [
-        | inl z ↦
-            let m : d.task.number ≡ n = eqb-true d.task.number n z in
-            let none : arrived xs (of_task n) ≡ None = ap (option_map (job_of 0)) (sym (ap (dated_in xs) m) ∙ not_before) in
-            let all : arrived s.arrivals (of_task n) ≡ Some job = rw z at (arrived_last n) in
-            rw (z, all, none) refl
-        | inr z ↦
-            let all : arrived s.arrivals (of_task n) ≡ arrived xs (of_task n) = rw z at (arrived_last n) in
-            rw (z, all) (sym (all_pass (arrived xs (of_task n))))
-      ]
-
       come : (k : Key) → column v k (in_spot i) ≡ option_or (column s k (in_spot i)) (option_filter (goes k) (column s k arriving))
-      come (of_block b) = ap (λ (r : RegionData). things r (of_block b)) spot_here ∙ ap (λ (f : Flat). some_number (f.blocks b)) came.contents ∙ same.things (of_block b) ∙ sym (or_none (things (spot s i) (of_block b)))
-      come (of_entity id) = ap (λ (r : RegionData). things r (of_entity id)) spot_here ∙ ap (λ (f : Flat). f.standing id) came.contents ∙ same.things (of_entity id) ∙ sym (or_none (things (spot s i) (of_entity id)))
-      come (of_task n) =
-          let first : column v (of_task n) (in_spot i) ≡ (if nat_eq d.task.number n then Some job else rests_of middle n) = ap (λ (r : RegionData). things r (of_task n)) spot_here ∙ came.tasks n in
-          elim (cases_Bool (nat_eq d.task.number n)) [
-            | inl z ↦
-                let m : d.task.number ≡ n = eqb-true d.task.number n z in
-                let none : things (spot s i) (of_task n) ≡ None = sym (ap (λ q. things (spot s i) (of_task q)) m) ∙ nothing_there h in
-                let all : arrived s.arrivals (of_task n) ≡ Some job = rw z at (arrived_last n) in
-                (rw z at first) ∙ rw (none, all, z) refl
-            | inr z ↦ (rw z at first) ∙ same.things (of_task n) ∙ sym (ap (λ b. option_or (things (spot s i) (of_task n)) (option_filter (λ (j : Job). b) (arrived s.arrivals (of_task n)))) z ∙ none_pass (things (spot s i) (of_task n)) (arrived s.arrivals (of_task n)))
-          ]
+      come k = ap (λ (r : RegionData). things r k) spot_here ∙ came_in s xs d arrivals_are differ (spot s i) middle last same came (nothing_there h) k
 
       apart : arriving ≢ in_spot i
       apart e = cc
 
       moves : (k : Key) → Moves where_cases (column s k) (column v k) arriving (in_spot i) (goes k)
-      moves k = record { left = went k; come = come k; rest = rest k }
+      moves k = record { left = others_wait s xs d arrivals_are differ k; come = come k; rest = rest k }
         where
           rest : (k : Key) (w : Where) → w ≢ arriving → w ≢ in_spot i → column v k w ≡ column s k w
           rest k arriving a b = absurd (a refl)
@@ -266,17 +297,8 @@ module _ (s : Stock) (xs : List Dated) (d : Dated) (spots : List RegionData) (sp
         same = record { found = moved_found s v arriving (in_spot i) goes apart moves h.unique; bags = refl; spare = more; slots = omega arith };
       }
         where
-          chunk_is : (k : Key) (x : Thing k) → column s k arriving ≡ Some x → goes k x ≡ true → chunk_at k x ≡ d.task.chunk
-          chunk_is (of_block b) x q g = (let f : false ≡ true = g in cc)
-          chunk_is (of_entity id) x q g = (let f : false ≡ true = g in cc)
-          chunk_is (of_task n) x q g =
-              let all : arrived s.arrivals (of_task n) ≡ Some job = rw g at (arrived_last n) in
-              let e : Some job ≡ Some x = sym all ∙ q in
-              let f : job ≡ x = cc in
-              ap (λ (j : Job). j.chunk) (sym f)
-
           target : (k : Key) (x : Thing k) → column s k arriving ≡ Some x → goes k x ≡ true → (place s (chunk_at k x)).spot ≡ Some i
-          target k x q g = ap (λ z. (place s z).spot) (chunk_is k x q g) ∙ at
+          target k x q g = ap (λ z. (place s z).spot) (last_chunk_is s xs d arrivals_are differ k x q g) ∙ at
 
           not_calm : (b : Bool) → (b ≡ true → ⊥) → b ≡ false
           not_calm true f = absurd (f refl)
@@ -292,7 +314,7 @@ module _ (s : Stock) (xs : List Dated) (d : Dated) (spots : List RegionData) (sp
             fewer = λ n o c q. inl q;
             more = λ n o c q. q;
             lands = λ n o k x q p r.
-                let mine : chunk_at k x ≡ d.task.chunk = chunk_is k x q p in
+                let mine : chunk_at k x ≡ d.task.chunk = last_chunk_is s xs d arrivals_are differ k x q p in
                 let calm : (slot s n).calm ≡ false = not_calm (slot s n).calm ((h.bags n).near o k arriving x q r) in
                 let home : (place s (chunk_at k x)).bag ≡ Some n = (h.bags n).held (rw o refl) (chunk_at k x) r in
                 ap (is_recorded (slot s n).touched) mine ∙ noted n (ap (λ z. (place s z).bag) (sym mine) ∙ home) o calm;
@@ -303,7 +325,7 @@ module _ (s : Stock) (xs : List Dated) (d : Dated) (spots : List RegionData) (sp
             ];
             bag_times = h.bag_times;
             arrival_times = in_time;
-            arrivals_differ = differ_left nat_eq eqb-true nat_self (λ (b : Dated). b.task.number) xs (d ∷ []) differs;
+            arrivals_differ = others_differ s xs d arrivals_are differ;
           }
 
 -- what holds of all holds of those at the front

@@ -15,6 +15,7 @@ pub mod Drawing
 pub mod Spotting
 pub mod Stepping
 pub mod Arriving
+pub mod Delivering
 pub mod Settling
 pub mod Noting
 pub mod Filling

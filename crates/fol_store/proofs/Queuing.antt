@@ -25,14 +25,14 @@ module _ (s : Stock) (bags : List Slot) (spare slots id : ℕ) (r : RegionData) 
   filled = record (slot s id) { body = r }
 
   module _ (e : (u : ℕ) → slot t u ≡ (if nat_eq id u then filled else slot s u)) (h : IsSound s) where
-    shown_same : r.tick ≡ (slot s id).body.tick → r.owed ≡ (slot s id).body.owed → bag_of t ≡ bag_of s
+    pub shown_same : r.tick ≡ (slot s id).body.tick → r.owed ≡ (slot s id).body.owed → bag_of t ≡ bag_of s
     unfolding bag_of
     shown_same tick owed = fun_ext (λ u. elim (cases_eq id u) [
       | inl q ↦ let P : ℕ → Type 0 = λ v. shown (slot t v) ≡ shown (slot s v) in subst P q (ap shown (slot_here s bags spare slots id filled e) ∙ (rw (tick, owed) refl))
       | inr n ↦ ap shown (slot_other s bags spare slots id filled e u n)
     ])
 
-    kept_filled : Kept (slot s id) filled
+    pub kept_filled : Kept (slot s id) filled
     kept_filled = record { here = refl; taken = refl; chunks = refl; list = refl; touched = refl; listed = λ o. o; calm = λ o. o }
 
     -- the same things, and perhaps more room
@@ -42,6 +42,8 @@ module _ (s : Stock) (bags : List Slot) (spare slots id : ℕ) (r : RegionData) 
     pub roomier : SameThings (slot s id).body r → length bags ≡ length s.bags → spare ≡ s.spare → slots ≡ s.slots → Roomier s t
     unfolding next_of
     roomier same long spare_same slots_same = record {
+      found = one_found s bags spare slots id filled e h same.things;
+      arrivals = refl;
       contents = same_flat s t (one_found s bags spare slots id filled e h same.things);
       tasks = same_jobs s t (one_found s bags spare slots id filled e h same.things);
       bags = shown_same same.tick same.owed;

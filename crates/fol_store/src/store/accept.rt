@@ -39,7 +39,7 @@ impl Store {
     }
 
     /// The bag that has the chunk, where it is here and has room for one task more; memory is taken for that.
-    fn bag_with_room(&mut self, c: ChunkPos) -> Option<usize>
+    pub(super) fn bag_with_room(&mut self, c: ChunkPos) -> Option<usize>
         ensures found { ForSome result (TakesTask self.new c) }
         ensures same { Roomier self.old self.new }
     {

@@ -17,7 +17,7 @@ use std::alloc::AllocError;
 
 impl Store {
     ghost use Rattle.fol_store.specs.Stock.{Stock, bag_of, place};
-    ghost use Rattle.fol_store.specs.Steps.{SameMeaning, IsNoted};
+    ghost use Rattle.fol_store.specs.Steps.{SameMeaning, IsNoted, TakesTask};
 
     /// The spot of a chunk, which is made where it has none.
     pub(super) fn spot_of(&mut self, c: ChunkPos) -> Result<usize, AllocError>
@@ -90,7 +90,7 @@ impl Store {
         Ok(i)
     }
 
-    /// Hands every task that came to the spot of its chunk.
+    /// Hands every task that came to the bag that has its chunk or to the spot of its chunk.
     pub(super) fn hand_out(&mut self) -> Result<(), AllocError>
         ensures same { SameMeaning self.old self.new }
         ensures bags { bag_of self.new ≡ bag_of self.old }
@@ -105,7 +105,8 @@ impl Store {
         Ok(())
     }
 
-    /// Hands the last task that came to the spot of its chunk, and notes it for the bag that has the chunk.
+    /// Hands the last task that came to the bag that has its chunk, where that is here and memory is found for it there, and else to
+    /// the spot of its chunk.
     fn hand_out_last(&mut self) -> Result<(), AllocError>
         requires { 0 < length self.old.arrivals }
         ensures same { SameMeaning self.old self.new }
@@ -113,6 +114,41 @@ impl Store {
         ensures len { OnOk result (length self.new.arrivals + 1 ≡ length self.old.arrivals) }
     {
         let c = self.last_chunk();
+        match self.bag_with_room(c) {
+            Some(id) => {
+                self.deliver(id, c);
+                Ok(())
+            }
+            None => self.set_aside(c),
+        }
+    }
+
+    /// Hands the last task that came to the bag that has its chunk.
+    fn deliver(&mut self, id: usize, c: ChunkPos)
+        requires some { 0 < length self.old.arrivals }
+        requires last { (xs : List Dated) (d : Dated) → self.old.arrivals ≡ xs ++ d ∷ []
+            → c ≡ d.task.chunk }
+        requires takes { TakesTask self.old c id }
+        ensures same { SameMeaning self.old self.new }
+        ensures bags { bag_of self.new ≡ bag_of self.old }
+        ensures len { length self.new.arrivals + 1 ≡ length self.old.arrivals }
+    {
+        let _chunk = c;
+        match self.arrivals.pop() {
+            Some(dated) => slots::queue(&mut self.bags, id, dated),
+            None => unreachable!(),
+        }
+    }
+
+    /// Hands the last task that came to the spot of its chunk, and notes it for the bag that has the chunk.
+    fn set_aside(&mut self, c: ChunkPos) -> Result<(), AllocError>
+        requires some { 0 < length self.old.arrivals }
+        requires last { (xs : List Dated) (d : Dated) → self.old.arrivals ≡ xs ++ d ∷ []
+            → c ≡ d.task.chunk }
+        ensures same { SameMeaning self.old self.new }
+        ensures bags { bag_of self.new ≡ bag_of self.old }
+        ensures len { OnOk result (length self.new.arrivals + 1 ≡ length self.old.arrivals) }
+    {
         let i = match self.spot_of(c) {
             Ok(i) => i,
             Err(_) => return Err(AllocError),

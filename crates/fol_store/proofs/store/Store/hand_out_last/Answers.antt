@@ -1,12 +1,25 @@
-use Rattle.std.proofs.Common.{◌∙◌}
-use Rattle.fol_store.proofs.Arriving.{bags_same}
+use Rattle.std.proofs.Common.{◌≡◌, length, refl, ◌∙◌, arith}
+use Rattle.fol_store.specs.Stock.{Stock, next_of}
+use Rattle.fol_store.specs.Steps.{SameMeaning, Roomier}
 use Rattle.fol_store.proofs.store.Store.hand_out_last.Goals as goal
 
-pub returns-in-Err-clause-bags : goal.returns-in-Err-clause-bags
-returns-in-Err-clause-bags c = bags_same _ _ c.spot_of.ensures.bags
+-- what more room leaves as it was stays so through a later step
+through : (a b c : Stock) → Roomier a b → SameMeaning b c → SameMeaning a c
+unfolding next_of
+through a b c roomier same =
+    let bags : length b.bags ≡ length a.bags = roomier.next in
+    record {
+      found = λ k. same.found k ∙ roomier.found k;
+      bags = same.bags ∙ bags;
+      spare = omega (arith, same.spare, roomier.spare);
+      slots = omega (arith, same.slots, roomier.slots);
+    }
 
-pub returns-in-Ok-note-clause-bags : goal.returns-in-Ok-note-clause-bags
-returns-in-Ok-note-clause-bags c = bags_same _ _ c.hand_out_to.ensures.bags ∙ c.note.ensures.bags ∙ bags_same _ _ c.spot_of.ensures.bags
+pub deliver-requires-clause-takes : goal.deliver-requires-clause-takes
+deliver-requires-clause-takes c = c.in-Some.ensures.found c.in-Some.id refl
 
-pub returns-in-Err-note-clause-bags : goal.returns-in-Err-note-clause-bags
-returns-in-Err-note-clause-bags c = c.note.ensures.bags ∙ bags_same _ _ c.spot_of.ensures.bags
+pub returns-in-Some-clause-same : goal.returns-in-Some-clause-same
+returns-in-Some-clause-same c = through _ _ _ c.bag_with_room.ensures.same c.deliver.ensures.same
+
+pub returns-in-None-clause-same : goal.returns-in-None-clause-same
+returns-in-None-clause-same c = through _ _ _ c.bag_with_room.ensures.same c.set_aside.ensures.same
