@@ -1,12 +1,13 @@
 //! The words of an action.
 
-ghost use Rattle.std.specs.Prelude.{◌≡◌, ◌++◌, [], IfOk, string_bytes};
+ghost use Rattle.std.specs.Prelude.{◌≡◌, ◌++◌, [], ◌∷◌, codes, decimal, IfOk, string_bytes};
 ghost use Rattle.fol_model.specs.Nesting.{deed_of};
-ghost use Rattle.fol_model.specs.ReportWords.{action_words};
+ghost use Rattle.fol_model.specs.ReportWords.{action_words, block_words};
 ghost use Rattle.fol_report.specs.Spaced.{spaced};
 
-use crate::words::{put_block, put_chunk, put_number, put_word};
-use fol_model::Action;
+use crate::tail::Tail;
+use crate::words::{push_block, put_block, put_chunk, put_number, put_word};
+use fol_model::{Action, BlockPos};
 use std::alloc::AllocError;
 
 /// Puts the words of an action that has no other inside.
@@ -17,11 +18,7 @@ fn put_plain(out: &mut String, action: &Action) -> Result<(), AllocError>
         ≡ string_bytes out.old ++ spaced (action_words action.now)) }
 {
     match action {
-        Action::Set { at, id } => {
-            put_word(out, "set")?;
-            put_block(out, *at)?;
-            put_number(out, *id)
-        }
+        Action::Set { at, id } => put_set(out, *at, *id),
         Action::Copy { at, to } => {
             put_word(out, "copy")?;
             put_block(out, *at)?;
@@ -47,6 +44,19 @@ fn put_plain(out: &mut String, action: &Action) -> Result<(), AllocError>
         }
         Action::Post { .. } | Action::Every { .. } => unreachable!(),
     }
+}
+
+/// Puts the words of the action that sets a block, the most frequent one.
+fn put_set(out: &mut String, at: BlockPos, id: u16) -> Result<(), AllocError>
+    ensures { IfOk result (λ _. string_bytes out.new
+        ≡ string_bytes out.old ++ spaced (codes "set" ∷ block_words at ++ decimal id ∷ [])) }
+{
+    let mut words = Tail::new();
+    words.push_short(id as u32);
+    words.push_word(b" ");
+    push_block(&mut words, at);
+    words.push_word(b" set");
+    words.put(out)
 }
 
 /// Puts the words of an action, from the outside in.

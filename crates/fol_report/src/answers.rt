@@ -1,9 +1,10 @@
 //! The words of answers: what a load, an unload, a post and a task came to.
 
-ghost use Rattle.std.specs.Prelude.{◌≡◌, ◌++◌, ◌∷◌, flat_map, IfOk, string_bytes};
+ghost use Rattle.std.specs.Prelude.{◌≡◌, ◌++◌, [], ◌∷◌, codes, decimal, flat_map, IfOk, string_bytes};
 ghost use Rattle.fol_model.specs.ReportWords.{accept_words, full_words, loaded_words, outcome_word, ran_words, unloaded_words};
 ghost use Rattle.fol_report.specs.Spaced.{spaced};
 
+use crate::tail::Tail;
 use crate::words::{put_number, put_word};
 use fol_model::{Accept, Loaded, Outcome, Ran, Unloaded};
 use std::alloc::AllocError;
@@ -48,12 +49,20 @@ pub fn put_accept(out: &mut String, answer: Accept) -> Result<(), AllocError>
         ≡ string_bytes out.old ++ spaced (accept_words answer)) }
 {
     match answer {
-        Accept::Posted(number) => {
-            put_word(out, "posted")?;
-            put_number(out, number)
-        }
+        Accept::Posted(number) => put_posted(out, number),
         Accept::Full { present, wanted } => put_full(out, present, wanted),
     }
+}
+
+/// Puts under which number a task was accepted.
+fn put_posted(out: &mut String, number: u64) -> Result<(), AllocError>
+    ensures { IfOk result (λ _. string_bytes out.new
+        ≡ string_bytes out.old ++ spaced (codes "posted" ∷ decimal number ∷ [])) }
+{
+    let mut words = Tail::new();
+    words.push_number(number);
+    words.push_word(b" posted ");
+    words.put(out)
 }
 
 /// Puts what became of each task that a tick asked for.

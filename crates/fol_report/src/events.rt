@@ -8,7 +8,7 @@ use crate::actions::put_action;
 use crate::answers::{put_accept, put_all_accepts, put_all_ran, put_loaded, put_unloaded};
 use crate::lines::Line;
 use crate::tail::Tail;
-use crate::words::{put_chunk, put_number};
+use crate::words::{push_chunk, put_number};
 use fol_model::{Accept, Action, ChunkPos, Entry, Event, Loaded, Ran, Unloaded};
 use std::alloc::AllocError;
 
@@ -112,9 +112,11 @@ fn put_load(
         ≡ string_bytes out.old ++ joined (codes "load" ∷ decimal caller ∷ chunk_words chunk
         ++ loaded_words answer)) }
 {
-    out.push_str("load")?;
-    put_number(out, caller)?;
-    put_chunk(out, chunk)?;
+    let mut line = Tail::new();
+    push_chunk(&mut line, chunk);
+    line.push_short(caller);
+    line.push_word(b"load ");
+    line.put(out)?;
     put_loaded(out, answer)
 }
 
@@ -129,9 +131,11 @@ fn put_unload(
         ≡ string_bytes out.old ++ joined (codes "unload" ∷ decimal caller ∷ chunk_words chunk
         ++ unloaded_words answer)) }
 {
-    out.push_str("unload")?;
-    put_number(out, caller)?;
-    put_chunk(out, chunk)?;
+    let mut line = Tail::new();
+    push_chunk(&mut line, chunk);
+    line.push_short(caller);
+    line.push_word(b"unload ");
+    line.put(out)?;
     put_unloaded(out, answer)
 }
 
@@ -148,10 +152,13 @@ fn put_post(
         ≡ string_bytes out.old ++ joined (codes "post" ∷ decimal caller ∷ chunk_words chunk
         ++ decimal delay ∷ accept_words answer ++ action_words action.now)) }
 {
-    out.push_str("post")?;
-    put_number(out, caller)?;
-    put_chunk(out, chunk)?;
-    put_number(out, delay)?;
+    let mut line = Tail::new();
+    line.push_short(delay);
+    line.push_word(b" ");
+    push_chunk(&mut line, chunk);
+    line.push_short(caller);
+    line.push_word(b"post ");
+    line.put(out)?;
     put_accept(out, answer)?;
     put_action(out, action)
 }

@@ -1,11 +1,17 @@
 //! The lines of the rows of a closing.
 
-ghost use Rattle.fol_model.specs.ReportWords.{block_row_words, entity_words, owner_words, region_words, task_words};
+ghost use Rattle.std.specs.Prelude.{◌≡◌, [], ◌∷◌, ◌++◌, codes, decimal, IfOk, string_bytes};
+ghost use Rattle.std.specs.Fmt.{signed_decimal};
+ghost use Rattle.fol_model.specs.ReportWords.{block_row_words, block_words, entity_words, owner_words, region_words, task_words};
+ghost use Rattle.fol_report.specs.Spaced.{joined};
 
 use crate::actions::put_action;
 use crate::lines::Line;
-use crate::words::{put_block, put_number};
-use fol_model::{BlockAt, EntityRow, OwnerRow, Place, RegionRow, State, TaskRow};
+use crate::tail::Tail;
+use crate::words::{push_block, put_block, put_number};
+use fol_model::{
+    BlockAt, BlockPos, EntityRow, OwnerRow, Place, RegionRow, SectionPos, State, TaskRow,
+};
 use std::alloc::AllocError;
 
 impl Line for RegionRow {
@@ -30,7 +36,7 @@ impl Line for OwnerRow {
     ghost words = { owner_words };
 
     fn put(&self, out: &mut String) -> Result<(), AllocError> {
-        write!(out, "owner {} {} {}", self.at.x, self.at.z, self.region)
+        put_owner(out, self.at, self.region)
     }
 }
 
@@ -66,7 +72,35 @@ impl Line for BlockAt {
     ghost words = { block_row_words };
 
     fn put(&self, out: &mut String) -> Result<(), AllocError> {
-        let at = self.at;
-        write!(out, "block {} {} {} {}", at.x, at.y, at.z, self.id)
+        put_block_row(out, self.at, self.id)
     }
+}
+
+/// Puts the line of a block with a number.
+fn put_block_row(out: &mut String, at: BlockPos, id: u16) -> Result<(), AllocError>
+    ensures { IfOk result (λ _. string_bytes out.new
+        ≡ string_bytes out.old ++ joined (codes "block" ∷ block_words at ++ decimal id ∷ [])) }
+{
+    let mut line = Tail::new();
+    line.push_short(id as u32);
+    line.push_word(b" ");
+    push_block(&mut line, at);
+    line.push_word(b"block");
+    line.put(out)
+}
+
+/// Puts the line of a section with its owner.
+fn put_owner(out: &mut String, at: SectionPos, region: u64) -> Result<(), AllocError>
+    ensures { IfOk result (λ _. string_bytes out.new
+        ≡ string_bytes out.old ++ joined (codes "owner" ∷ signed_decimal at.x
+        ∷ signed_decimal at.z ∷ decimal region ∷ [])) }
+{
+    let mut line = Tail::new();
+    line.push_number(region);
+    line.push_word(b" ");
+    line.push_signed(at.z);
+    line.push_word(b" ");
+    line.push_signed(at.x);
+    line.push_word(b"owner ");
+    line.put(out)
 }

@@ -1,6 +1,7 @@
 //! Text that is made from its last byte to its first.
 
 ghost use Rattle.std.specs.Prelude.{◌≡◌, ◌+◌, ◌≤◌, [], ◌++◌, decimal, length, IfOk, IsAscii, string_bytes};
+ghost use Rattle.std.specs.Fmt.{signed_decimal};
 
 use itoa::write_digits;
 use std::alloc::AllocError;
@@ -47,6 +48,29 @@ impl Tail {
         ensures len { length self.new ≤ length self.old + 20 }
     {
         self.start = write_digits(number, &mut self.bytes, self.start);
+    }
+
+    /// Puts a number in front, of 10 digits at most.
+    #[inline]
+    pub fn push_short(&mut self, number: u32)
+        requires { length self.old + 10 ≤ 80 }
+        ensures text { self.new ≡ decimal number ++ self.old }
+        ensures len { length self.new ≤ length self.old + 10 }
+    {
+        self.start = write_digits(number as u64, &mut self.bytes, self.start);
+    }
+
+    /// Puts a number in front, of 10 digits at most behind its sign.
+    #[inline]
+    pub fn push_signed(&mut self, number: i32)
+        requires { length self.old + 11 ≤ 80 }
+        ensures text { self.new ≡ signed_decimal number ++ self.old }
+        ensures len { length self.new ≤ length self.old + 11 }
+    {
+        self.push_short(number.unsigned_abs());
+        if number < 0 {
+            self.push_word(b"-");
+        }
     }
 
     /// Puts a word in front.

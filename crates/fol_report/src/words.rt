@@ -1,9 +1,10 @@
 //! Words after words: each is put after a space.
 
-ghost use Rattle.std.specs.Prelude.{◌≡◌, ◌++◌, ◌∷◌, IfOk, string_bytes};
+ghost use Rattle.std.specs.Prelude.{◌≡◌, ◌+◌, ◌≤◌, ◌++◌, ◌∷◌, length, IfOk, string_bytes};
 ghost use Rattle.fol_model.specs.ReportWords.{block_words, chunk_words};
 ghost use Rattle.fol_report.specs.Spaced.{spaced};
 
+use crate::tail::Tail;
 use fol_model::{BlockPos, ChunkPos};
 use itoa::{Buffer, Integer};
 use std::alloc::AllocError;
@@ -25,13 +26,42 @@ pub fn put_number<I: Integer>(out: &mut String, number: I) -> Result<(), AllocEr
     put_word(out, buffer.format(number))
 }
 
+/// Puts the coordinates of a chunk in front of a text.
+#[inline]
+pub fn push_chunk(line: &mut Tail, at: ChunkPos)
+    requires { length line.old + 24 ≤ 80 }
+    ensures text { line.new ≡ spaced (chunk_words at) ++ line.old }
+    ensures len { length line.new ≤ length line.old + 24 }
+{
+    line.push_signed(at.z);
+    line.push_word(b" ");
+    line.push_signed(at.x);
+    line.push_word(b" ");
+}
+
+/// Puts the coordinates of a block in front of a text.
+#[inline]
+pub fn push_block(line: &mut Tail, at: BlockPos)
+    requires { length line.old + 36 ≤ 80 }
+    ensures text { line.new ≡ spaced (block_words at) ++ line.old }
+    ensures len { length line.new ≤ length line.old + 36 }
+{
+    line.push_signed(at.z);
+    line.push_word(b" ");
+    line.push_signed(at.y);
+    line.push_word(b" ");
+    line.push_signed(at.x);
+    line.push_word(b" ");
+}
+
 /// Puts the coordinates of a chunk.
 pub fn put_chunk(out: &mut String, at: ChunkPos) -> Result<(), AllocError>
     ensures { IfOk result (λ _. string_bytes out.new
         ≡ string_bytes out.old ++ spaced (chunk_words at)) }
 {
-    put_number(out, at.x)?;
-    put_number(out, at.z)
+    let mut words = Tail::new();
+    push_chunk(&mut words, at);
+    words.put(out)
 }
 
 /// Puts the coordinates of a block.
@@ -39,7 +69,7 @@ pub fn put_block(out: &mut String, at: BlockPos) -> Result<(), AllocError>
     ensures { IfOk result (λ _. string_bytes out.new
         ≡ string_bytes out.old ++ spaced (block_words at)) }
 {
-    put_number(out, at.x)?;
-    put_number(out, at.y)?;
-    put_number(out, at.z)
+    let mut words = Tail::new();
+    push_block(&mut words, at);
+    words.put(out)
 }

@@ -1,4 +1,4 @@
-use Rattle.std.proofs.Common.{◌-◌, drop, arith, take_all, length-drop, length}
+use Rattle.std.proofs.Common.{◌-◌, drop, arith, take_all, length-drop}
 use Rattle.std.proofs.lemmas.Str.{IsUtf8-from_ascii}
 use Rattle.fol_report.proofs.tail.Tail.put.Goals as goal
 
