@@ -218,6 +218,12 @@ module _ (es fs : List Entity) (parted : AreParted es fs) where
         walked_either None g h = walked_still rec g h
         walked_either (Some s) g h = elim (cases_Bool (rec (chunk_of s.at) && rec (chunk_of (ahead s.vx s.vz s.at)))) [ inl t ↦ rw t refl | inr t ↦ rw t refl ]
 
+    -- only entities without a speed
+    pub none_walks : es ≡ [] → (id : ℕ) → walked rec (standing_in (es ++ fs) id) ≡ standing_in (es ++ fs) id
+    none_walks none id =
+        let same : standing_in (es ++ fs) id ≡ standing_in fs id = ap (λ l. standing_in (l ++ fs) id) none in
+        rw same (sym (walked_still rec (standing_in fs id) (parted.all_still id)))
+
     pub stepped_parted : AreParted (map (stepped rec) es) fs
     stepped_parted = record {
       walking_order = order_stepped rec es parted.walking_order;

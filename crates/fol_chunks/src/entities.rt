@@ -5,7 +5,7 @@ ghost use Rattle.std.specs.Option.{option_map, option_len, option_or, is_none};
 ghost use Rattle.std.specs.List.{IsDistinct};
 ghost use Rattle.std.specs.List.Sorted.{IsStrictlySortedBy};
 ghost use Rattle.fol_model.specs.Geometry.{is_chunk, chunk_of as chunk_around};
-ghost use Rattle.fol_model.specs.ActionStep.{at_id, standing_of};
+ghost use Rattle.fol_model.specs.ActionStep.{Recorded, at_id, standing_of};
 ghost use Rattle.fol_model.specs.FlatTick.{walked};
 ghost use Rattle.fol_model.specs.World.{standing_in};
 ghost use Rattle.fol_keyed.specs.Order.{chunk_cmp};
@@ -58,6 +58,14 @@ impl Entities {
         ensures { IsTrue result ↔ (length self.now.members ≡ 0) }
     {
         self.walking.is_empty() && self.still.is_empty()
+    }
+
+    /// Whether no entity has a speed.
+    pub fn is_still(&self) -> bool
+        ensures { IsTrue result → (rec : Recorded) (id : ℕ)
+            → walked rec (standing_in self.now.members id) ≡ standing_in self.now.members id }
+    {
+        self.walking.is_empty()
     }
 
     /// Makes `spare` at least `n`, in both lists, since an entity may have a speed or none. The entities stay either way.

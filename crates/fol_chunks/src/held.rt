@@ -5,7 +5,7 @@ ghost use Rattle.std.specs.Option.{option_map, option_len};
 ghost use Rattle.std.specs.List.{IsDistinct};
 ghost use Rattle.std.specs.List.Sorted.{IsStrictlySortedBy};
 ghost use Rattle.fol_model.specs.Geometry.{is_chunk, same_block};
-ghost use Rattle.fol_model.specs.ActionStep.{Flat, at_block, at_id, standing_of};
+ghost use Rattle.fol_model.specs.ActionStep.{Flat, Recorded, at_block, at_id, standing_of};
 ghost use Rattle.fol_model.specs.FlatTick.{moved};
 ghost use Rattle.fol_model.specs.World.{standing_in};
 ghost use Rattle.fol_keyed.specs.Order.{chunk_cmp};
@@ -57,6 +57,14 @@ impl Held {
         ensures nothing { IsTrue result → flat_of self.now ≡ nothing }
     {
         self.blocks.is_empty() && self.entities.is_empty()
+    }
+
+    /// Whether no entity has a speed, so that a movement changes nothing.
+    pub fn is_still(&self) -> bool
+        ensures { IsTrue result → (rec : Recorded)
+            → moved rec (flat_of self.now) ≡ flat_of self.now }
+    {
+        self.entities.is_still()
     }
 
     /// Makes `spare` at least `n`. The contents stay either way.
