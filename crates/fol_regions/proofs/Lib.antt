@@ -8,6 +8,7 @@ pub mod JoinAll
 pub mod NearRegions
 pub mod NearRuns
 pub mod ReleaseFacts
+pub mod Resting
 pub mod AddSteps
 pub mod GrowSteps
 pub mod AddedGrid

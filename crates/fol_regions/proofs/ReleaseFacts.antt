@@ -49,7 +49,7 @@ unfolding grid_of
 owned_few s b rules = rules.count
 
 -- with fewer dead sections
-fewer_worn : (min size num den dead most : ℕ) → dead ≤ most → (nat_le min size && nat_le (size * num) (most * den)) ≡ false → (nat_le min size && nat_le (size * num) (dead * den)) ≡ false
+pub fewer_worn : (min size num den dead most : ℕ) → dead ≤ most → (nat_le min size && nat_le (size * num) (most * den)) ≡ false → (nat_le min size && nat_le (size * num) (dead * den)) ≡ false
 fewer_worn min size num den dead most l h = elim (cases_Bool (nat_le min size && nat_le (size * num) (dead * den))) [
   | inr e ↦ e
   | inl e ↦

@@ -2,11 +2,13 @@
 
 ghost use Rattle.std.specs.Prelude.{◌≡◌, ℕ, ◌+◌, ◌≤◌, ◌<◌, ◌^◌, not, ◌&&◌, nat_eq, IsTrue, IfOk, OnOk, [], filter, count_by};
 ghost use Rattle.std.specs.Vec.{vec_capacity};
-ghost use Rattle.fol_model.specs.declared.regions.State.TheVariants.{Ticking};
+ghost use Rattle.fol_model.specs.declared.regions.State.TheVariants.{Ready, Ticking};
 ghost use Rattle.fol_model.specs.Geometry.{is_chunk, is_section};
 ghost use Rattle.fol_model.specs.GridState.{empty, is_dead};
 ghost use Rattle.fol_model.specs.Universe.{all_sections, all_chunks, numbers_below};
 ghost use Rattle.fol_model.specs.Add.{add};
+ghost use Rattle.fol_model.specs.Begin.{begin};
+ghost use Rattle.fol_model.specs.Counters.{owed_after_release, tick_after_release};
 ghost use Rattle.fol_model.specs.Drop.{drop_hold};
 ghost use Rattle.fol_model.specs.Release.{release};
 ghost use Rattle.fol_model.specs.Rules.{Rules};
@@ -21,7 +23,7 @@ use crate::counts::count_chunks;
 use crate::dead_bounds::{DeadBounds, forget_joined};
 use crate::dying::note_dying;
 use crate::near::{MOST_NEAR, NearRegions};
-use crate::release::Releaser;
+use crate::release::{Releaser, can_rest};
 use crate::{AddAnswer, Begun, Change};
 use fol_model::{ChunkPos, Grid, MOST_SECTIONS, SectionPos, State};
 use fol_pages::NEAR_PAGES;
@@ -237,6 +239,22 @@ impl Regions {
             most,
         );
         self.dead.set(id, left);
+    }
+
+    /// Whether the end of the next tick of a region changes nothing in the regions, as far as is known without a look at its sections.
+    pub fn will_rest(&self, id: u64) -> bool
+        requires given { IsGiven (grid_state self.now) id }
+        ensures state { IsTrue result → (grid_state self.now).state id ≡ Ready
+            → release (begin (grid_state self.now) id) id ≡ grid_state self.now }
+        ensures ticks { IsTrue result → (grid_state self.now).state id ≡ Ready
+            → (tick : ℕ → ℕ) (r : ℕ)
+            → tick_after_release (begin (grid_state self.now) id) id tick r ≡ tick r }
+        ensures owed { IsTrue result → (grid_state self.now).state id ≡ Ready
+            → (owed : ℕ → ℕ) (r : ℕ)
+            → owed_after_release (begin (grid_state self.now) id) id owed r ≡ owed r }
+    {
+        self.tables.keeps_lists();
+        can_rest(self.grid, &self.tables, &[], id, self.dead.most(id))
     }
 
     /// What the last `add` or `release` changed; nothing after Counted and Full.

@@ -246,7 +246,7 @@ fn must_clean(grid: Grid, joined: usize, size: usize, dead: usize) -> bool
 }
 
 /// Whether a region that these regions joined is not cleaned, whichever of at most `most` of its sections are dead.
-fn can_rest(grid: Grid, tables: &Tables, ids: &[u64], id: u64, most: u32) -> bool
+pub fn can_rest(grid: Grid, tables: &Tables, ids: &[u64], id: u64, most: u32) -> bool
     requires size { length (rows_of tables.now id) ≤ MOST_SECTIONS }
     ensures { result
         ≡ (nat_eq (length ids.now) 0 && (nat_lt most (length (rows_of tables.now id))
