@@ -7,7 +7,9 @@ pub mod BagSteps
 pub mod Accepting
 pub mod Queuing
 pub mod Stirring
+pub mod WholeBag
 pub mod Taking
+pub mod Passing
 pub mod Putting
 pub mod Opening
 pub mod Homes

@@ -2,23 +2,23 @@
 use Rattle.std.proofs.Common.{◌≡◌, ◌≢◌, ℕ, ◌<◌, Bool, true, false, not, List, [], length, refl, sym, ◌∙◌, ap, subst, inl, inr, arith, Option, Some, None}
 use Rattle.std.specs.Prelude.{nat_eq, if◌then◌else◌}
 use Rattle.std.specs.Option.{unwrap_or}
-use Rattle.std.proofs.lemmas.Bool.{cases_Bool, cases_eq}
+use Rattle.std.proofs.lemmas.Bool.{cases_eq}
 use Rattle.std.proofs.Math.Path.{fun_ext}
 use Rattle.fol_model.specs.declared.places.ChunkPos.{ChunkPos}
 use Rattle.fol_model.specs.Geometry.{chunk_of}
 use Rattle.fol_model.specs.Job.{Job}
 use Rattle.fol_queues.specs.Waiting.{option_filter}
-use Rattle.fol_chunks.specs.Contents.{is_recorded, within, outside, flat_of as contents_of}
+use Rattle.fol_chunks.specs.Contents.{is_recorded, outside}
 use Rattle.fol_chunks.proofs.Flats.{flat_is}
-use Rattle.fol_data.specs.Rests.{rests_of}
 use Rattle.fol_data.specs.declared.region_data.RegionData.{RegionData}
 use Rattle.fol_store.specs.declared.slot.Slot.{Slot}
 use Rattle.fol_store.specs.Things.{Key, of_block, of_entity, of_task, Thing, things, chunk_at, IsTimely}
 use Rattle.fol_store.specs.Stock.{Stock, Where, arriving, in_spot, in_bag, slot, column, found, flat_of, jobs_of}
 use Rattle.fol_store.specs.Sound.{IsBag, IsSound}
-use Rattle.fol_store.proofs.Totals.{where_cases, IsUnique, found_of, found_at, found_none, number_is, unwrap_filter}
+use Rattle.fol_store.proofs.Totals.{where_cases, IsUnique, found_of, found_at, found_none, unwrap_filter}
 use Rattle.fol_store.proofs.Resound.{kept_bag, kept_self, whole_alone}
 use Rattle.fol_store.proofs.BagSteps.{with_bags, slot_here, slot_other}
+use Rattle.fol_store.proofs.WholeBag.{inside, outside_it}
 
 module _ (s : Stock) (bags : List Slot) (spare slots id : ℕ) (body : RegionData) where
   -- the bag without its things
@@ -54,16 +54,6 @@ module _ (s : Stock) (bags : List Slot) (spare slots id : ℕ) (body : RegionDat
     taken_unique : IsUnique t
     taken_unique k v w x y q r = h.unique k v w x y (back k v x q).had (back k w y r).had
 
-    inside : (k : Key) (x : Thing k) → column s k (in_bag id) ≡ Some x → rec (chunk_at k x) ≡ true
-    inside k x q = (h.bags id).claims ((h.bags id).opened listed) (chunk_at k x) (h.lies k (in_bag id) x q)
-
-    outside_it : (k : Key) (w : Where) (x : Thing k) → column s k w ≡ Some x → w ≢ in_bag id → rec (chunk_at k x) ≡ false
-    outside_it k w x q n =
-        elim (cases_Bool (rec (chunk_at k x))) [
-          | inl z ↦ absurd (n (whole_alone s id (slot s id) (h.bags id) listed calm k w x q z))
-          | inr z ↦ z
-        ]
-
     found_left : (k : Key) → found t k ≡ option_filter (λ x. not (rec (chunk_at k x))) (found s k)
     found_left k = go (found s k) (found t k) refl refl
       where
@@ -78,10 +68,10 @@ module _ (s : Stock) (bags : List Slot) (spare slots id : ℕ) (body : RegionDat
         some_case x r g w q =
             elim (where_cases w (in_bag id)) [
               | inl z ↦
-                  let in_it : rec (chunk_at k x) ≡ true = inside k x (ap (column s k) (sym z) ∙ q) in
+                  let in_it : rec (chunk_at k x) ≡ true = inside s id h listed calm k x (ap (column s k) (sym z) ∙ q) in
                   rw in_it (gone x w z q r g)
               | inr n ↦
-                  let out_of_it : rec (chunk_at k x) ≡ false = outside_it k w x q n in
+                  let out_of_it : rec (chunk_at k x) ≡ false = outside_it s id h listed calm k w x q n in
                   rw out_of_it (sym g ∙ found_of t taken_unique k w x (col_other k w n ∙ q))
             ]
 
@@ -91,26 +81,6 @@ module _ (s : Stock) (bags : List Slot) (spare slots id : ℕ) (body : RegionDat
             let p = found_at t k y g in
             let b = back k p.0 y p.1 in
             let z : None ≡ Some y = sym (found_none s k f p.0) ∙ b.had in cc
-        go (Some x) r f g = let p = found_at s k x f in some_case x r g p.0 p.1
-
-    found_taken : (k : Key) → column s k (in_bag id) ≡ option_filter (λ x. rec (chunk_at k x)) (found s k)
-    found_taken k = go (found s k) (column s k (in_bag id)) refl refl
-      where
-        absent : (x : Thing k) (w : Where) → w ≢ in_bag id → column s k w ≡ Some x → (r : Option (Thing k)) → column s k (in_bag id) ≡ r → r ≡ None
-        absent x w n q None g = refl
-        absent x w n q (Some y) g = absurd (n (h.unique k w (in_bag id) x y q g))
-
-        some_case : (x : Thing k) (r : Option (Thing k)) → column s k (in_bag id) ≡ r → (w : Where) → column s k w ≡ Some x → r ≡ option_filter (λ y. rec (chunk_at k y)) (Some x)
-        some_case x r g w q =
-            elim (where_cases w (in_bag id)) [
-              | inl z ↦
-                  let here : column s k (in_bag id) ≡ Some x = ap (column s k) (sym z) ∙ q in
-                  rw (inside k x here) (sym g ∙ here)
-              | inr n ↦ rw (outside_it k w x q n) (absent x w n q r g)
-            ]
-
-        go : (o r : Option (Thing k)) → found s k ≡ o → column s k (in_bag id) ≡ r → r ≡ option_filter (λ x. rec (chunk_at k x)) o
-        go None r f g = sym g ∙ found_none s k f (in_bag id)
         go (Some x) r f g = let p = found_at s k x f in some_case x r g p.0 p.1
 
     bag : (u : ℕ) → IsBag t u (slot t u)
@@ -163,13 +133,3 @@ module _ (s : Stock) (bags : List Slot) (spare slots id : ℕ) (body : RegionDat
     pub taken_tasks : jobs_of t ≡ λ n. option_filter (λ (j : Job). not (rec j.chunk)) (jobs_of s n)
     unfolding jobs_of
     taken_tasks = fun_ext (λ n. found_left (of_task n))
-
-    pub body_contents : contents_of (slot s id).body.chunks ≡ within rec (flat_of s)
-    unfolding flat_of
-    body_contents = flat_is (contents_of (slot s id).body.chunks) (within rec (flat_of s))
-        (fun_ext (λ b. sym (number_is ((contents_of (slot s id).body.chunks).blocks b)) ∙ ap (λ o. unwrap_or o 0) (found_taken (of_block b)) ∙ unwrap_filter (rec (chunk_of b)) (found s (of_block b))))
-        (fun_ext (λ n. found_taken (of_entity n)))
-
-    pub body_tasks : rests_of (slot s id).body ≡ λ n. option_filter (λ (j : Job). rec j.chunk) (jobs_of s n)
-    unfolding jobs_of
-    body_tasks = fun_ext (λ n. found_taken (of_task n))

@@ -16,3 +16,4 @@ pub mod Laid
 pub mod TaskRows
 pub mod Lists
 pub mod Noted
+pub mod Passing

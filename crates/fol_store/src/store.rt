@@ -25,6 +25,7 @@ mod draw;
 mod gather;
 mod lay;
 mod part;
+mod quiet;
 mod settle;
 mod unite;
 

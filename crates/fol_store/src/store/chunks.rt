@@ -62,7 +62,7 @@ impl Store {
             spot: place.spot,
             bag: Some(id),
         };
-        let quiet = self.is_quiet(place);
+        let quiet = self.none_waits(place);
         match slots::admit(self.alloc, &mut self.bags, id, c, quiet) {
             Ok(()) => match self.places.set(c, claimed) {
                 Ok(()) => {}
@@ -73,7 +73,7 @@ impl Store {
     }
 
     /// Whether no task waits, and nothing lies in the spot of a chunk with this place.
-    fn is_quiet(&self, place: Place) -> bool
+    fn none_waits(&self, place: Place) -> bool
         requires { (i : ℕ) → place.spot ≡ Some i → i < length self.now.spots }
         ensures waiting { IsTrue result → self.now.arrivals ≡ [] }
         ensures bare { IsTrue result → (i : ℕ) (k : Key) → place.spot ≡ Some i

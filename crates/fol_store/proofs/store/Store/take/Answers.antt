@@ -12,7 +12,8 @@ use Rattle.fol_store.proofs.Totals.{things_none}
 use Rattle.fol_store.proofs.BagSteps.{here_open, bag_slot, bags_shown}
 use Rattle.fol_store.proofs.Opening.{timely_empty}
 use Rattle.fol_store.proofs.Stepping.{listed_here}
-use Rattle.fol_store.proofs.Taking.{emptied, taken_sound, taken_contents, taken_tasks, body_contents, body_tasks}
+use Rattle.fol_store.proofs.Taking.{emptied, taken_sound, taken_contents, taken_tasks}
+use Rattle.fol_store.proofs.WholeBag.{body_contents, body_tasks}
 use Rattle.fol_store.proofs.store.Store.take.Goals as goal
 
 pub take_out-requires : goal.take_out-requires
@@ -76,12 +77,12 @@ returns-clause-in_time c = (timely c).in_time
 pub returns-clause-moved_contents : goal.returns-clause-moved_contents
 unfolding bag_of
 returns-clause-moved_contents c =
-    rw (← c.self.view_is, c.take_out.ensures.body) (body_contents (the_view c.self.inside) c.take_out.new.bags.items (vec_capacity c.self.inside.arrivals - vec_len c.self.inside.arrivals) c.take_out.new.bags.free c.args.id (rest c) c.take_out.ensures.slots (empty c) c.self.invariant (listed c) (calm c))
+    rw (← c.self.view_is, c.take_out.ensures.body) (body_contents (the_view c.self.inside) c.args.id c.self.invariant (listed c) (calm c))
 
 pub returns-clause-moved_tasks : goal.returns-clause-moved_tasks
 unfolding bag_of
 returns-clause-moved_tasks c =
-    rw (← c.self.view_is, c.take_out.ensures.body) (body_tasks (the_view c.self.inside) c.take_out.new.bags.items (vec_capacity c.self.inside.arrivals - vec_len c.self.inside.arrivals) c.take_out.new.bags.free c.args.id (rest c) c.take_out.ensures.slots (empty c) c.self.invariant (listed c) (calm c))
+    rw (← c.self.view_is, c.take_out.ensures.body) (body_tasks (the_view c.self.inside) c.args.id c.self.invariant (listed c) (calm c))
 
 pub returns-clause-contents : goal.returns-clause-contents
 unfolding bag_of
