@@ -66,3 +66,8 @@ pub mod EntityRows
 pub mod ClosingRows
 pub mod Crossing
 pub mod PartedBags
+pub mod QuietWorlds
+pub mod QuietHands
+pub mod QuietBags
+pub mod QuietKept
+pub mod QuietRuns

@@ -17,3 +17,4 @@ pub mod Returned
 pub mod AtEnd
 pub mod MayEnd
 pub mod Closings
+pub mod Quiet

@@ -26,6 +26,7 @@ mod parts;
 mod phase_steps;
 mod phases;
 mod posts;
+mod quiet;
 mod releases;
 mod tables;
 mod wishes;
