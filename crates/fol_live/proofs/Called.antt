@@ -13,14 +13,15 @@ use Rattle.fol_core.specs.declared.answers.Close.{Close}
 use Rattle.fol_core.specs.declared.answers.Finish.{Finish}
 use Rattle.fol_core.specs.Answers.{CloseRecords, FinishRecords, LoadRecords, PostRecords, StopRecords, UnloadRecords, close_result, end_event, finish_result, is_over, load_result, post_result, unload_result}
 use Rattle.fol_core.specs.Meaning.{Meaning, Records, Stays, world_of}
+use Rattle.fol_core.specs.Quiet.{Passes}
 use Rattle.fol_core.specs.Ticks.{SameTick}
 use Rattle.fol_live.specs.declared.answers.LivePhase.{LivePhase}
 use Rattle.fol_live.specs.declared.answers.LiveBegin.{LiveBegin}
 use Rattle.fol_live.specs.declared.answers.Owners.{Owners}
 use Rattle.fol_live.specs.Results.{LiveBegins, LivePhaseRecords, live_phase_result}
-use Rattle.fol_live.specs.Calls.{Begins, Closes, Finishes, ListsOwners, Loads, Opens, Posts, Releases, Stops, Unloads}
+use Rattle.fol_live.specs.Calls.{Begins, Closes, Finishes, ListsOwners, Loads, Opens, PassesOver, Posts, Releases, Stops, Unloads}
 use Rattle.fol_live.specs.Seat.{Shown}
-use Rattle.fol_live.proofs.Bare.{bare_begin, bare_close, bare_finish, bare_load, bare_open, bare_post, bare_records, bare_stays, bare_stop, bare_unload, err_map, ok_map, on_ok_map}
+use Rattle.fol_live.proofs.Bare.{bare_begin, bare_close, bare_finish, bare_load, bare_open, bare_passes, bare_post, bare_records, bare_stays, bare_stop, bare_unload, err_map, ok_map, on_ok_map}
 use Rattle.fol_live.proofs.Taken.{Done, bare, moved}
 
 module _ {old new : Shown} {m n : Meaning} {by : ℕ} (d : Done old new m n by) where
@@ -101,6 +102,14 @@ module _ {old new : Shown} {m n : Meaning} {by : ℕ} (d : Done old new m n by) 
     now = d.now;
     turn = d.turn;
     recorded = moved d (λ a b k. StopRecords a b k (is_over (world_of a))) (bare_stop m n by (is_over (world_of m)) recorded);
+  }
+
+  pub passes : (r ticks : ℕ) → Passes m n by r ticks → PassesOver old new ticks
+  passes r ticks passed = record {
+    now = d.now;
+    turn = d.turn;
+    region = r;
+    passed = moved d (λ a b k. Passes a b k r ticks) (bare_passes m n by r ticks passed);
   }
 
   unfoldable pub begins : (r : Result LiveBegin AllocError) → IfOk r (λ a. LiveBegins m n by a) → OnErr r (Stays m n) → Begins old new r

@@ -9,7 +9,8 @@ use Rattle.fol_model.specs.declared.events.Entry.{Entry}
 use Rattle.fol_model.specs.declared.events.Event.{Event}
 use Rattle.fol_model.specs.declared.events.Loaded.{Loaded}
 use Rattle.fol_model.specs.declared.events.Loaded.TheVariants as loads
-use Rattle.fol_core.specs.Meaning.{Meaning, Records, Stays}
+use Rattle.fol_core.specs.Meaning.{Meaning, Records, Stays, world_of}
+use Rattle.fol_core.specs.Quiet.{Passes, quiet_ticks}
 use Rattle.std.specs.Prelude.{OnOk, Bool, true, false}
 use Rattle.fol_model.specs.declared.events.Unloaded.{Unloaded}
 use Rattle.fol_model.specs.declared.events.Unloaded.TheVariants as unloads
@@ -27,6 +28,7 @@ use Rattle.fol_live.specs.declared.answers.LiveBegin.{LiveBegin}
 use Rattle.fol_live.specs.declared.answers.LiveBegin.TheVariants as begins
 use Rattle.fol_live.specs.Results.{LiveBegins, LivePhaseRecords}
 use Rattle.fol_core.specs.Answers.{CloseRecords, FinishRecords, LoadRecords, PostRecords, StopRecords, UnloadRecords}
+use Rattle.fol_live.proofs.QuietEntries.{quiet_own}
 use Rattle.fol_live.proofs.Taken.{Grew}
 
 pub grew_same : (m n : Meaning) (k : ℕ) → n.opening ≡ m.opening → n.history ≡ m.history → Grew m n k
@@ -98,3 +100,15 @@ grew_begin m n k (Err e) did stays = grew_same m n k stays.opening stays.history
 pub grew_release : (m n : Meaning) (k : ℕ) (event : Event) (r : Result ℕ Tick) → OnOk r (Records m n k event) → OnErr r (Stays m n) → Grew m n k
 grew_release m n k event (Ok length) did stays = grew_one m n k event did
 grew_release m n k event (Err tick) did stays = grew_same m n k stays.opening stays.history
+
+pub grew_pass : (m n : Meaning) (k r ticks : ℕ) → Passes m n k r ticks → Grew m n k
+grew_pass m n k r ticks p = record {
+  opening = p.opening;
+  added = quiet_ticks k r ((world_of m).tick r) ticks;
+  history = p.history;
+  own = quiet_own k r ((world_of m).tick r) ticks;
+}
+
+pub passes_none : (m : Meaning) (k r : ℕ) → Passes m m k r 0
+unfolding quiet_ticks
+passes_none m k r = record { opening = refl; history = sym (append-nil m.history) }

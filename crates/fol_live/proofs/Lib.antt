@@ -1,4 +1,5 @@
 pub mod Taken
+pub mod QuietEntries
 pub mod Grown
 pub mod Bare
 pub mod Called

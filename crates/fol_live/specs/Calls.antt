@@ -14,6 +14,7 @@ use Rattle.fol_core.specs.declared.answers.Close.{Close}
 use Rattle.fol_core.specs.declared.answers.Finish.{Finish}
 use Rattle.fol_core.specs.Answers.{CloseRecords, FinishRecords, LoadRecords, PostRecords, StopRecords, UnloadRecords, close_result, end_event, finish_result, is_over, load_result, post_result, unload_result}
 use Rattle.fol_core.specs.Meaning.{Records, Stays, world_of}
+use Rattle.fol_core.specs.Quiet.{Passes}
 use Rattle.fol_core.specs.Ticks.{SameTick}
 use Rattle.fol_live.specs.declared.answers.LivePhase.{LivePhase}
 use Rattle.fol_live.specs.declared.answers.LiveBegin.{LiveBegin}
@@ -91,6 +92,13 @@ pub record Stops (old new : Shown) : Type 0 where
   pub now : Shown
   pub turn : Turn old now new
   pub recorded : StopRecords (meaning_of now) (meaning_of new) old.number (is_over (world_of (meaning_of now)))
+
+-- so many ticks of one region in which nothing happens were passed over
+pub record PassesOver (old new : Shown) (n : ℕ) : Type 0 where
+  pub now : Shown
+  pub turn : Turn old now new
+  pub region : ℕ
+  pub passed : Passes (meaning_of now) (meaning_of new) old.number region n
 
 -- a tick was asked for
 pub record Begins (old new : Shown) (r : Result LiveBegin AllocError) : Type 0 where

@@ -1,9 +1,10 @@
 -- What a turn adds to what its seat knows.
-use Rattle.std.specs.Prelude.{◌≡◌, List, [], ◌∷◌, ◌++◌}
+use Rattle.std.specs.Prelude.{ℕ, ◌≡◌, List, [], ◌∷◌, ◌++◌}
 use Rattle.fol_model.specs.declared.events.Event.{Event}
 use Rattle.fol_model.specs.declared.events.Entry.{Entry}
-use Rattle.fol_core.specs.Meaning.{Records, Stays}
-use Rattle.fol_live.specs.Calls.{Turn}
+use Rattle.fol_core.specs.Meaning.{Records, Stays, world_of}
+use Rattle.fol_core.specs.Quiet.{quiet_ticks}
+use Rattle.fol_live.specs.Calls.{PassesOver, Turn}
 use Rattle.fol_live.specs.Goes.{Goes}
 use Rattle.fol_live.specs.Kept.{Keeps}
 use Rattle.fol_live.specs.Seat.{Shown, meaning_of}
@@ -29,3 +30,8 @@ OneEventIsOwn = (old now new : Shown) (event : Event) → Turn old now new → R
 -- a turn in which it recorded none
 abbrev pub NoEventIsOwn : Type 0
 NoEventIsOwn = (old now new : Shown) → Turn old now new → Stays (meaning_of now) (meaning_of new) → EndsStill old new
+
+-- a turn in which it passed over ticks
+abbrev pub PassedTicksAreOwn : Type 0
+PassedTicksAreOwn = (old new : Shown) (n : ℕ) → (did : PassesOver old new n)
+    → Goes old new (quiet_ticks old.number did.region ((world_of (meaning_of did.now)).tick did.region) n) × Keeps new.opening new.seen

@@ -37,6 +37,14 @@ pub struct NextTick {
     pub begun: Result<LiveBegin, AllocError>,
 }
 
+/// Ticks that were passed over.
+#[derive(Clone, Copy)]
+pub(crate) struct Passed {
+    pub(crate) region: u64,
+    /// How many.
+    pub(crate) ticks: u32,
+}
+
 /// Which region owns each present section, after so much of the history.
 #[derive(Drop)]
 pub struct Owners {

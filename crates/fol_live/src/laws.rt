@@ -2,7 +2,7 @@
 //! tick to its release. Each law is the contract of a function with an empty body.
 
 ghost use Rattle.fol_live.specs.Held.{BegunTickIsHeld, HeldTickMayRun, RunTickIsOut};
-ghost use Rattle.fol_live.specs.OneTurn.{NoEventIsOwn, OneEventIsOwn};
+ghost use Rattle.fol_live.specs.OneTurn.{NoEventIsOwn, OneEventIsOwn, PassedTicksAreOwn};
 
 /// Where the core recorded an event in a turn, the seat's own entries have grown by just that, and it is the last that the seat has seen.
 pub fn one_event_is_own()
@@ -12,6 +12,11 @@ pub fn one_event_is_own()
 /// Where it recorded none, they have not grown.
 pub fn no_event_is_own()
     ensures { NoEventIsOwn }
+{}
+
+/// Where it passed over ticks in which nothing happens, they have grown by the Begins and Ends of those ticks, one after another.
+pub fn passed_ticks_are_own()
+    ensures { PassedTicksAreOwn }
 {}
 
 /// A seat that began a tick holds it.

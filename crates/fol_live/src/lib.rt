@@ -27,7 +27,8 @@ pub use answers::{LiveBegin, LivePhase, NextTick, Owners};
 pub use fol_core::{Close, CloseFault, Finish, Posting};
 pub use host::LiveHost;
 pub use laws::{
-    begun_tick_is_held, held_tick_may_run, no_event_is_own, one_event_is_own, run_tick_is_out,
+    begun_tick_is_held, held_tick_may_run, no_event_is_own, one_event_is_own, passed_ticks_are_own,
+    run_tick_is_out,
 };
 pub use live::{Live, LiveAndSeats};
 pub use seat::Seat;

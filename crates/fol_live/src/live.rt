@@ -6,12 +6,12 @@ ghost use Rattle.fol_model.specs.Geometry.{is_chunk};
 ghost use Rattle.fol_model.specs.Limits.{is_action, is_delay, may_post};
 ghost use Rattle.fol_core.specs.Ticks.{IsOut};
 ghost use Rattle.fol_lock.specs.Lock.{seat_count};
-ghost use Rattle.fol_live.specs.Calls.{Begins, Closes, Finishes, ListsOwners, Loads, Opens, Posts, Releases, ReleasesAndBegins, Stops, Unloads};
+ghost use Rattle.fol_live.specs.Calls.{Begins, Closes, Finishes, ListsOwners, Loads, Opens, PassesOver, Posts, Releases, ReleasesAndBegins, Stops, Unloads};
 ghost use Rattle.fol_live.specs.Lives.{live_id};
 ghost use Rattle.fol_live.specs.Seat.{meaning_of};
 ghost use Rattle.fol_live.specs.Seats.{AreAllSeats, AreNewSeats, ClosesAll, ClosingFault};
 
-use crate::answers::{LiveBegin, LivePhase, NextTick, Owners};
+use crate::answers::{LiveBegin, LivePhase, NextTick, Owners, Passed};
 use crate::seat::Seat;
 use crate::world::World;
 use fol_core::{Close, CloseFault, Finish, Posting, Tick};
@@ -24,7 +24,8 @@ use std::sync::Wait;
 ///
 /// Each call with a seat waits for the seat's turn, and nothing is promised of when it returns. Its answer is that of a core at this
 /// turn. The seat's number and opening stay; what it has seen goes on to the whole history, which is a run of the opening; and its own
-/// entries grow by the one event of the call, last in what it has seen, or by none. Out of memory records nothing.
+/// entries grow by the one event of the call, last in what it has seen, or by none; `release_and_begin` may record two, an End and the
+/// Begin behind it, and `pass` the Begin and the End of each tick that it passes over. Out of memory records nothing.
 #[derive(Drop)]
 pub struct Live {
     pub(crate) lock: Lock<World>,
@@ -222,6 +223,25 @@ impl Live {
         turn.state().stop(by);
         seat.front = turn.state_ref().front();
         self.lock.give(&mut seat.seat, turn);
+    }
+
+    /// Begins and ends ticks in which nothing happens with the seat's number, which is not 0, as their worker: of one region, the one
+    /// that `begin` would take, as long as it owes a tick, no task is due in it, none of its entities has a speed and its release changes
+    /// nothing, but at most `most`, and none after Finish or Stop. Returns how many. It may be fewer than there are: a tick of which this
+    /// would take long to tell, or for which no memory is found, is left to `begin`.
+    pub fn pass<R: Wait>(&self, rt: &R, seat: &mut Seat, most: u32) -> u32
+        requires own { seat.old.lock ≡ live_id self.now }
+        requires worker { seat.old.number ≢ 0 }
+        ensures few { result ≤ most }
+        ensures passed { PassesOver seat.old seat.new result }
+    {
+        let by = seat.seat.number();
+        let mut turn = self.lock.take(rt, &mut seat.seat);
+        let Passed { region, ticks } = turn.state().pass(by, seat.region, most);
+        seat.front = turn.state_ref().front();
+        seat.region = region;
+        self.lock.give(&mut seat.seat, turn);
+        ticks
     }
 
     /// Begins a tick with the seat's number, which is not 0, as its worker. Over exactly where Finish or Stop stands in the history,

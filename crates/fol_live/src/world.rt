@@ -6,11 +6,12 @@ ghost use Rattle.fol_model.specs.Limits.{is_action, is_delay, may_post};
 ghost use Rattle.fol_model.specs.Outputs.{owner_rows};
 ghost use Rattle.fol_core.specs.Answers.{CloseRecords, FinishRecords, LoadRecords, PostRecords, StopRecords, UnloadRecords, close_result, end_event, finish_result, is_over, load_result, post_result, unload_result};
 ghost use Rattle.fol_core.specs.Meaning.{Records, Stays, world_of};
+ghost use Rattle.fol_core.specs.Quiet.{Passes};
 ghost use Rattle.fol_core.specs.Ticks.{IsOut, SameTick};
 ghost use Rattle.fol_live.specs.Results.{EndsAndBegins, LiveBegins, LivePhaseRecords, live_phase_result};
 ghost use Rattle.fol_live.specs.Kept.{Keeps};
 
-use crate::answers::{LiveBegin, LivePhase, NextTick};
+use crate::answers::{LiveBegin, LivePhase, NextTick, Passed};
 use fol_core::{BeginAnswer, Close, Core, Finish, Phase, Posting, Tick};
 use fol_lock::Kept;
 use fol_model::{Action, ChunkPos, Entry, Loaded, Opening, OwnerRow, Unloaded};
@@ -234,6 +235,22 @@ impl World {
             BeginAnswer::NotOwing => unreachable!(),
             BeginAnswer::Over => unreachable!(),
         }
+    }
+
+    /// `Core::pass` by the worker of this number. The region is `first` where that is Ready and owes a tick, and else which one is free;
+    /// where none does, no tick is passed over.
+    pub(crate) fn pass(&mut self, by: u32, first: u64, most: u32) -> Passed
+        requires worker { by ≢ 0 }
+        ensures before { Keeps self.old.opening self.old.history }
+        ensures after { Keeps self.new.opening self.new.history }
+        ensures few { result.ticks ≤ most }
+        ensures passed { Passes self.old self.new by result.region result.ticks }
+    {
+        let core: &mut Core = &mut self.core;
+        let region = core.next_owing(first).unwrap_or(first);
+        let ticks = core.pass(by, region, most);
+        let _entries = core.history();
+        Passed { region, ticks }
     }
 
     /// `Core::release` of a tick that is out in a world that keeps what every world keeps.

@@ -2,6 +2,7 @@
 pub mod Asked
 pub mod Going
 pub mod TickSteps
+pub mod QuietTurns
 -- the script
 pub mod LineActions
 pub mod Issuing

@@ -1,6 +1,6 @@
 //! The ticks of a worker.
 
-ghost use Rattle.std.specs.Prelude.{◌≡◌, OnErr, OnOk};
+ghost use Rattle.std.specs.Prelude.{◌≡◌, IfOk, OnErr, OnOk};
 ghost use Rattle.fol_live.specs.Lives.{live_id};
 ghost use Rattle.fol_pool.specs.Works.{HasRun, Holds, IsStuck, SameSeat, Works};
 
@@ -11,6 +11,10 @@ use fol_live::{Live, LiveBegin, LiveHost, NextTick, Seat};
 use fol_tick::run_tick;
 use std::alloc::{AllocError, Global};
 use std::sync::Wait;
+
+/// How many ticks in which nothing happens are passed over in one turn of the lock: as many as take a few microseconds, so that nobody
+/// waits long for the lock.
+const QUIET_TICKS: u32 = 64;
 
 /// Why a worker has no tick.
 #[derive(Clone, Copy)]
@@ -24,7 +28,7 @@ pub(crate) enum Rest {
 }
 
 /// Begins, runs and ends ticks, until there is no next one. Each End and the Begin behind it are one turn of the lock. The gate is passed
-/// between the Begin and the End of each.
+/// between the Begin and the End of each; but where it does not watch, ticks in which nothing happens are passed over.
 pub(crate) fn ticks<R: Wait, G: Gate + Sync>(
     rt: &R,
     alloc: Global,
@@ -39,18 +43,59 @@ pub(crate) fn ticks<R: Wait, G: Gate + Sync>(
     ensures works { Works result.0 }
 {
     let mut seat = seat;
-    match live.begin(rt, alloc, &mut seat) {
-        Ok(LiveBegin::Got(tick)) => run_on(rt, alloc, live, seat, tick, patience, gate),
-        Ok(LiveBegin::Idle) => (seat, Rest::Idle),
-        Ok(LiveBegin::Over) => (seat, Rest::Over),
-        Err(_) => {
-            live.stop(rt, &mut seat);
-            (seat, Rest::Over)
+    for _turn in rt.forever() {
+        if pass_over(rt, live, &mut seat, patience, gate) {
+            return (seat, Rest::Left);
+        }
+        match live.begin(rt, alloc, &mut seat) {
+            Ok(LiveBegin::Got(tick)) => {
+                let (back, rest) = run_on(rt, alloc, live, seat, tick, patience, gate);
+                seat = back;
+                if let Some(rest) = rest {
+                    return (seat, rest);
+                }
+            }
+            Ok(LiveBegin::Idle) => return (seat, Rest::Idle),
+            Ok(LiveBegin::Over) => return (seat, Rest::Over),
+            Err(_) => {
+                live.stop(rt, &mut seat);
+                return (seat, Rest::Over);
+            }
         }
     }
+    unreachable!()
 }
 
-/// Runs and ends a tick that was begun, and then each one that is begun in the turn of an End, until there is no next one.
+/// Where the gate does not watch, passes over ticks in which nothing happens, as long as there are some. Whether it left the next ones to
+/// others, since too many wait for the lock.
+fn pass_over<R: Wait, G: Gate + Sync>(
+    rt: &R,
+    live: &Live,
+    seat: &mut Seat,
+    patience: &mut Patience,
+    gate: &G,
+) -> bool
+    requires own { seat.old.lock ≡ live_id live.now }
+    requires works { Works seat.old }
+    ensures same { SameSeat seat.old seat.new }
+    ensures works { Works seat.new }
+{
+    if gate.watches() {
+        return false;
+    }
+    for _turn in rt.forever() {
+        if live.pass(rt, seat, QUIET_TICKS) == 0 {
+            return false;
+        }
+        if patience.leaves(live.crowd()) {
+            return true;
+        }
+    }
+    unreachable!()
+}
+
+/// Runs and ends a tick that was begun, and then each one that is begun in the turn of an End, until there is no next one. It gives no
+/// reason where the gate does not watch and nothing happened in the last tick: the next ones may be like it, and are passed over then.
 fn run_on<R: Wait, G: Gate + Sync>(
     rt: &R,
     alloc: Global,
@@ -59,7 +104,7 @@ fn run_on<R: Wait, G: Gate + Sync>(
     tick: Tick,
     patience: &mut Patience,
     gate: &G,
-) -> (Seat, Rest)
+) -> (Seat, Option<Rest>)
     requires own { seat.lock ≡ live_id live.now }
     requires holds { Holds seat tick }
     ensures same { SameSeat seat result.0 }
@@ -68,34 +113,33 @@ fn run_on<R: Wait, G: Gate + Sync>(
     let mut seat = seat;
     let mut tick = tick;
     for _turn in rt.forever() {
+        let is_quiet = !gate.watches() && is_quiet(&tick);
         gate.passed(tick.worker, tick.region);
         let (back, ran) = run(rt, alloc, live, seat, &mut tick);
         seat = back;
         if ran.is_err() {
             let rest = give_up(rt, live, &mut seat, tick);
-            return (seat, rest);
+            return (seat, Some(rest));
         }
         if patience.leaves(live.crowd()) {
-            let rest = leave(rt, alloc, live, &mut seat, tick);
+            let rest = end(rt, alloc, live, &mut seat, tick, Some(Rest::Left));
             return (seat, rest);
         }
-        match live.release_and_begin(rt, alloc, &mut seat, tick) {
-            Ok(next) => match begun_next(next) {
-                Ok(LiveBegin::Got(begun)) => tick = begun,
-                Ok(LiveBegin::Idle) => return (seat, Rest::Idle),
-                Ok(LiveBegin::Over) => return (seat, Rest::Over),
-                Err(_) => {
-                    live.stop(rt, &mut seat);
-                    return (seat, Rest::Over);
-                }
-            },
-            Err(back) => {
-                let rest = give_up(rt, live, &mut seat, back);
-                return (seat, rest);
-            }
+        if is_quiet {
+            let rest = end(rt, alloc, live, &mut seat, tick, None);
+            return (seat, rest);
+        }
+        match renew(rt, alloc, live, &mut seat, tick) {
+            Ok(next) => tick = next,
+            Err(rest) => return (seat, Some(rest)),
         }
     }
     unreachable!()
+}
+
+/// Whether nothing happens in a tick of which nothing has run: no task is due, and no entity has a speed.
+fn is_quiet(tick: &Tick) -> bool {
+    tick.due.is_empty() && tick.body.chunks.is_still()
 }
 
 /// Runs a tick that was begun, but does not end it.
@@ -117,6 +161,34 @@ fn run<R: Wait>(
     (host.into_seat(), ran)
 }
 
+/// Ends a tick that has run, and begins the next one. Where there is none, it tells why.
+fn renew<R: Wait>(
+    rt: &R,
+    alloc: Global,
+    live: &Live,
+    seat: &mut Seat,
+    tick: Tick,
+) -> Result<Tick, Rest>
+    requires own { seat.old.lock ≡ live_id live.now }
+    requires ran { HasRun seat.old tick }
+    ensures same { SameSeat seat.old seat.new }
+    ensures holds { IfOk result (λ next. Holds seat.new next) }
+    ensures works { OnErr result (Works seat.new) }
+{
+    match live.release_and_begin(rt, alloc, seat, tick) {
+        Ok(next) => match begun_next(next) {
+            Ok(LiveBegin::Got(begun)) => Ok(begun),
+            Ok(LiveBegin::Idle) => Err(Rest::Idle),
+            Ok(LiveBegin::Over) => Err(Rest::Over),
+            Err(_) => {
+                live.stop(rt, seat);
+                Err(Rest::Over)
+            }
+        },
+        Err(tick) => Err(give_up(rt, live, seat, tick)),
+    }
+}
+
 /// What came of asking for the next tick.
 fn begun_next(next: NextTick) -> Result<LiveBegin, AllocError>
     ensures { result ≡ next.begun }
@@ -124,16 +196,23 @@ fn begun_next(next: NextTick) -> Result<LiveBegin, AllocError>
     next.begun
 }
 
-/// Ends a tick that has run, and leaves the next one to others.
-fn leave<R: Wait>(rt: &R, alloc: Global, live: &Live, seat: &mut Seat, tick: Tick) -> Rest
+/// Ends a tick that has run, and begins no other. Returns what is given, unless memory was not found and the world was stopped.
+fn end<R: Wait>(
+    rt: &R,
+    alloc: Global,
+    live: &Live,
+    seat: &mut Seat,
+    tick: Tick,
+    rest: Option<Rest>,
+) -> Option<Rest>
     requires own { seat.old.lock ≡ live_id live.now }
     requires ran { HasRun seat.old tick }
     ensures same { SameSeat seat.old seat.new }
     ensures works { Works seat.new }
 {
     match live.release(rt, alloc, seat, tick) {
-        Ok(_) => Rest::Left,
-        Err(tick) => give_up(rt, live, seat, tick),
+        Ok(_) => rest,
+        Err(tick) => Some(give_up(rt, live, seat, tick)),
     }
 }
 
