@@ -108,7 +108,3 @@ grew_pass m n k r ticks p = record {
   history = p.history;
   own = quiet_own k r ((world_of m).tick r) ticks;
 }
-
-pub passes_none : (m : Meaning) (k r : ℕ) → Passes m m k r 0
-unfolding quiet_ticks
-passes_none m k r = record { opening = refl; history = sym (append-nil m.history) }
