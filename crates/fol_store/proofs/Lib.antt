@@ -28,7 +28,6 @@ pub mod Timing
 pub mod Ordered
 pub mod Listing
 pub mod RowLists
-pub mod Returning
 pub mod Crossing
 pub mod OneMore
 pub mod Coming

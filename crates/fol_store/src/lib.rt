@@ -26,8 +26,6 @@ mod sorting;
 mod spots;
 mod store;
 mod taken;
-#[cfg(test)]
-mod tests;
 mod waiting;
 
 pub use rows::Rows;

@@ -1,4 +1,4 @@
-//! What only a run can show.
+//! A store of a world with one region, whose bag goes out, comes back, follows chunks, is united and falls apart.
 
 ghost use Rattle.std.specs.Prelude.{◌≡◌, ◌≤◌, true, IfOk, None};
 ghost use Rattle.fol_model.specs.ActionStep.{at_id};
@@ -6,8 +6,8 @@ ghost use Rattle.fol_store.specs.Bag.{is_whole, new_bag, no_bag};
 ghost use Rattle.fol_store.specs.Relisted.{IsInOrder};
 ghost use Rattle.fol_store.specs.Stock.{bag_of, jobs_of, next_of};
 
-use crate::{Rows, Store};
 use fol_model::{Action, BlockAt, BlockPos, ChunkPos, Entity, Grid, Opening, Sequence, Task};
+use fol_store::{Rows, Store};
 use std::alloc::{AllocError, Global};
 use std::test::Fail;
 

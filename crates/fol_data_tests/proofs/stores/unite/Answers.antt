@@ -3,7 +3,7 @@ use Rattle.fol_model.specs.Job.{Job}
 use Rattle.std.specs.List.Sorted.{IsStrictlySortedBy}
 use Rattle.fol_store.specs.Bag.{Bag, new_bag}
 use Rattle.fol_store.specs.Stock.{jobs_of, bag_of}
-use Rattle.fol_store.proofs.tests.unite.Goals as goal
+use Rattle.fol_data_tests.proofs.stores.unite.Goals as goal
 
 pub gain-requires-clause-order : goal.gain-requires-clause-order
 unfolding IsStrictlySortedBy

@@ -3,7 +3,7 @@ use Rattle.std.specs.List.Sorted.{IsStrictlySortedBy}
 use Rattle.fol_model.specs.Geometry.{is_block, is_chunk, chunk_of}
 use Rattle.fol_model.specs.Limits.{is_entity, is_entity_id}
 use Rattle.fol_model.specs.Universe.{block_cmp}
-use Rattle.fol_store.proofs.tests.opening.Goals as goal
+use Rattle.fol_data_tests.proofs.stores.opening.Goals as goal
 
 pub invariant_of-result : goal.invariant_of-result
 unfolding IsStrictlySortedBy block_cmp is_block is_chunk chunk_of is_entity is_entity_id
