@@ -21,8 +21,6 @@ mod runs;
 mod sections;
 mod squares;
 mod stretches;
-#[cfg(test)]
-mod tests;
 mod turns;
 
 pub use answers::{Added, Removed};

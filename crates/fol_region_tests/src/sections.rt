@@ -2,8 +2,8 @@
 //!
 //! A table ends with a call of `drop`, so that what it gives back is proved once, and not again in each test.
 
-use crate::{Added, Removed, Sections};
 use fol_model::{ChunkPos, Grid, SectionPos, distance, section_of};
+use fol_sections::{Added, Removed, Sections};
 use std::alloc::Global;
 use std::fmt::Debug;
 use std::process::Abort;

@@ -1,6 +1,6 @@
 use Rattle.std.proofs.Common.{◌≡◌, [], ◌∷◌}
 use Rattle.std.specs.List.{IsDistinct}
-use Rattle.fol_sections.proofs.tests.drop_one.Goals as goal
+use Rattle.fol_region_tests.proofs.sections.drop_one.Goals as goal
 
 pub drop_dead-requires-clause-distinct : goal.drop_dead-requires-clause-distinct
 unfolding IsDistinct
