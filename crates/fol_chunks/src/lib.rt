@@ -19,7 +19,5 @@ mod ground;
 mod held;
 mod moves;
 mod steps;
-#[cfg(test)]
-mod tests;
 
 pub use chunks::Chunks;

@@ -14,8 +14,6 @@ mod log;
 mod prepared;
 mod run;
 mod step;
-#[cfg(test)]
-mod tests;
 
 pub use host::Host;
 pub use list_host::{HostAnswer, ListHost};

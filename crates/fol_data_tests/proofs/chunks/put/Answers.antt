@@ -2,7 +2,7 @@ use Rattle.std.proofs.Common.{◌≡◌, ◌∙◌, true, ap, refl, None, nat_eq
 use Rattle.std.proofs.lemmas.Bool.{eq-eqb}
 use Rattle.fol_model.specs.ActionStep.{Flat}
 use Rattle.fol_model.specs.World.{standing_in}
-use Rattle.fol_chunks.proofs.tests.put.Goals as goal
+use Rattle.fol_data_tests.proofs.chunks.put.Goals as goal
 
 pub put_entity-requires-clause-fresh : goal.put_entity-requires-clause-fresh
 put_entity-requires-clause-fresh c =

@@ -5,7 +5,7 @@ use Rattle.std.proofs.lemmas.List.Elements.{All-from_recursion}
 use Rattle.fol_model.specs.declared.places.ChunkPos.{ChunkPos}
 use Rattle.fol_model.specs.Geometry.{is_chunk}
 use Rattle.fol_model.specs.Universe.{chunk_cmp}
-use Rattle.fol_tick.proofs.tests.chunks.Goals as goal
+use Rattle.fol_data_tests.proofs.ticks.chunks.Goals as goal
 
 pub returns-clause-order : goal.returns-clause-order
 unfolding IsStrictlySortedBy chunk_cmp

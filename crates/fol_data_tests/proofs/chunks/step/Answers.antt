@@ -5,22 +5,18 @@ use Rattle.std.proofs.lemmas.List.Elements.{All-nil, All-cons}
 use Rattle.fol_model.specs.declared.places.ChunkPos.{ChunkPos}
 use Rattle.fol_model.specs.Geometry.{is_chunk}
 use Rattle.fol_model.specs.Universe.{chunk_cmp}
-use Rattle.fol_chunks.proofs.tests.step_in_corner.Goals as goal
+use Rattle.fol_data_tests.proofs.chunks.step.Goals as goal
 
 pub step_entities-requires-clause-order : goal.step_entities-requires-clause-order
 unfolding IsStrictlySortedBy chunk_cmp
-step_entities-requires-clause-order c = ((refl, (refl, tt)), ((refl, tt), (tt, tt)))
+step_entities-requires-clause-order c = ((refl, tt), (tt, tt))
 
--- the second chunk and the third
+-- the second chunk
 second : ChunkPos
 second = record { x = pos 1; z = pos 0 }
 
-third : ChunkPos
-third = record { x = pos 0; z = pos 1 }
-
 pub step_entities-requires-clause-places : goal.step_entities-requires-clause-places
-unfolding is_chunk second third
+unfolding is_chunk second
 step_entities-requires-clause-places c =
-    All-cons (λ (q : ChunkPos). IsTrue (is_chunk q)) (record { x = pos 0; z = pos 0 }) (second ∷ third ∷ []) refl
-    (All-cons (λ (q : ChunkPos). IsTrue (is_chunk q)) second (third ∷ []) refl
-    (All-cons (λ (q : ChunkPos). IsTrue (is_chunk q)) third [] refl (All-nil (λ (q : ChunkPos). IsTrue (is_chunk q)))))
+    All-cons (λ (q : ChunkPos). IsTrue (is_chunk q)) (record { x = pos 0; z = pos 0 }) (second ∷ []) refl
+    (All-cons (λ (q : ChunkPos). IsTrue (is_chunk q)) second [] refl (All-nil (λ (q : ChunkPos). IsTrue (is_chunk q))))

@@ -6,7 +6,7 @@ use Rattle.fol_model.specs.ActionStep.{Flat}
 use Rattle.fol_model.specs.declared.tasks.Task.{Task}
 use Rattle.fol_chunks.specs.Contents.{flat_of}
 use Rattle.fol_tick.specs.Runs.{arrivals, AreFresh}
-use Rattle.fol_tick.proofs.tests.tick_of.Goals as goal
+use Rattle.fol_data_tests.proofs.ticks.tick_of.Goals as goal
 
 -- nobody arrives, or only one that stands nowhere
 fresh_few : (f : Flat) (ts : List Task) → (arrivals ts ≡ []) ⊎ (arrivals ts ≡ 2 ∷ []) → IsNone (f.standing 2) → AreFresh f ts

@@ -9,7 +9,7 @@ use Rattle.fol_model.specs.Geometry.{chunk_of, same_block}
 use Rattle.fol_model.specs.Universe.{chunk_cmp}
 use Rattle.fol_keyed.proofs.Places.{same_block-true}
 use Rattle.fol_chunks.specs.Contents.{flat_of, is_listed}
-use Rattle.fol_chunks.proofs.tests.blocks_meet_in_their_chunks.Goals as goal
+use Rattle.fol_data_tests.proofs.chunks.blocks_meet_in_their_chunks.Goals as goal
 
 abbrev pair : BlockPos → BlockPos → BlockPos → ℕ
 pair first second = at_block (at_block (λ b. 0) first 9) second 9

@@ -1,10 +1,10 @@
-//! What only a run can show.
+//! Blocks and entities that are put in, walk, are listed and are moved.
 
 ghost use Rattle.std.specs.Prelude.{◌≡◌, ◌<◌, ◌≤◌, pos, None, IfOk};
 ghost use Rattle.fol_model.specs.ActionStep.{at_block};
 ghost use Rattle.fol_chunks.specs.Contents.{flat_of, size_of};
 
-use crate::Chunks;
+use fol_chunks::Chunks;
 use fol_model::{BlockAt, BlockPos, ChunkPos, Entity};
 use std::alloc::{AllocError, Global};
 use std::test::Fail;

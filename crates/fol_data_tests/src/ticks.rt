@@ -1,4 +1,4 @@
-//! What only a run can show.
+//! Ticks whose tasks load, act, and repeat.
 
 ghost use Rattle.std.specs.Prelude.{◌≡◌, [], ◌∷◌, ◌⊎◌, pos, All, IsTrue, IsNone, IfOk};
 ghost use Rattle.std.specs.List.Sorted.{IsStrictlySortedBy};
@@ -10,13 +10,13 @@ ghost use Rattle.fol_chunks.specs.Order.{chunk_cmp};
 ghost use Rattle.fol_chunks.specs.Contents.{flat_of};
 ghost use Rattle.fol_tick.specs.Runs.{MayRun, arrivals};
 
-use crate::{HostAnswer, ListHost, run_tick};
 use fol_chunks::Chunks;
 use fol_data::{RegionData, Size, Tick};
 use fol_model::{
     Action, BlockPos, ChunkPos, Entity, Nested, Outcome, Ran, Sequence, Task, TickLog, Unloaded,
     Wish,
 };
+use fol_tick::{HostAnswer, ListHost, run_tick};
 use std::alloc::{AllocError, Global};
 
 const HERE: BlockPos = BlockPos { x: 3, y: 64, z: 0 };

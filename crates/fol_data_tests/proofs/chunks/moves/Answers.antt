@@ -6,7 +6,7 @@ use Rattle.fol_model.specs.ActionStep.{Flat, Standing}
 use Rattle.fol_chunks.specs.Contents.{flat_of, within, is_listed, option_filter}
 use Rattle.fol_chunks.proofs.Flats.{apart_kinds}
 use Rattle.fol_model.specs.Universe.{chunk_cmp}
-use Rattle.fol_chunks.proofs.tests.moves.Goals as goal
+use Rattle.fol_data_tests.proofs.chunks.moves.Goals as goal
 
 -- the two chunks
 chunks : List ChunkPos

@@ -4,7 +4,7 @@ use Rattle.std.proofs.lemmas.List.Elements.{All-from_recursion}
 use Rattle.fol_model.specs.declared.tasks.Task.{Task}
 use Rattle.fol_model.specs.Geometry.{is_block, is_chunk, chunk_of}
 use Rattle.fol_model.specs.Limits.{is_action}
-use Rattle.fol_tick.proofs.tests.plain_tasks.Goals as goal
+use Rattle.fol_data_tests.proofs.ticks.plain_tasks.Goals as goal
 
 pub returns-clause-limits : goal.returns-clause-limits
 unfolding is_block is_chunk chunk_of

@@ -1,7 +1,7 @@
 use Rattle.std.proofs.Common.{◌≡◌, ap, refl, None}
 use Rattle.fol_model.specs.ActionStep.{Flat}
 use Rattle.fol_model.specs.World.{standing_in}
-use Rattle.fol_chunks.proofs.tests.with_walker.Goals as goal
+use Rattle.fol_data_tests.proofs.chunks.with_walker.Goals as goal
 
 pub put_entity-requires-clause-fresh : goal.put_entity-requires-clause-fresh
 put_entity-requires-clause-fresh c =
