@@ -1,16 +1,19 @@
 -- Reading digits from the left, with far numbers kept apart.
-use Rattle.std.proofs.Common.{◌≡◌, ℕ, zero, suc, ◌+◌, ◌-◌, ◌-ℤ◌, ◌*◌, ◌<◌, ◌≤◌, inl, inr, true, false, List, [], ◌∷◌, length, get_or, take, refl, sym, ap, ◌∙◌, arith}
+use Rattle.std.proofs.Common.{◌≡◌, ℕ, zero, suc, ◌+◌, ◌⊎◌, ◌-◌, ◌-ℤ◌, ◌*◌, ◌<◌, ◌≤◌, inl, inr, true, false, List, [], ◌∷◌, length, get_or, take, drop, refl, sym, ap, ◌∙◌, arith}
 use Rattle.std.specs.Char.{digit_value}
 use Rattle.std.specs.Str.Parse.{AllDigits, digits_value}
-use Rattle.std.proofs.lemmas.Str.Parse.{digit_at}
+use Rattle.std.proofs.lemmas.Str.Parse.{numerals_by_value}
+use Rattle.fol_script.specs.Letters.{is_no_digit}
+use Rattle.std.specs.List.{position_or_len}
+use Rattle.std.proofs.lemmas.List.Sums.{position_or_len_is}
+use Rattle.std.proofs.lemmas.List.{take_all}
 use Rattle.std.proofs.lemmas.Int.Digits.{digits_value_more}
 use Rattle.std.proofs.lemmas.Bool.Decides.{nat_tests}
 use Rattle.std.proofs.lemmas.Bool.{cases_lt}
-use Rattle.std.proofs.Common.{ℤ, pos, negsuc, neg_ℤ, ◌≤ℤ◌, ◌≢◌, Some, None, int_lt, rules, eqb}
+use Rattle.std.proofs.Common.{ℤ, pos, negsuc, neg_ℤ, ◌≤ℤ◌, ◌≢◌, Some, None, int_lt, rules, eqb, Bool, not, ◌&&◌, ◌||◌, subst}
 use borrow.Author.Differences.{ints}
 use Rattle.std.specs.Char.{is_ascii_digit}
 use Rattle.std.specs.List.{list_all}
-use Rattle.std.proofs.lemmas.Str.Parse.{numerals_by_value}
 use Rattle.std.proofs.lemmas.Bool.{and_parts, cases_Bool, eqb-true}
 use Rattle.fol_model.specs.declared.words.Reading.TheVariants.{NoNumber, Outside}
 use Rattle.fol_model.specs.TextNumbers.{Near, is_natural, natural, within, negated, positive}
@@ -18,12 +21,11 @@ use Rattle.fol_model.specs.TextNumbers.{Near, is_natural, natural, within, negat
 pub digit_is : (c : ℕ) → 48 ≤ c → c ≤ 57 → digit_value c ≡ c - 48
 digit_is c low high = grind (arith, nat_tests)
 
-pub more_near : (ds : List ℕ) (i m : ℕ) → AllDigits 10 ds → i < length ds → m < 10000000000 → Near m (digits_value 10 (take i ds)) → Near (m * 10 + (get_or ds i 0 - 48)) (digits_value 10 (take (i + 1) ds))
-more_near ds i m digits lt small near =
-    let r = digit_at ds i digits lt in
-    let d = digit_is (get_or ds i 0) r.0 r.1 in
+pub more_near : (ds : List ℕ) (i m : ℕ) → 48 ≤ get_or ds i 0 → get_or ds i 0 ≤ 57 → i < length ds → m < 10000000000 → Near m (digits_value 10 (take i ds)) → Near (m * 10 + (get_or ds i 0 - 48)) (digits_value 10 (take (i + 1) ds))
+more_near ds i m low high lt small near =
+    let d = digit_is (get_or ds i 0) low high in
     let e = digits_value_more 10 ds i lt in (
-      omega (arith, r.1),
+      omega (arith, high),
       elim near.1 [
         | inl same ↦ inl (rw (e, d, same) refl)
         | inr far ↦ absurd (omega (arith, far.0))
@@ -43,12 +45,66 @@ far_near ds i m lt far near =
 eqb_of_ne : (n : ℕ) → n ≢ 0 → eqb n 0 ≡ false
 eqb_of_ne n h = elim (cases_Bool (eqb n 0)) [ inl e ↦ absurd (h (eqb-true n 0 e)) | inr e ↦ e ]
 
-pub step_near : (ds : List ℕ) (i m n : ℕ) → AllDigits 10 ds → i < length ds → (10000000000 ≤ m → n ≡ m) → (m < 10000000000 → n ≡ m * 10 + (get_or ds i 0 - 48)) → Near m (digits_value 10 (take i ds)) → Near n (digits_value 10 (take (i + 1) ds))
-step_near ds i m n digits lt far near so_far =
+pub step_near : (ds : List ℕ) (i m n : ℕ) → 48 ≤ get_or ds i 0 → get_or ds i 0 ≤ 57 → i < length ds → (10000000000 ≤ m → n ≡ m) → (m < 10000000000 → n ≡ m * 10 + (get_or ds i 0 - 48)) → Near m (digits_value 10 (take i ds)) → Near n (digits_value 10 (take (i + 1) ds))
+step_near ds i m n least most lt far near so_far =
     elim (cases_lt m 10000000000) [
-      | inl small ↦ rw (near small) (more_near ds i m digits lt small so_far)
+      | inl small ↦ rw (near small) (more_near ds i m least most lt small so_far)
       | inr large ↦ rw (far large) (far_near ds i m lt large so_far)
     ]
+
+pub more_below : (text : List ℕ) (n : ℕ) → is_ascii_digit (get_or text n 0) ≡ true → ((k : ℕ) → k < n → is_no_digit (get_or text k 0) ≡ false) → (k : ℕ) → k < n + 1 → is_no_digit (get_or text k 0) ≡ false
+more_below text n here before k lt = elim (cases_lt k n) [
+  | inl below ↦ before k below
+  | inr at ↦ let e : k ≡ n = omega (arith, lt, at) in subst (λ (j : ℕ). is_no_digit (get_or text j 0) ≡ false) (sym e) (ap not here)
+]
+
+pub front_end : (text : List ℕ) (n : ℕ) → n ≤ length text → ((k : ℕ) → k < n → is_no_digit (get_or text k 0) ≡ false) → (n < length text → is_no_digit (get_or text n 0) ≡ true) → n ≡ position_or_len is_no_digit text
+front_end text n h before here = sym (position_or_len_is is_no_digit text n 0 h before here)
+
+more_front : (n m : ℕ) → eqb n m ≡ eqb (1 + n) (suc m)
+more_front n m = grind (arith, nat_tests)
+
+none_front : (m : ℕ) → false ≡ eqb 0 (suc m)
+none_front m = grind (arith, nat_tests)
+
+-- all are digits where as many stand in front
+pub all_front : (w : List ℕ) → list_all is_ascii_digit w ≡ eqb (position_or_len is_no_digit w) (length w)
+all_front [] = refl
+all_front (b ∷ bs) = elim (cases_Bool (is_ascii_digit b)) [
+  | inl e ↦ rw e (all_front bs ∙ more_front (position_or_len is_no_digit bs) (length bs))
+  | inr e ↦ rw e (none_front (length bs))
+]
+
+spelled_front : (d : ℕ) (ds : List ℕ) (n : ℕ) → n ≡ position_or_len is_no_digit (d ∷ ds) → ((not (eqb d 48) || eqb (length ds) 0) && eqb n (length (d ∷ ds))) ≡ is_natural (d ∷ ds)
+spelled_front d ds n e = ap (λ (b : Bool). (not (eqb d 48) || eqb (length ds) 0) && b) (ap (λ (k : ℕ). eqb k (length (d ∷ ds))) e ∙ sym (all_front (d ∷ ds)))
+
+may_begin : (d : ℕ) (ds : List ℕ) → (d ≢ 48) ⊎ (length (d ∷ ds) ≡ 1) → (not (eqb d 48) || eqb (length ds) 0) ≡ true
+may_begin d ds why = elim (cases_Bool (eqb d 48)) [
+  | inl e ↦ elim why [ inl h ↦ absurd (h (eqb-true d 48 e)) | inr h ↦ let z : length ds ≡ 0 = omega (arith, h) in rw (e, z) refl ]
+  | inr e ↦ rw e refl
+]
+
+pub stands_alone : (w : List ℕ) → 1 ≤ length w → eqb (length (take (length w - 1) (drop 1 w))) 0 ≡ true → length w ≡ 1
+stands_alone [] some e = absurd (omega arith)
+stands_alone (d ∷ ds) some e =
+    let rest : take (length (d ∷ ds) - 1) ds ≡ ds = take_all (length (d ∷ ds) - 1) ds (omega arith) in
+    let none : length ds ≡ 0 = eqb-true _ _ (rw rest at e) in
+    omega (arith, none)
+
+pub spelled_word : (w : List ℕ) (n : ℕ) → 1 ≤ length w → (get_or w 0 0 ≢ 48) ⊎ (length w ≡ 1) → n ≡ position_or_len is_no_digit w → eqb n (length w) ≡ is_natural w
+spelled_word [] n some why e = absurd (omega arith)
+spelled_word (d ∷ ds) n some why e = ap (λ (b : Bool). b && eqb n (length (d ∷ ds))) (sym (may_begin d ds why)) ∙ spelled_front d ds n e
+
+ge_of_eq : (n m : ℕ) → n ≡ m → m ≤ n
+ge_of_eq n m e = omega (arith, e)
+
+-- a whole word in front
+pub natural_near : (w : List ℕ) (n m : ℕ) → n ≡ position_or_len is_no_digit w → is_natural w ≡ true → Near m (digits_value 10 (take n w)) → Near m (digits_value 10 w)
+natural_near [] n m e h near = absurd cc
+natural_near (d ∷ ds) n m e h near =
+    let all : eqb (position_or_len is_no_digit (d ∷ ds)) (length (d ∷ ds)) ≡ true = sym (all_front (d ∷ ds)) ∙ (and_parts _ _ h).1 in
+    let whole : n ≡ length (d ∷ ds) = e ∙ eqb-true _ _ all in
+    subst (λ (w : List ℕ). Near m (digits_value 10 w)) (take_all n (d ∷ ds) (ge_of_eq n _ whole)) near
 
 pub natural_digits : (w : List ℕ) → is_natural w ≡ true → AllDigits 10 w
 natural_digits [] h = tt

@@ -1,21 +1,28 @@
 -- What the reader of a line finds is what the definitions say of the line.
-use Rattle.std.proofs.Common.{◌≡◌, ℕ, ◌+◌, inl, inr, Bool, true, false, cond, not, ◌&&◌, ◌||◌, eqb, List, [], ◌∷◌, map, Option, Some, None, refl, sym, ap, ◌∙◌}
+use Rattle.std.proofs.Common.{◌≡◌, ℕ, ◌+◌, ◌≤◌, subst, inl, inr, Bool, true, false, cond, not, ◌&&◌, ◌||◌, eqb, List, [], ◌∷◌, map, Option, Some, None, refl, sym, ap, ◌∙◌}
 use Rattle.std.specs.Prelude.{is_none, nat_lt}
 use Rattle.std.specs.List.{list_any, list_all, count_by, onto_first}
-use Rattle.std.proofs.lemmas.Bool.{cases_Bool}
+use Rattle.std.proofs.lemmas.Bool.{cases_Bool, or_parts, ltb-false}
+use Rattle.std.proofs.lemmas.List.Splits.{join_with_byte-slice_split}
 use Rattle.fol_model.specs.declared.words.Keyword.{Keyword}
 use Rattle.fol_model.specs.declared.words.TextKind.{TextKind}
 use Rattle.fol_model.specs.declared.words.Field.{Field}
+use Rattle.fol_model.specs.declared.words.Field.TheVariants as fields
 use Rattle.fol_model.specs.declared.words.Cell.{Cell}
+use Rattle.fol_model.specs.TextRows.{Fits, is_post_cell, IsRow, row_words, row_line}
+use Rattle.fol_text_laws.specs.FieldLimits.{InLimits}
+use Rattle.fol_text_laws.proofs.FieldLimits.{line_near}
+use Rattle.fol_text_laws.proofs.OneSpelling.{key_is, key_found, cells_spelled, cells_fit, same_count}
+use Rattle.fol_text_laws.proofs.Again.{row_is_line}
 use Rattle.fol_model.specs.declared.causes.Cause.{Cause}
 use Rattle.fol_model.specs.declared.causes.Cause.TheVariants as causes
 use Rattle.fol_script.specs.declared.cells.Marks.{Marks}
 use Rattle.fol_script.specs.declared.judge.Judged.TheVariants.{Words}
-use Rattle.fol_model.specs.TextLines.{words, is_text, is_printable, is_some_word}
-use Rattle.fol_model.specs.TextForms.{key_of, line_form}
+use Rattle.fol_model.specs.TextLines.{words, line_of, is_text, is_printable, is_some_word}
+use Rattle.fol_model.specs.TextForms.{key_of, key_spelled, line_form}
 use Rattle.fol_script.specs.Marks.{Tells}
-use Rattle.fol_script.specs.Judged.{is_tidy, faults, Judges}
-use Rattle.fol_model.specs.TextCauses.{placed, fills, form_of, or_nothing, is_no_action, is_nested, is_no_number, is_outside, is_post, is_every, key_or, cell_of, first_word, more_words, form_at, placed_in, wraps, first_cause, spelling_cause}
+use Rattle.fol_script.specs.Judged.{is_tidy, faults, Judges, IsFaultless}
+use Rattle.fol_model.specs.TextCauses.{Row, placed, fills, form_of, or_nothing, is_no_action, is_nested, is_no_number, is_outside, is_post, is_every, key_or, cell_of, first_word, more_words, form_at, placed_in, wraps, first_cause, spelling_cause}
 
 tidy_more : (b : ℕ) (bs : List ℕ) (ws : List (List ℕ)) → is_tidy false bs ≡ list_all is_some_word (more_words ws) → (is_tidy false bs ≡ list_all is_some_word (onto_first b ws)) × (is_tidy false bs ≡ list_all is_some_word (more_words (onto_first b ws)))
 tidy_more b bs [] e = (e, e)
@@ -83,3 +90,47 @@ good_words kind l w ws form key m new fault t e k f tells acted why =
       why ∙ same_faults m.unfilled _ m.no_number m.outside _ _ _ _ a b c d,
       tells.cells acted ∙ sym (ap (map cell_of) pl),
     )
+
+-- ---- words that fill a form are text
+
+four_none : (a b c d : Bool) (i j k m : Cause) → first_cause ((a, i) ∷ (b, j) ∷ (c, k) ∷ (d, m) ∷ []) ≡ None → (a ≡ false) × (b ≡ false) × (c ≡ false) × (d ≡ false)
+four_none true b c d i j k m e = absurd cc
+four_none false true c d i j k m e = absurd cc
+four_none false false true d i j k m e = absurd cc
+four_none false false false true i j k m e = absurd cc
+four_none false false false false i j k m e = (refl, refl, refl, refl)
+
+not_false : (b : Bool) → not b ≡ false → b ≡ true
+not_false true e = refl
+not_false false e = absurd cc
+
+nested_cells : (pl : List (Field × List ℕ)) → list_any is_no_action pl ≡ false → count_by is_nested pl ≡ count_by is_post_cell (map cell_of pl)
+nested_cells [] e = refl
+nested_cells ((fields.Number low high, w) ∷ pl) e = same_count (fields.Number low high) w pl (cell_of (fields.Number low high, w)) (map cell_of pl) refl (nested_cells pl e)
+nested_cells ((fields.Action, w) ∷ pl) e =
+    let p = or_parts _ _ e in
+    same_count fields.Action w pl (cell_of (fields.Action, w)) (map cell_of pl) (ap is_post (key_found (key_of w) p.0)) (nested_cells pl p.1)
+
+pub text_by_words : (kind : TextKind) (l w : List ℕ) (ws : List (List ℕ)) (form : List Field) (key : Keyword) (m : Marks) (new : List Cell) → words l ≡ w ∷ ws → key_of w ≡ Some key → line_form kind key ≡ Some form
+    → Tells form ws [] new m → m.no_action ≡ false → first_cause (faults key m) ≡ None → is_text l ≡ true
+text_by_words kind l w ws form key m new e k f tells acted why =
+    let none = four_none m.unfilled (nat_lt 8 (cond (is_post (Some key) || is_every (Some key)) 1 0 + m.nested)) m.no_number m.outside causes.Count causes.Nest causes.Number causes.Range why in
+    let near : InLimits form = subst (λ (o : Option (List Field)). InLimits (or_nothing o)) f (line_near kind key) in
+    let fill : fills form ws ≡ true = not_false _ (sym (tells.unfilled acted) ∙ none.0) in
+    let acts : list_any is_no_action (placed form ws) ≡ false = sym tells.no_action ∙ acted in
+    let numbers : list_any is_no_number (placed form ws) ≡ false = sym (tells.no_number acted) ∙ none.2 in
+    let ranges : list_any is_outside (placed form ws) ≡ false = sym (tells.outside acted) ∙ none.3 in
+    let cs = map cell_of (placed form ws) in
+    let r : Row = record { key = key; cells = cs } in
+    let row : IsRow kind r = record {
+      is_line_word = ap is_none f;
+      fits = subst (λ (o : Option (List Field)). Fits (or_nothing o) cs) (sym f) (cells_fit form ws near fill acts numbers ranges);
+      nest = subst (λ (n : ℕ). cond (is_post (Some key) || is_every (Some key)) 1 0 + n ≤ 8) (tells.nested acted ∙ nested_cells (placed form ws) acts) (ltb-false _ _ none.1);
+    } in
+    let all : row_words r ≡ words l = ap (λ (v : List (List ℕ)). key_spelled key ∷ v) (cells_spelled form ws near fill acts numbers ranges) ∙ ap (λ (v : List ℕ). v ∷ ws) (sym (key_is w key k)) ∙ sym e in
+    let line : row_line r ≡ l = ap line_of all ∙ join_with_byte-slice_split 32 l in
+    subst (λ (v : List ℕ). is_text v ≡ true) line (row_is_line kind r row).0.text
+
+pub faultless_none : (key : Keyword) (fault : Option Cause) → IsFaultless (Words key fault) → fault ≡ None
+faultless_none key None h = refl
+faultless_none key (Some c) h = absurd h

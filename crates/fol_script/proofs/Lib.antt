@@ -1,4 +1,5 @@
 pub mod Cuts
+pub mod Letters
 pub mod Digits
 pub mod Going
 pub mod Judging

@@ -21,3 +21,9 @@ faults key m = (m.unfilled, causes.Count) ∷ (nat_lt 8 (cond (is_post (Some key
 abbrev pub Judges : TextKind → List ℕ → List Cell → Judged → Type 0
 Judges kind l cs (Bad c) = spelling_cause kind l ≡ Some c
 Judges kind l cs (Words key fault) = (spelling_cause kind l ≡ None) × (key ≡ (row_of kind l).key) × (fault ≡ form_cause kind l) × (cs ≡ (row_of kind l).cells)
+
+-- no fault was found
+abbrev pub IsFaultless : Judged → Type 0
+IsFaultless (Bad c) = ⊥
+IsFaultless (Words key None) = Unit {0}
+IsFaultless (Words key (Some c)) = ⊥

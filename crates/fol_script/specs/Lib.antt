@@ -7,3 +7,4 @@ pub mod CellText
 pub mod WorldRows
 pub mod WorldMaps
 pub mod WorldBefore
+pub mod Letters

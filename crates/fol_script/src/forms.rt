@@ -4,6 +4,7 @@ ghost use Rattle.std.specs.Prelude.{◌≡◌, Option, Some, None, IfSome};
 ghost use Rattle.fol_model.specs.TextCauses.{form_of};
 ghost use Rattle.std.specs.Option.{option_map};
 ghost use Rattle.fol_model.specs.TextForms as spec;
+ghost use Rattle.fol_script.specs.Letters.{likely};
 
 use crate::printing::spelling;
 use fol_model::{Field, Keyword, TextKind};
@@ -47,30 +48,48 @@ const POST: &[Field] = &[CHUNK, CHUNK, DELAY, Field::Action];
 
 const SEND: &[Field] = &[ENTITY, SIDE, HEIGHT, SIDE];
 
-/// The words that have a meaning.
-const KEYWORDS: &[Keyword] = &[
-    Keyword::World,
-    Keyword::Grid,
-    Keyword::Block,
-    Keyword::Entity,
-    Keyword::Load,
-    Keyword::Unload,
-    Keyword::Post,
-    Keyword::Every,
-    Keyword::Run,
-    Keyword::End,
-    Keyword::Set,
-    Keyword::Copy,
-    Keyword::Send,
-    Keyword::Arrive,
-];
+/// The only key that a word can be, by its first letter and its length.
+fn likely_key(word: &[u8]) -> Keyword
+    ensures { result ≡ likely word.now }
+{
+    let [first, ..] = word else {
+        return Keyword::Arrive;
+    };
+    match *first {
+        b'b' => Keyword::Block,
+        b'c' => Keyword::Copy,
+        b'e' => match word.len() {
+            3 => Keyword::End,
+            5 => Keyword::Every,
+            _ => Keyword::Entity,
+        },
+        b'g' => Keyword::Grid,
+        b'l' => Keyword::Load,
+        b'p' => Keyword::Post,
+        b'r' => Keyword::Run,
+        b's' => {
+            if word.len() == 3 {
+                Keyword::Set
+            } else {
+                Keyword::Send
+            }
+        }
+        b'u' => Keyword::Unload,
+        b'w' => Keyword::World,
+        _ => Keyword::Arrive,
+    }
+}
 
 /// The key that a word is.
-#[tactic(auto, unfolding(fol_model::specs::TextForms::key_of))]
 pub fn key_of(word: &[u8]) -> Option<Keyword>
     ensures { result ≡ spec.key_of word.now }
 {
-    KEYWORDS.iter().copied().find(|key| word == spelling(*key))
+    let key = likely_key(word);
+    if word == spelling(key) {
+        Some(key)
+    } else {
+        None
+    }
 }
 
 /// What follows an action word; none where it is no action word.

@@ -1,12 +1,12 @@
 //! A line by itself: its words, and what is wrong with them whatever the other lines are.
 
-ghost use Rattle.std.specs.Prelude.{◌≡◌, ◌<◌, ◌≤◌, ◌||◌, ◌&&◌, ◌+◌, nat_lt, List, [], ◌∷◌, length, true, false, cond, Option, Some, None, IfOk, IfSome, not};
+ghost use Rattle.std.specs.Prelude.{◌≡◌, ◌<◌, ◌≤◌, ◌||◌, ◌&&◌, ◌+◌, nat_lt, List, [], ◌∷◌, length, true, false, cond, Option, Some, None, IfOk, IfSome, not, IsTrue, ◌↔◌};
 ghost use Rattle.std.specs.Option.{option_map};
 ghost use Rattle.std.specs.List.{list_all};
 ghost use Rattle.fol_model.specs.TextLines.{is_text, is_printable, words};
 ghost use Rattle.fol_model.specs.TextForms as spec;
 ghost use Rattle.fol_model.specs.TextCauses.{form_of, first_cause};
-ghost use Rattle.fol_script.specs.Judged.{Judges, is_tidy, faults};
+ghost use Rattle.fol_script.specs.Judged.{Judges, IsFaultless, is_tidy, faults};
 
 use crate::cells::{Marks, read_cells};
 use crate::forms::{key_of, line_form};
@@ -91,14 +91,13 @@ fn fault_of(key: Keyword, marks: Marks) -> Option<Cause>
     }
 }
 
-/// Judges a line by its words, and reads its cells.
-pub fn read_line(kind: TextKind, line: &[u8], cells: &mut Vec<Cell>) -> Result<Judged, AllocError>
+/// Judges a line by its words as if it were text, and reads its cells.
+fn read_words(kind: TextKind, line: &[u8], cells: &mut Vec<Cell>) -> Result<Judged, AllocError>
     requires { cells.old.items ≡ [] }
-    ensures { IfOk result (λ j. Judges kind line.now cells.new.items j) }
+    ensures judged { IfOk result (λ j.
+        is_text line.now ≡ true → Judges kind line.now cells.new.items j) }
+    ensures faultless { IfOk result (λ j. IsFaultless j → is_text line.now ≡ true) }
 {
-    if !is_text_line(line) {
-        return Ok(Judged::Bad(Cause::Text));
-    }
     let (word, rest, more) = next_word(line);
     let Some((key, form)) = line_word(kind, word) else {
         return Ok(Judged::Bad(Cause::Word));
@@ -108,4 +107,27 @@ pub fn read_line(kind: TextKind, line: &[u8], cells: &mut Vec<Cell>) -> Result<J
         return Ok(Judged::Bad(Cause::Word));
     }
     Ok(Judged::Words(key, fault_of(key, marks)))
+}
+
+/// Whether nothing was found to be wrong with the words.
+fn is_faultless(judged: Judged) -> bool
+    ensures { IsTrue result ↔ IsFaultless judged }
+{
+    match judged {
+        Judged::Words(_, None) => true,
+        _ => false,
+    }
+}
+
+/// Judges a line by its words, and reads its cells. Words that fill a form are text, so that only other lines are looked at for it.
+pub fn read_line(kind: TextKind, line: &[u8], cells: &mut Vec<Cell>) -> Result<Judged, AllocError>
+    requires { cells.old.items ≡ [] }
+    ensures { IfOk result (λ j. Judges kind line.now cells.new.items j) }
+{
+    let judged = read_words(kind, line, cells)?;
+    if is_faultless(judged) || is_text_line(line) {
+        Ok(judged)
+    } else {
+        Ok(Judged::Bad(Cause::Text))
+    }
 }

@@ -1,32 +1,15 @@
 //! Words in the place of numbers.
 
-ghost use Rattle.std.specs.Prelude.{◌≡◌, ◌≤ℤ◌, ◌<ℤ◌, pos, negsuc, neg_ℤ, ◌+◌, ◌*◌, ◌-◌, ◌<◌, ◌≤◌, ℕ, length, Option, Some, None, true, false};
-ghost use Rattle.std.specs.List.{list_all};
-ghost use Rattle.std.specs.Char.{is_ascii_digit};
-ghost use Rattle.std.specs.Str.Parse.{AllDigits, digits_value};
+ghost use Rattle.std.specs.Prelude.{◌≡◌, ◌≤ℤ◌, ◌<ℤ◌, pos, negsuc, neg_ℤ, ◌+◌, ◌*◌, ◌-◌, ◌<◌, ◌≤◌, ℕ, length, take, Option, Some, None, MatchOption, true, false};
+ghost use Rattle.std.specs.List.{position_or_len};
+ghost use Rattle.std.specs.Str.Parse.{digits_value};
+ghost use Rattle.fol_script.specs.Letters.{is_no_digit};
 ghost use Rattle.fol_model.specs.TextNumbers as spec;
 
 use fol_model::Reading;
 
 /// No range of a text has a number so far from 0.
 const FAR: u64 = 10_000_000_000;
-
-/// Whether each byte is a digit.
-fn all_digits(word: &[u8]) -> bool
-    ensures { result ≡ list_all is_ascii_digit word.now }
-{
-    word.iter().all(|b| b.is_ascii_digit())
-}
-
-/// Whether the word is a number that is not negative: digits, the first 0 only where it stands alone.
-pub fn is_natural(word: &[u8]) -> bool
-    ensures { result ≡ spec.is_natural word.now }
-{
-    match word {
-        [] => false,
-        [first, rest @ ..] => { (*first != b'0' || rest.is_empty()) && all_digits(word) }
-    }
-}
 
 /// The value with one more digit. A value that is far already stays, so that digits without end can't exceed it.
 fn one_more(value: u64, digit: u8) -> u64
@@ -41,16 +24,51 @@ fn one_more(value: u64, digit: u8) -> u64
     }
 }
 
-/// The number that the digits write, or a far one in place of a far one.
-fn capped(digits: &[u8]) -> u64
-    requires { AllDigits 10 digits.now }
-    ensures { spec.Near result (digits_value 10 digits.now) }
+/// How many digits stand in front, and the number that they write, or a far one in place of a far one.
+fn front_digits(text: &[u8]) -> (usize, u64)
+    ensures place { result.0 ≡ position_or_len is_no_digit text.now }
+    ensures within { result.0 ≤ length text.now }
+    ensures value { spec.Near result.1 (digits_value 10 (take result.0 text.now)) }
 {
+    let mut n = 0;
     let mut value: u64 = 0;
-    for b in digits {
-        value = one_more(value, *b);
+    while n < text.len() && text[n].is_ascii_digit() {
+        value = one_more(value, text[n]);
+        n += 1;
     }
-    value
+    (n, value)
+}
+
+/// Whether the word with so many digits in front has no other bytes, and begins with 0 only where this stands alone.
+fn is_spelled(word: &[u8], digits: usize) -> bool
+    requires { digits ≡ position_or_len is_no_digit word.now }
+    ensures { result ≡ spec.is_natural word.now }
+{
+    match word {
+        [] => false,
+        [first, rest @ ..] => (*first != b'0' || rest.is_empty()) && digits == word.len(),
+    }
+}
+
+/// The number that the word is if it is one that is not negative, or a far one in place of a far one.
+fn natural(word: &[u8]) -> Option<u64>
+    ensures { MatchOption result (spec.is_natural word.now ≡ false) (λ n.
+        (spec.is_natural word.now ≡ true) × spec.Near n (digits_value 10 word.now)) }
+{
+    let (digits, value) = front_digits(word);
+    if is_spelled(word, digits) {
+        Some(value)
+    } else {
+        None
+    }
+}
+
+/// Whether the word is a number that is not negative: digits, the first 0 only where it stands alone.
+pub fn is_natural(word: &[u8]) -> bool
+    ensures { result ≡ spec.is_natural word.now }
+{
+    let (digits, _) = front_digits(word);
+    is_spelled(word, digits)
 }
 
 /// The number that a word is, if it is one within these bounds.
@@ -76,10 +94,10 @@ fn read_positive(digits: &[u8], low: i64, high: i64) -> Reading
     requires { high ≤ℤ pos 9999999999 }
     ensures { result ≡ spec.within low high (spec.positive (spec.natural digits.now)) }
 {
-    if !is_natural(digits) {
+    let Some(size) = natural(digits) else {
         return Reading::NoNumber;
-    }
-    bounded(capped(digits) as i64, low, high)
+    };
+    bounded(size as i64, low, high)
 }
 
 /// A word behind its sign `-`, which is no number where it is 0.
@@ -87,10 +105,9 @@ fn read_negative(digits: &[u8], low: i64, high: i64) -> Reading
     requires { negsuc 9999999998 ≤ℤ low }
     ensures { result ≡ spec.within low high (spec.negated (spec.natural digits.now)) }
 {
-    if !is_natural(digits) {
+    let Some(size) = natural(digits) else {
         return Reading::NoNumber;
-    }
-    let size = capped(digits);
+    };
     if size == 0 {
         return Reading::NoNumber;
     }
