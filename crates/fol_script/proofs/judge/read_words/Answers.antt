@@ -1,4 +1,4 @@
-use Rattle.std.proofs.Common.{◌≡◌, List, [], Some, sym, ap, subst, ◌∙◌}
+use Rattle.std.proofs.Common.{◌≡◌, List, Some, sym, ap, subst, ◌∙◌}
 use Rattle.fol_model.specs.declared.words.Cell.{Cell}
 use Rattle.fol_model.specs.TextForms.{line_form}
 use Rattle.fol_model.specs.TextCauses.{form_of}

@@ -1,4 +1,4 @@
-use Rattle.std.proofs.Common.{sym, ap, ◌∙◌, not, arith}
+use Rattle.std.proofs.Common.{sym, ap, not, arith}
 use Rattle.fol_text_laws.proofs.Ranges.{range_in}
 use Rattle.fol_script.proofs.Digits.{front_end, more_below, step_near}
 use Rattle.fol_script.proofs.numbers.front_digits.Goals as goal
