@@ -7,10 +7,10 @@ pub invariant_of-self : goal.invariant_of-self
 invariant_of-self c =
     let m : Meaning = c.deref_mut-core.result.now in
     let keeps : Keeps m.opening m.history = rw c.deref_mut-core.ensures.value c.self.invariant in
-    quiet_keeps m c.pass-ticks.new.core c.args.by c.unwrap_or-region.result c.pass-ticks.result c.requires.worker keeps c.pass-ticks.ensures.passed c.history-entries.ensures.run
+    quiet_keeps m c.pass-ticks.new.self c.args.by c.unwrap_or-region.result c.pass-ticks.result c.requires.worker keeps c.pass-ticks.ensures.passed c.history-entries.ensures.run
 
 pub returns-clause-after : goal.returns-clause-after
 returns-clause-after c =
     let m : Meaning = c.deref_mut-core.result.now in
     let keeps : Keeps m.opening m.history = rw c.deref_mut-core.ensures.value c.self.invariant in
-    quiet_keeps m c.pass-ticks.new.core c.args.by c.unwrap_or-region.result c.pass-ticks.result c.requires.worker keeps c.pass-ticks.ensures.passed c.history-entries.ensures.run
+    quiet_keeps m c.pass-ticks.new.self c.args.by c.unwrap_or-region.result c.pass-ticks.result c.requires.worker keeps c.pass-ticks.ensures.passed c.history-entries.ensures.run
