@@ -268,3 +268,31 @@ fn a_region_beside_a_tick_waits_for_its_end(rt: HostRuntime) {
     assert_eq!(rt; answer, Close::NotYet(1));
     closing_of(&rt, alloc, core, 1, 1);
 }
+
+/// A phase of three ticks, in which nothing happens in region 1: two of them are passed over, and then the one that is left.
+fn passes_three(rt: &impl Abort, core: &mut Core) {
+    assert!(rt; core.phase_ticks() < 9_998);
+    match core.open_phase(0, 3) {
+        Ok(answer) => assert_eq!(rt; answer, Phase::Opened),
+        Err(_) => panic!(rt; "memory"),
+    }
+    assert_eq!(rt; core.pass(1, 1, 2), 2);
+    assert_eq!(rt; core.pass(1, 1, 64), 1);
+    assert_eq!(rt; core.next_owing(1), None);
+}
+
+#[test]
+fn ticks_in_which_nothing_happens_are_passed_over(rt: HostRuntime) {
+    let alloc = rt.alloc();
+    let mut busy = Busy::of(&rt, alloc, opening(&rt, alloc));
+    busy.load(&rt, 0, ORIGIN);
+    busy.open_phase(&rt);
+    let tick = busy.begin(&rt, alloc, 1, 1);
+    busy.end(&rt, alloc, tick);
+    let Busy { mut core } = busy;
+    match core.close_phase(0) {
+        Ok(answer) => assert_eq!(rt; answer, Close::Closed),
+        Err(_) => panic!(&rt; "memory"),
+    }
+    passes_three(&rt, &mut core);
+}
