@@ -1,19 +1,8 @@
-use Rattle.std.proofs.Common.{refl, [], ◌∷◌, pos, negsuc}
-use Rattle.std.specs.Prelude.{IsTrue}
-use Rattle.std.specs.List.Sorted.{IsStrictlySortedBy}
-use Rattle.std.proofs.lemmas.List.Elements.{All-cons, All-nil}
-use Rattle.fol_model.specs.declared.places.ChunkPos.{ChunkPos}
-use Rattle.fol_model.specs.Geometry.{is_chunk}
-use Rattle.fol_model.specs.Universe.{chunk_cmp}
+use Rattle.fol_data_tests.proofs.TwoChunks.{two_chunks_in_order, two_chunks_are_chunks}
 use Rattle.fol_data_tests.proofs.stores.turn_settled.Goals as goal
 
 pub gather-requires-clause-order : goal.gather-requires-clause-order
-unfolding IsStrictlySortedBy chunk_cmp
-gather-requires-clause-order c = ((refl, tt), (tt, tt))
+gather-requires-clause-order c = two_chunks_in_order
 
 pub gather-requires-clause-places : goal.gather-requires-clause-places
-unfolding is_chunk
-gather-requires-clause-places c =
-    let west : ChunkPos = record { x = negsuc 0; z = pos 0 } in
-    let east : ChunkPos = record { x = pos 0; z = pos 0 } in
-    All-cons (λ (q : ChunkPos). IsTrue (is_chunk q)) west (east ∷ []) refl (All-cons (λ (q : ChunkPos). IsTrue (is_chunk q)) east [] refl (All-nil (λ (q : ChunkPos). IsTrue (is_chunk q))))
+gather-requires-clause-places c = two_chunks_are_chunks
