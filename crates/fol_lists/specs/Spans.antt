@@ -1,5 +1,5 @@
 -- Lists by where they begin and end among all elements.
-use Rattle.std.specs.Prelude.{◌≢◌, ℕ, ◌<◌, ◌≤◌, ◌*◌, ◌^◌, List, length, map, sum_by}
+use Rattle.std.specs.Prelude.{◌≡◌, ◌≢◌, ℕ, ◌<◌, ◌≤◌, ◌*◌, ◌^◌, List, length, map, sum_by}
 use Rattle.std.specs.List.{All, slice_index_or, slice_range}
 use Rattle.fol_lists.specs.declared.spans.Span.{Span}
 
@@ -30,3 +30,8 @@ pub record HasRoom (room capacity other : ℕ) : Type 0 where
 -- every other list lies before this one
 pub record IsLast (spans : List Span) (n : ℕ) : Type 0 where
   pub before : (k : ℕ) (d : Span) → k < length spans → k ≢ n → (slice_index_or spans k d).to ≤ (slice_index_or spans n d).from
+
+-- the lists from this number on were never written to
+pub record IsTop (spans : List Span) (n : ℕ) : Type 0 where
+  pub within : n ≤ length spans
+  pub empty : (k : ℕ) (d : Span) → n ≤ k → k < length spans → slice_index_or spans k d ≡ record { from = 0; to = 0 }

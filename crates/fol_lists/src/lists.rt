@@ -18,6 +18,8 @@ pub struct Lists<T: Copy> {
     spans: Vec<Span>,
     /// The number of the list that lies behind all others.
     last: usize,
+    /// No list from this number on was ever written to.
+    top: usize,
     /// How many elements the lists may hold together; the memory holds twice as many.
     room: usize,
 }
@@ -26,13 +28,13 @@ impl<T: Copy> Model for Lists<T> {
     ghost use Rattle.std.specs.Prelude.{◌≡◌, []};
     ghost use Rattle.std.specs.Vec.{vec_capacity};
     ghost use Rattle.fol_lists.specs.Numbered.{Numbered};
-    ghost use Rattle.fol_lists.specs.Spans.{AreSpans, HasRoom, IsLast, pieces_of};
+    ghost use Rattle.fol_lists.specs.Spans.{AreSpans, HasRoom, IsLast, IsTop, pieces_of};
 
     ghost Value = { Numbered T };
 
     ghost view = { λ s. record { lists = pieces_of s.cells.items s.spans.items; room = s.room } };
 
-    ghost invariant = { λ s. AreSpans s.cells.items s.spans.items s.room × (s.spare.items ≡ []) × HasRoom s.room (vec_capacity s.cells) (vec_capacity s.spare) × IsLast s.spans.items s.last };
+    ghost invariant = { λ s. AreSpans s.cells.items s.spans.items s.room × (s.spare.items ≡ []) × HasRoom s.room (vec_capacity s.cells) (vec_capacity s.spare) × (IsLast s.spans.items s.last × IsTop s.spans.items s.top) };
 }
 
 impl<T: Copy> Lists<T> {
@@ -50,6 +52,7 @@ impl<T: Copy> Lists<T> {
             spare: Vec::with_capacity(alloc, 2 * room)?,
             spans,
             last: 0,
+            top: 0,
             room,
         })
     }
@@ -100,16 +103,19 @@ impl<T: Copy> Lists<T> {
         requires room { total self.old + length xs.now ≤ self.old.room }
         ensures { self.new ≡ with_list self.old n (list_at self.old n ++ xs.now) }
     {
+        let top = self.top.max(n + 1);
         grow(
             &mut self.cells,
             &mut self.spare,
             &mut self.spans,
+            top,
             self.last,
             self.room,
             n,
             xs,
         );
         self.last = n;
+        self.top = top;
     }
 
     /// Puts other elements in place of a list's own. Takes no memory.
@@ -171,6 +177,7 @@ impl<T: Copy> Lists<T> {
             spare: Vec::with_capacity(alloc, 2 * self.room)?,
             spans: Vec::from_slice(alloc, &self.spans)?,
             last: self.last,
+            top: self.top,
             room: self.room,
         })
     }

@@ -6,7 +6,7 @@ use Rattle.fol_laws.proofs.SortedRows.{in_row, in_rows}
 use Rattle.fol_model.specs.declared.places.SectionPos.{SectionPos}
 use Rattle.fol_model.specs.Geometry.{distance, is_within}
 use Rattle.fol_model.specs.Universe.{from}
-use Rattle.fol_pages.specs.Pages.{LieIn, is_listed, is_same, page_of}
+use Rattle.fol_pages.specs.Pages.{LieIn, is_same, page_of}
 use Rattle.fol_pages.proofs.PagePlaces.{page_near, same_self}
 
 abbrev page_row : ℤ → ℤ → List (ℤ × ℤ)

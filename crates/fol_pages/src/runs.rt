@@ -4,7 +4,7 @@ ghost use Rattle.std.specs.Prelude.{◌≡◌, ◌+◌, ◌<◌, ◌≤◌, nat_
 ghost use Rattle.std.specs.Int.{int_rem_euclid};
 ghost use Rattle.fol_pages.specs.Pages.{InOnePage};
 
-use crate::places::page_of;
+use crate::places::{page_of, place_along};
 use fol_model::SectionPos;
 
 /// How many sections from a column on lie in one page, of at most `most`.
@@ -13,7 +13,7 @@ pub fn run_len(x: i32, most: u32) -> u32
     ensures some { 0 < most → 0 < result }
     ensures within { nat_abs (int_rem_euclid x (pos 8)) + result ≤ 8 }
 {
-    most.min(8 - x.rem_euclid(8) as u32)
+    most.min(8 - place_along(x))
 }
 
 /// How many sections at the head of a list lie in one page.

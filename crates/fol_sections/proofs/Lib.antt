@@ -20,3 +20,4 @@ pub mod UsedPages
 pub mod PageStretches
 pub mod DropSteps
 pub mod MarkSteps
+pub mod HeldChunks

@@ -1,5 +1,5 @@
 -- What a table of sections keeps: its tables as lists of entries, and how they fit together.
-use Rattle.std.specs.Prelude.{◌≡◌, ℕ, ℤ, ◌*◌, ◌≤◌, Bool, true, ◌&&◌, nat_lt, List, map, filter}
+use Rattle.std.specs.Prelude.{◌≡◌, ℕ, ℤ, pos, ◌*◌, ◌<◌, ◌≤◌, ◌^◌, ◌*ℤ◌, nat_abs, Bool, true, ◌&&◌, nat_lt, List, [], map, filter}
 use Rattle.std.specs.List.{count_by}
 use Rattle.fol_model.specs.declared.places.TheConstants.{MOST_SECTIONS}
 use Rattle.fol_model.specs.declared.places.ChunkPos.{ChunkPos}
@@ -10,6 +10,7 @@ use Rattle.fol_model.specs.GridNumbers.{IsGrid}
 use Rattle.fol_model.specs.Universe.{all_chunks, all_sections, count_sections}
 use Rattle.fol_sections.specs.Places.{count_at}
 use Rattle.fol_sections.specs.Pages.{AllUsed, chunks_at, is_here, near_at}
+use Rattle.fol_sections.specs.Rows.{chunk_at, rows_of}
 use Rattle.fol_sections.specs.Table.{Held}
 use Rattle.fol_sections.specs.declared.pages.Page.{Page}
 
@@ -26,6 +27,15 @@ is_held holds c = nat_lt 0 (count_at holds c)
 -- the section's loaded chunks
 abbrev pub is_loaded_in : Grid → List ((ℤ × ℤ) × ℕ) → SectionPos → ChunkPos → Bool
 is_loaded_in grid holds s c = is_held holds c && same_section (section_of grid c) s
+
+-- the chunks of a section that have a hold, row by row
+abbrev pub held_chunks : Grid → List ((ℤ × ℤ) × ℕ) → SectionPos → List ChunkPos
+held_chunks grid holds s = filter (is_held holds) (rows_of chunk_at (s.x *ℤ pos (2 ^ grid.shift)) (s.z *ℤ pos (2 ^ grid.shift)) (2 ^ grid.shift) (2 ^ grid.shift))
+
+-- a section with so many loaded chunks: one with none has no chunk with a hold, and any other lies within the limits
+pub record IsListed (grid : Grid) (holds : List ((ℤ × ℤ) × ℕ)) (loaded : ℕ) (s : SectionPos) : Type 0 where
+  pub none : loaded ≡ 0 → held_chunks grid holds s ≡ []
+  pub near : 0 < loaded → (nat_abs s.x ≤ 1000008) × (nat_abs s.z ≤ 1000008)
 
 -- the sections near s that hold a loaded chunk
 abbrev pub is_filled_near : Grid → List ((ℤ × ℤ) × Page) → SectionPos → SectionPos → Bool

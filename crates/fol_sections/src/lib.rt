@@ -15,6 +15,7 @@
 mod answers;
 mod chunks;
 mod drops;
+mod listings;
 mod pages;
 mod places;
 mod runs;

@@ -1,6 +1,6 @@
 //! A table of holds and present sections.
 
-ghost use Rattle.std.specs.Prelude.{◌≡◌, ℤ, ◌+◌, ◌-◌, ◌*◌, ◌<◌, ◌≤◌, ◌^◌, not, ◌&&◌, ◌||◌, false, None, IsTrue, IfOk, OnOk, [], ◌++◌, length, nat_eq, nat_lt, cond, Some, nat_abs, sum_by, if◌then◌else◌};
+ghost use Rattle.std.specs.Prelude.{◌≡◌, ℤ, ◌+◌, ◌-◌, ◌*◌, ◌<◌, ◌≤◌, ◌^◌, not, ◌&&◌, ◌||◌, false, None, IsTrue, IfOk, OnOk, [], ◌++◌, length, nat_eq, nat_lt, cond, Some, nat_abs, sum_by, flat_map, if◌then◌else◌};
 ghost use Rattle.std.specs.List.{All, IsDistinct, count_by, filter};
 ghost use Rattle.std.specs.Vec.{vec_capacity};
 ghost use Rattle.std.specs.HashMap.{spare as room_of};
@@ -14,6 +14,7 @@ ghost use Rattle.fol_model.specs.GridState.{at_chunk};
 
 use crate::chunks::list_section;
 use crate::drops::drop_list;
+use crate::listings::list_all;
 use crate::pages::{self, Counts, Pages, is_present, loaded, near, put_stretch};
 use crate::places::{self, Numbers, number};
 use crate::squares::{Wanted, find_missing, find_square};
@@ -191,6 +192,18 @@ impl Sections {
         if loaded(&self.pages, s) > 0 {
             list_section(&self.holds, out, &self.grid, s);
         }
+    }
+
+    /// Adds the loaded chunks of the sections of a list to another list, section by section, and by `(z, x)` in each. The list has
+    /// room for them, and no memory is taken.
+    pub fn chunks_among(&self, list: &[SectionPos], out: &mut Vec<ChunkPos>)
+        requires room { length out.old.items + sum_by (loaded_count self.now) list.now
+            ≤ vec_capacity out.old }
+        ensures chunks { out.new.items ≡ out.old.items
+            ++ flat_map (λ s. filter (is_loaded_chunk_of self.now s) all_chunks) list.now }
+        ensures capacity { vec_capacity out.new ≡ vec_capacity out.old }
+    {
+        list_all(&self.pages, &self.holds, &self.grid, list, out);
     }
 
     /// Makes `spare` at least `n`. Takes memory; what the table stands for stays either way.

@@ -2,6 +2,7 @@ use Rattle.std.proofs.Common.{◌≡◌, ◌∙◌, ap, arith, length, [], ◌++
 use Rattle.std.specs.Prelude.{replicate, vec_len}
 use Rattle.fol_lists.specs.declared.spans.Span.{Span}
 use Rattle.fol_lists.proofs.Pieces.{last_added, last_empty, pieces_empty, spans_empty, resized}
+use Rattle.fol_lists.proofs.Tops.{top_empty}
 use Rattle.fol_lists.proofs.Views.{numbered_is}
 use Rattle.fol_lists.proofs.lists.Lists.new.Goals as goal
 
@@ -14,7 +15,7 @@ invariant_of-result g c =
       rw items (spans_empty c.in_ok-with_capacity.field-0.items c.args.room c.args.numbers c.in_ok-with_capacity.ensures.items),
       c.in_ok-with_capacity-2.ensures.items,
       record { few = c.requires; cells = omega (arith, c.in_ok-with_capacity.ensures.exact); spare = omega (arith, c.in_ok-with_capacity-2.ensures.exact) },
-      rw items (last_added [] c.args.numbers 0 (last_empty 0)),
+      (rw items (last_added [] c.args.numbers 0 (last_empty 0)), rw items (top_empty c.args.numbers)),
     )
 
 pub returns : goal.returns
