@@ -86,3 +86,13 @@ module _ (c : ChunkPos) (xs : List ChunkPos) (old new : Bag) (home : old.taken �
       all : (x : Bool) → (x && true) ≡ x
       all true = refl
       all false = refl
+
+-- a bag that has to be gathered anew
+pub caught_none : (xs : List ChunkPos) (old new : Bag) → new ≡ (let r : Bag = record old { listed = false } in r) → CatchesUp xs old new
+caught_none xs old new e =
+    let w : new.listed ≡ false = ap (λ (b : Bag). b.listed) e in
+    record {
+      same = e ∙ sym (ap (λ (b : Bag). let r : Bag = record old { listed = b.listed; calm = b.calm; chunks = b.chunks } in r) e);
+      before = λ t. absurd (true≢false (sym t ∙ w));
+      listed = λ t. absurd (true≢false (sym t ∙ w));
+    }

@@ -4,7 +4,7 @@ use Rattle.std.specs.Prelude.{nat_eq, nat_lt, if◌then◌else◌, filter, Optio
 use Rattle.std.specs.List.{AllByRecursion}
 use Rattle.std.specs.Option.{ForSome, is_none, option_or}
 use Rattle.std.proofs.Math.Path.{fun_ext}
-use Rattle.std.proofs.lemmas.Bool.{cases_Bool, eqb-true, and_parts, ltb-true}
+use Rattle.std.proofs.lemmas.Bool.{cases_Bool, eqb-true, and_parts, ltb-false, ltb-true}
 use Rattle.std.proofs.lemmas.List.{append-nil}
 use Rattle.fol_model.specs.declared.places.ChunkPos.{ChunkPos}
 use Rattle.fol_model.specs.declared.regions.State.TheVariants.{Dead, Ticking}
@@ -20,7 +20,7 @@ use Rattle.fol_model.specs.Outputs.{is_chunk_of}
 use Rattle.fol_model.specs.Counters.{owed_after_release, tick_after_release}
 use Rattle.fol_model.specs.Release.{release}
 use Rattle.fol_model.specs.ActionStep.{Flat, Recorded, Standing}
-use Rattle.fol_model.specs.Job.{Job}
+use Rattle.fol_model.specs.Job.{Job, is_on}
 use Rattle.fol_model.specs.World.{World, due, start}
 use Rattle.fol_model.specs.End.{all_accepted, answers, dropped, ended, released, run_down, ticked}
 use Rattle.fol_model.specs.Run.{RunFrom, world}
@@ -50,6 +50,7 @@ use Rattle.fol_core.specs.declared.tables.Tables.{Tables}
 use Rattle.fol_core.specs.Answers.{end_event}
 use Rattle.fol_core.specs.AtEnd.{AtEnd}
 use Rattle.fol_core.specs.Bags.{KeepsUp}
+use Rattle.fol_core.specs.CatchingUp.{AreHeld}
 use Rattle.fol_core.specs.Hands.{at_rest, in_hands, since}
 use Rattle.fol_core.specs.Follows.{Settle}
 use Rattle.fol_core.specs.Released.{CanEnd, CanRelease, DropsHolds, EndsRegion, Loosens, heirs, parts_in, released_bags}
@@ -71,6 +72,7 @@ use Rattle.fol_core.proofs.ReleasedStock.{ReleasedTo, released_to}
 use Rattle.fol_core.proofs.RunDown.{covers_down, stored_down}
 use Rattle.fol_core.proofs.SinceRuns.{since_most}
 use Rattle.fol_core.proofs.TicketRuns.{tickets_most}
+use Rattle.fol_core.proofs.Unheld.{none_on, none_rests}
 use Rattle.fol_core.proofs.UnsettledBags.{have_bags}
 
 -- one of a list of which all are so
@@ -299,6 +301,19 @@ module _ (t : Tables) (tick : Tick) (o : Opening) (h : List Entry) (m : Option �
     jobs_apart n = let a : jobs_of t2.store n ≡ at_rest g (since o h) n (z.jobs n) = ap (λ (f : ℕ → Option Job). f n) u.midway.stored.jobs in let b = back n in
         rw (a, b) (tasks_apart g r u.ends.ending.sound.rules u.ends.ending.sound.grid u.ends.ending.ticks (since o h) n (z.jobs n))
 
+    -- the tasks, once they are back
+    job_now : (n : ℕ) → option_or (jobs_of t2.store n) (rests_of body n) ≡ at_rest (release g r) (since o h) n (z.jobs n)
+    job_now n = let a : jobs_of t2.store n ≡ at_rest g (since o h) n (z.jobs n) = ap (λ (f : ℕ → Option Job). f n) u.midway.stored.jobs in let b = back n in
+        rw (a, b) (jobs_back g r u.ends.ending.sound.rules u.ends.ending.sound.grid u.ends.ending.ticks (since o h) n (z.jobs n))
+
+    tasks_held : AreHeld g (λ n. option_or (jobs_of t2.store n) (rests_of body n))
+    tasks_held q unheld n =
+        let none : g.holds q ≤ 0 = ltb-false 0 (g.holds q) unheld in
+        ap (is_on q) (job_now n) ∙ none_rests (release g r) (since o h) n q (z.jobs n) (none_on g z.tickets z.jobs z.next_job u.ends.ending.sound q (omega (arith, none)) n)
+
+    are_held : AreHeld (grid_state t2.regions) (λ n. option_or (jobs_of t2.store n) (rests_of body n))
+    are_held = rw u.midway.regions tasks_held
+
     -- ---- the release
     to : ReleasedTo g (release g r) r (release_change g r) z.tick z.owed (tick_after_release g r z.tick) (owed_after_release g r z.owed) z.recorded (bag_of t2.store)
     to = released_to g r u.ends.ending.sound.rules u.ends.ending.sound.grid u.ends.ending.ticks z.tick z.owed z.recorded (bag_of t2.store) u.midway.stored.bags
@@ -347,6 +362,7 @@ module _ (t : Tables) (tick : Tick) (o : Opening) (h : List Entry) (m : Option �
       tasks_there = tasks_there;
       contents_apart = contents_apart;
       tasks_apart = jobs_apart;
+      held = are_held;
       can = can_release;
       room = agenda_room;
     }
@@ -358,10 +374,6 @@ module _ (t : Tables) (tick : Tick) (o : Opening) (h : List Entry) (m : Option �
       flat_now : flat_of t3.store ≡ outside (in_hands (release g r) z.recorded) z.flat
       flat_now = ends.contents ∙ ap (λ (f : Flat). joined f (contents_of k)) u.midway.stored.flat ∙ ap (joined (outside (in_hands g z.recorded) z.flat)) u.contents
           ∙ flat_back g r u.ends.ending.sound.rules u.ends.ending.sound.grid u.ends.ending.ticks z.recorded u.ends.own z.flat
-
-      job_now : (n : ℕ) → option_or (jobs_of t2.store n) (rests_of body n) ≡ at_rest (release g r) (since o h) n (z.jobs n)
-      job_now n = let a : jobs_of t2.store n ≡ at_rest g (since o h) n (z.jobs n) = ap (λ (f : ℕ → Option Job). f n) u.midway.stored.jobs in let b = back n in
-          rw (a, b) (jobs_back g r u.ends.ending.sound.rules u.ends.ending.sound.grid u.ends.ending.ticks (since o h) n (z.jobs n))
 
       next_now : next_of t3.store ≡ (release g r).next
       next_now = let e : next_of t3.store ≡ next_of t2.store + length (parts_in (release g r) (release_change g r) r) = let n = ends.next in rw u.midway.regions at n in omega (arith, e, u.midway.stored.next, to.next)

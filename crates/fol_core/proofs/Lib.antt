@@ -35,6 +35,7 @@ pub mod BackTasks
 pub mod EndFacts
 pub mod EndedRegion
 pub mod EndSteps
+pub mod Unheld
 pub mod UnloadKept
 pub mod PostKept
 pub mod TakenJobs

@@ -1,5 +1,5 @@
 -- What the tables stand for after an unload.
-use Rattle.std.proofs.Common.{◌≡◌, ◌≢◌, ℕ, ◌+◌, ◌-◌, ◌<◌, ◌^◌, refl, sym, ◌∙◌, ap, subst, arith, true, false, inl, inr, ◌&&◌, List, [], ◌∷◌, ◌++◌}
+use Rattle.std.proofs.Common.{◌≡◌, ◌≢◌, ℕ, ◌+◌, ◌-◌, ◌≤◌, ◌<◌, ◌^◌, refl, sym, ◌∙◌, ap, subst, arith, true, false, inl, inr, ◌&&◌, List, [], ◌∷◌, ◌++◌}
 use Rattle.std.specs.Prelude.{nat_eq, nat_lt, Option, Some, None, if◌then◌else◌}
 use Rattle.std.proofs.Math.Path.{fun_ext}
 use Rattle.std.proofs.lemmas.Bool.{cases_Bool, and_right, eqb-true, ne_eqb}
@@ -15,7 +15,7 @@ use Rattle.fol_model.specs.Universe.{all_chunks}
 use Rattle.fol_model.specs.GridState.{GridState}
 use Rattle.fol_model.specs.Drop.{drop_hold}
 use Rattle.fol_model.specs.Holds.{unloaded}
-use Rattle.fol_model.specs.Job.{Job}
+use Rattle.fol_model.specs.Job.{Job, is_on}
 use Rattle.fol_model.specs.ActionStep.{Recorded}
 use Rattle.fol_model.specs.Outputs.{is_chunk_of}
 use Rattle.fol_model.specs.World.{World}
@@ -25,19 +25,20 @@ use Rattle.fol_chunks.specs.Contents.{outside}
 use Rattle.fol_sections.specs.Places.{count_at}
 use Rattle.fol_regions.specs.Table.{grid_state}
 use Rattle.fol_store.specs.Bag.{Bag}
-use Rattle.fol_store.specs.Stock.{bag_of}
+use Rattle.fol_store.specs.Stock.{bag_of, jobs_of}
 use Rattle.fol_core.specs.declared.tables.Course.{Course}
 use Rattle.fol_core.specs.declared.tables.Tables.{Tables}
 use Rattle.fol_core.specs.Hands.{at_rest, in_hands, since, ticker, went}
 use Rattle.fol_core.specs.Bags.{AreBut, IsBagOf, unsettled_at}
 use Rattle.fol_core.specs.Agenda.{IsAgenda}
-use Rattle.fol_core.specs.Follows.{CanLose, Settle, Drops, IsKnown, losing}
+use Rattle.fol_core.specs.Follows.{CanDrop, CanLose, Settle, Drops, IsKnown, losing}
 use Rattle.fol_core.specs.Answers.{unload_result}
 use Rattle.fol_core.specs.Stands.{Fits, IsCourse, Stands}
 use Rattle.fol_core.proofs.Added.{off_owed}
 use Rattle.fol_core.proofs.AddBags.{same_filter}
 use Rattle.fol_core.proofs.LoadKept.{SameMarks, course_more}
 use Rattle.fol_core.proofs.Longer.{good_of, stands_more}
+use Rattle.fol_core.proofs.Unheld.{none_on, none_rests}
 use Rattle.fol_core.proofs.Loosened.{stays_loaded}
 use Rattle.fol_core.proofs.UnsettledBags.{IsBagBut, bag_but, known_bag, unsettled_bag}
 use Rattle.fol_core.proofs.GatheredBags.{gathered_agenda, gathered_bag}
@@ -186,6 +187,14 @@ module _ (o : Opening) (h : List Entry) (t : Tables) (s : Stands o h t) (c : Chu
   owner_loses = rw (s.fits.regions, s.fits.grid) (λ p one.
       let r : ℕ = (world o h).grid.owner (section_of (world o h).grid.grid c) in
       narrows (world o h).grid c r (bag_of t.store r) one ((s.fits.stored.bags r).listed ((good_of o h t s).sound.rules.owner_lives (section_of (world o h).grid.grid c) p)))
+
+  -- where it has a ticket, and no other hold, no task is on it
+  pub owner_drops : CanDrop (grid_state t.regions) (count_at t.tickets.entries) (jobs_of t.store) c
+  owner_drops some one n =
+      let w : World = world o h in
+      let held : w.grid.holds c ≡ 1 = ap (λ (g : GridState). g.holds c) (sym s.fits.regions) ∙ eqb-true _ 1 one in
+      let few : w.grid.holds c ≤ w.tickets c = omega (arith, held, some, s.fits.tickets c) in
+      ap (λ (f : ℕ → Option Job). is_on c (f n)) s.fits.stored.jobs ∙ none_rests w.grid (since o h) n c (w.jobs n) (none_on w.grid w.tickets w.jobs w.next_job (good_of o h t s).sound c few n)
 
   pub no_ticket : nat_eq (count_at t.tickets.entries c) 0 ≡ nat_eq ((world o h).tickets c) 0
   no_ticket = ap (λ n. nat_eq n 0) (s.fits.tickets c)

@@ -1,5 +1,5 @@
 -- What follows in the store and in the stack when a hold is added.
-use Rattle.std.specs.Prelude.{ℕ, ◌≡◌, ◌+◌, ◌-◌, ◌≤◌, ◌<◌, ◌^◌, Bool, true, false, ◌||◌, ◌&&◌, not, filter, Some, nat_eq, if◌then◌else◌, List, [], ◌∷◌, ◌++◌, ◌≢◌, ◌⊎◌, length, vec_len, vec_capacity, IsTrue}
+use Rattle.std.specs.Prelude.{ℕ, ◌≡◌, ◌+◌, ◌-◌, ◌≤◌, ◌<◌, ◌^◌, Bool, true, false, ◌||◌, ◌&&◌, not, filter, Option, Some, nat_eq, if◌then◌else◌, List, [], ◌∷◌, ◌++◌, ◌≢◌, ◌⊎◌, length, vec_len, vec_capacity, IsTrue}
 use Rattle.std.specs.HashMap.{spare as room_in}
 use Rattle.std.specs.List.Sorted.{IsStrictlySortedBy}
 use Rattle.fol_model.specs.declared.places.ChunkPos.{ChunkPos}
@@ -11,7 +11,7 @@ use Rattle.fol_model.specs.declared.events.Accept.{Accept}
 use Rattle.fol_model.specs.declared.events.Accept.TheVariants as accept
 use Rattle.fol_model.specs.declared.actions.Action.{Action}
 use Rattle.fol_model.specs.ActionStep.{at_id}
-use Rattle.fol_model.specs.Job.{queued}
+use Rattle.fol_model.specs.Job.{Job, queued}
 use Rattle.fol_model.specs.Geometry.{is_chunk, same_chunk, section_of}
 use Rattle.fol_model.specs.GridState.{GridState, at_chunk, is_loaded, present_count}
 use Rattle.fol_model.specs.Add.{add, is_full, wanted}
@@ -28,6 +28,7 @@ use Rattle.fol_regions.specs.declared.answers.AddAnswer.TheVariants.{Changed, Co
 use Rattle.fol_regions.specs.Answers.{add_answer}
 use Rattle.fol_regions.specs.declared.change.MergePair.{MergePair}
 use Rattle.fol_store.specs.Bag.{Bag}
+use Rattle.fol_store.specs.Clear.{HasNoTask}
 use Rattle.fol_store.specs.Stock.{Stock, bag_of, flat_of, jobs_of, next_of}
 use Rattle.fol_core.specs.declared.tables.Tables.{Tables}
 use Rattle.fol_core.specs.Bags.{Alike, AreInOrder, CanJoin, Follow, Joins, joined_bags, opened_bags, unsettled_at}
@@ -68,6 +69,10 @@ CanGain a g c r b = is_added a ≡ true → 0 < r → Widens g c r b
 -- the region r of a chunk c that is held once has a bag that is listed for its chunks, if for any
 abbrev pub CanLose : GridState → ChunkPos → ℕ → (ℕ → Bag) → Type 0
 CanLose g c r f = 0 < r → nat_eq (g.holds c) 1 ≡ true → Narrows (drop_hold g c) c r (f r)
+
+-- where the chunk has a ticket, and no other hold, none of the tasks is on it
+abbrev pub CanDrop : GridState → (ChunkPos → ℕ) → (ℕ → Option Job) → ChunkPos → Type 0
+CanDrop g tickets jobs c = 0 < tickets c → nat_eq (g.holds c) 1 ≡ true → HasNoTask c jobs
 
 -- the new regions come, and then some join
 abbrev pub changed_bags : Changes → (ℕ → Bag) → ℕ → Bag

@@ -24,6 +24,7 @@ use Rattle.fol_core.specs.declared.tables.Tables.{Tables}
 use Rattle.fol_core.specs.Same.{SameThings}
 use Rattle.fol_core.specs.Agenda.{Covers, HaveBags, IsAgenda}
 use Rattle.fol_core.specs.Bags.{AreInOrder, CanJoin, Follow, Joins, KeepsUp, joined_bags}
+use Rattle.fol_core.specs.CatchingUp.{AreHeld}
 use Rattle.fol_core.specs.Follows.{Settle}
 
 -- of a part: it has the numbers of the region that fell apart, and nothing was gathered for it
@@ -115,6 +116,7 @@ pub record CanEnd (t : Tables) (r : ℕ) (places : List ChunkPos) (body : Region
   pub tasks_there : (n : ℕ) → ForSome (rests_of body n) (λ j. is_recorded places j.chunk ≡ true)
   pub contents_apart : Apart (flat_of t.store) (contents_of body.chunks)
   pub tasks_apart : (n : ℕ) → IsTrue (is_none (jobs_of t.store n) || is_none (rests_of body n))
+  pub held : AreHeld (grid_state t.regions) (λ n. option_or (jobs_of t.store n) (rests_of body n))
   pub can : CanRelease t.store t.agenda.items (grid_state t.regions) r body.tick body.owed
   pub room : vec_len t.agenda + length (heirs (release (grid_state t.regions) r) (release_change (grid_state t.regions) r) r) ≤ vec_capacity t.agenda
 

@@ -1,13 +1,14 @@
 //! A bag that came back follows the chunks of its region that came and left while a worker had it.
 
-ghost use Rattle.std.specs.Prelude.{◌≡◌, ◌≢◌, ℕ, ◌<◌, ◌≤◌, true, false, filter};
+ghost use Rattle.std.specs.Prelude.{◌≡◌, ◌≢◌, ℕ, ◌<◌, ◌≤◌, true, false, filter, nat_eq};
 ghost use Rattle.fol_model.specs.ActionStep.{at_id};
+ghost use Rattle.fol_model.specs.Geometry.{section_of as section_around};
 ghost use Rattle.fol_model.specs.Universe.{all_chunks};
 ghost use Rattle.fol_model.specs.Outputs.{is_chunk_of};
 ghost use Rattle.fol_regions.specs.Table.{grid_state};
-ghost use Rattle.fol_store.specs.Stock.{bag_of, next_of};
+ghost use Rattle.fol_store.specs.Stock.{bag_of, jobs_of, next_of};
 ghost use Rattle.fol_core.specs.Bags.{KeepsUp};
-ghost use Rattle.fol_core.specs.CatchingUp.{CatchesUp, KeepsUpBut};
+ghost use Rattle.fol_core.specs.CatchingUp.{AreHeld, CatchesUp, KeepsUpBut};
 ghost use Rattle.fol_core.specs.Released.{IsReturned};
 ghost use Rattle.fol_core.specs.Same.{SameThings};
 
@@ -24,6 +25,7 @@ pub(crate) fn catch_up(regions: &Regions, store: &mut Store, grid: &Grid, region
     requires follows { (bag_of store.old region).listed ≡ true
         → KeepsUp (bag_of store.old region)
         (filter (is_chunk_of (grid_state regions.now) region) all_chunks) }
+    requires tasks { AreHeld (grid_state regions.now) (jobs_of store.old) }
     ensures own { IsReturned (grid_state regions.now) region (bag_of store.old region).tick
         (bag_of store.old region).owed (bag_of store.new region) }
     ensures bags { bag_of store.new
@@ -37,7 +39,8 @@ pub(crate) fn catch_up(regions: &Regions, store: &mut Store, grid: &Grid, region
     }
 }
 
-/// The bag of a region gets a chunk, where the region has it, and else loses it.
+/// The bag of a region gets a chunk, where the region has it, and loses one that nothing holds. Where another region has the chunk, the
+/// bag has to be gathered anew.
 fn follow_chunk(regions: &Regions, store: &mut Store, grid: &Grid, region: u64, c: ChunkPos)
     requires grid { grid.now ≡ (grid_state regions.now).grid }
     requires given { 0 < region }
@@ -46,6 +49,7 @@ fn follow_chunk(regions: &Regions, store: &mut Store, grid: &Grid, region: u64, 
     requires follows { (bag_of store.old region).listed ≡ true
         → KeepsUpBut c (bag_of store.old region)
         (filter (is_chunk_of (grid_state regions.now) region) all_chunks) }
+    requires tasks { AreHeld (grid_state regions.now) (jobs_of store.old) }
     ensures own { CatchesUp (filter (is_chunk_of (grid_state regions.now) region) all_chunks)
         (bag_of store.old region) (bag_of store.new region) }
     ensures bags { bag_of store.new
@@ -55,18 +59,22 @@ fn follow_chunk(regions: &Regions, store: &mut Store, grid: &Grid, region: u64, 
     ensures slots { store.old.slots ≤ store.new.slots }
 {
     regions.keeps_rules();
-    if has_chunk(regions, grid, region, c) {
+    if regions.holds(c) == 0 {
+        store.lose(region, c);
+    } else if has_section(regions, grid, region, c) {
         store.gain(region, c);
     } else {
-        store.lose(region, c);
+        store.unsettle(region);
     }
 }
 
-/// Whether the region has the chunk, and the chunk is loaded.
-fn has_chunk(regions: &Regions, grid: &Grid, region: u64, c: ChunkPos) -> bool
+/// Whether the region has the section of the chunk.
+fn has_section(regions: &Regions, grid: &Grid, region: u64, c: ChunkPos) -> bool
     requires grid { grid.now ≡ (grid_state regions.now).grid }
     requires given { 0 < region }
-    ensures { result ≡ is_chunk_of (grid_state regions.now) region c }
+    ensures { result
+        ≡ nat_eq ((grid_state regions.now).owner (section_around (grid_state regions.now).grid c))
+        region }
 {
-    regions.holds(c) > 0 && regions.owner(section_of(grid, c)) == Some(region)
+    regions.owner(section_of(grid, c)) == Some(region)
 }

@@ -1,6 +1,6 @@
 //! Tickets of chunks.
 
-ghost use Rattle.std.specs.Prelude.{◌≡◌, ℕ, false, ◌+◌, ◌≤◌, ◌<◌, ◌++◌, IsTrue, IfOk, OnErr, vec_len, vec_capacity, length, nat_eq, if◌then◌else◌};
+ghost use Rattle.std.specs.Prelude.{◌≡◌, ℕ, true, false, ◌+◌, ◌≤◌, ◌<◌, ◌++◌, IsTrue, IfOk, OnErr, vec_len, vec_capacity, length, nat_eq, if◌then◌else◌};
 ghost use Rattle.fol_model.specs.declared.places.ChunkPos.{ChunkPos};
 ghost use Rattle.fol_model.specs.Geometry.{is_chunk, section_of as section_around};
 ghost use Rattle.fol_model.specs.Add.{is_full};
@@ -10,10 +10,11 @@ ghost use Rattle.fol_regions.specs.Table.{grid_state};
 ghost use Rattle.fol_regions.specs.Answers.{add_answer};
 ghost use Rattle.fol_regions.specs.Changes.{add_change};
 ghost use Rattle.fol_store.specs.Bag.{Bag};
-ghost use Rattle.fol_store.specs.Stock.{bag_of, next_of};
+ghost use Rattle.fol_store.specs.Clear.{HasNoTask};
+ghost use Rattle.fol_store.specs.Stock.{bag_of, jobs_of, next_of};
 ghost use Rattle.fol_core.specs.Answers.{LoadRecords, UnloadRecords, load_result, unload_result};
 ghost use Rattle.fol_core.specs.Bags.{AreInOrder, CanJoin, Follow, opened_bags, unsettled_at};
-ghost use Rattle.fol_core.specs.Follows.{CanFollow, CanGain, CanHold, CanLose, CanSettle, ChangesTo, Drops, Holds, IsKnown, Narrows, Settle, Widens, changed_bags, followed, load_answer_in, losing, target_in, tickets_after};
+ghost use Rattle.fol_core.specs.Follows.{CanDrop, CanFollow, CanGain, CanHold, CanLose, CanSettle, ChangesTo, Drops, Holds, IsKnown, Narrows, Settle, Widens, changed_bags, followed, load_answer_in, losing, target_in, tickets_after};
 ghost use Rattle.fol_core.specs.Meaning.{Stays, world_of};
 ghost use Rattle.fol_core.specs.Posts.{LeavesRoom};
 ghost use Rattle.fol_core.specs.Same.{SameThings};
@@ -103,6 +104,8 @@ fn unloaded(tables: &mut Tables, c: ChunkPos) -> Unloaded
     requires near { CanLose (grid_state tables.old.regions) c
         ((grid_state tables.old.regions).owner (section_around tables.old.grid c))
         (bag_of tables.old.store) }
+    requires no_task { CanDrop (grid_state tables.old.regions) (count_at tables.old.tickets.entries)
+        (jobs_of tables.old.store) c }
     ensures answer { result ≡ (if nat_eq (count_at tables.old.tickets.entries c) 0
         then Unloaded.NoTicket else Unloaded.Lowered) }
     ensures done { Drops tables.old tables.new c
@@ -121,6 +124,8 @@ fn lower(regions: &mut Regions, store: &mut Store, home: SectionPos, c: ChunkPos
     requires known { IsKnown (bag_of store.old) ((grid_state regions.old).owner home) }
     requires near { CanLose (grid_state regions.old) c ((grid_state regions.old).owner home)
         (bag_of store.old) }
+    requires no_task { nat_eq ((grid_state regions.old).holds c) 1 ≡ true
+        → HasNoTask c (jobs_of store.old) }
     ensures regions { grid_state regions.new ≡ drop (grid_state regions.old) c }
     ensures bags { Settle (grid_state regions.new)
         (unsettled_at (losing home (grid_state regions.old) c) (bag_of store.old))
@@ -141,6 +146,7 @@ fn lose_chunk(regions: &Regions, store: &mut Store, s: SectionPos, c: ChunkPos)
     requires near { 0 < (grid_state regions.now).owner s
         → Narrows (grid_state regions.now) c ((grid_state regions.now).owner s)
         (bag_of store.old ((grid_state regions.now).owner s)) }
+    requires no_task { HasNoTask c (jobs_of store.old) }
     ensures bags { Settle (grid_state regions.now)
         (unsettled_at ((grid_state regions.now).owner s) (bag_of store.old)) (bag_of store.new) }
     ensures things { SameThings store.old store.new }

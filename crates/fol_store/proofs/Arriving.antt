@@ -17,7 +17,7 @@ use Rattle.fol_queues.proofs.Numbers.{nat_self}
 use Rattle.fol_queues.specs.Waiting.{option_filter, dated_in, job_of}
 use Rattle.fol_queues.specs.Distinct.{Distinct}
 use Rattle.fol_queues.specs.declared.dated.Dated.{Dated}
-use Rattle.fol_data.specs.Rests.{rests_of, IsInTime}
+use Rattle.fol_data.specs.Rests.{IsInTime}
 use Rattle.fol_data.specs.declared.region_data.RegionData.{RegionData}
 use Rattle.fol_store.specs.declared.places.Place.{Place}
 use Rattle.fol_store.specs.Moves.{SameThings, Queues}

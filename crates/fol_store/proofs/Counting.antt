@@ -11,15 +11,17 @@ use Rattle.fol_model.specs.declared.openings.BlockAt.{BlockAt}
 use Rattle.fol_model.specs.declared.entities.Entity.{Entity}
 use Rattle.fol_model.specs.Geometry.{same_chunk, same_block, chunk_of}
 use Rattle.fol_model.specs.ActionStep.{Flat, Standing, standing_of}
-use Rattle.fol_model.specs.Job.{Job}
+use Rattle.fol_model.specs.Job.{is_on}
 use Rattle.fol_model.specs.World.{block_in, standing_in}
 use Rattle.fol_chunks.specs.Contents.{is_recorded, size_within, nothing, flat_of as contents_of}
-use Rattle.fol_queues.specs.Waiting.{count_listed, dated_in, job_of}
+use Rattle.fol_queues.specs.Waiting.{dated_in, job_of}
 use Rattle.fol_queues.specs.declared.dated.Dated.{Dated}
+use Rattle.fol_data.specs.Rests.{rests_of}
 use Rattle.fol_data.specs.declared.region_data.RegionData.{RegionData}
 use Rattle.fol_store.specs.Things.{Key, of_block, of_entity, of_task, Thing, things, some_number, chunk_at}
-use Rattle.fol_store.specs.Clear.{IsClearOf}
+use Rattle.fol_store.specs.Clear.{HasNoTask, IsClearOf}
 use Rattle.fol_store.proofs.Homes.{single-self}
+use Rattle.fol_store.proofs.PlaceSteps.{same_chunk-swap}
 
 -- data without tasks, blocks and entities has nothing
 pub things_of_empty : (r : RegionData) → r.queues.tasks ≡ [] → contents_of r.chunks ≡ nothing → (k : Key) → things r k ≡ None
@@ -59,26 +61,17 @@ module _ (p : ChunkPos → Bool) where
         | inr m ↦ no_entity xs id s two.1 (rw m at f)
       ]
 
-  no_task : (ds : List Dated) (tick n : ℕ) (j : Job) → count_by (λ (d : Dated). p d.task.chunk) ds ≡ 0 → option_map (job_of tick) (dated_in ds n) ≡ Some j → p j.chunk ≡ false
-  no_task [] tick n j e f = (let z : None ≡ Some j = f in cc)
-  no_task (d ∷ ds) tick n j e f =
-      let two = none_counted (λ (y : Dated). p y.task.chunk) d ds e in
-      elim (cases_Bool (nat_eq d.task.number n)) [
-        | inl t ↦
-            let g : Some (job_of tick d) ≡ Some j = rw t at f in
-            let h : job_of tick d ≡ j = cc in
-            ap (λ (y : Job). p y.chunk) (sym h) ∙ two.0
-        | inr m ↦ no_task ds tick n j two.1 (rw m at f)
-      ]
-
--- nothing is counted on the chunk
-pub clear_of : (c : ChunkPos) (r : RegionData) → count_listed (c ∷ []) r.queues ≡ 0 → size_within (is_recorded (c ∷ [])) r.chunks ≡ 0 → IsClearOf c r
-clear_of c r tasks contents k x q = elim (cases_Bool (same_chunk c (chunk_at k x))) [
-  | inl e ↦ let f : true ≡ false = sym (single-self c (chunk_at k x) (same_chunk-true c (chunk_at k x) e)) ∙ lies k x q in cc
-  | inr e ↦ e
-]
+-- no task lies on the chunk, and nothing else is counted there
+pub clear_of : (c : ChunkPos) (r : RegionData) → HasNoTask c (rests_of r) → size_within (is_recorded (c ∷ [])) r.chunks ≡ 0 → IsClearOf c r
+clear_of c r none contents = lies
   where
-    lies : (k : Key) (x : Thing k) → things r k ≡ Some x → is_recorded (c ∷ []) (chunk_at k x) ≡ false
-    lies (of_block b) x q = no_block (is_recorded (c ∷ [])) r.chunks.blocks b x (omega arith) q
-    lies (of_entity id) x q = no_entity (is_recorded (c ∷ [])) r.chunks.entities id x (omega arith) q
-    lies (of_task n) x q = no_task (is_recorded (c ∷ [])) r.queues.tasks r.tick n x tasks q
+    off : (p : ChunkPos) → is_recorded (c ∷ []) p ≡ false → same_chunk c p ≡ false
+    off p e = elim (cases_Bool (same_chunk c p)) [
+      | inl t ↦ let f : true ≡ false = sym (single-self c p (same_chunk-true c p t)) ∙ e in cc
+      | inr t ↦ t
+    ]
+
+    lies : (k : Key) (x : Thing k) → things r k ≡ Some x → same_chunk c (chunk_at k x) ≡ false
+    lies (of_block b) x q = off (chunk_of b) (no_block (is_recorded (c ∷ [])) r.chunks.blocks b x (omega arith) q)
+    lies (of_entity id) x q = off (chunk_of x.at) (no_entity (is_recorded (c ∷ [])) r.chunks.entities id x (omega arith) q)
+    lies (of_task n) x q = same_chunk-swap c x.chunk ∙ ap (is_on c) (sym q) ∙ none n

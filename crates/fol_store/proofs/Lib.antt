@@ -32,6 +32,7 @@ pub mod Crossing
 pub mod OneMore
 pub mod Coming
 pub mod Outward
+pub mod NoTask
 pub mod Counting
 pub mod Leaving
 pub mod LeavingBare

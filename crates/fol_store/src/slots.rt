@@ -6,19 +6,20 @@ ghost use Rattle.fol_store.specs.Stock.{no_slot};
 ghost use Rattle.fol_store.specs.Slots.{slot_in, stays_calm};
 ghost use Rattle.fol_store.specs.Sound.{is_open};
 ghost use Rattle.fol_store.specs.Things.{Key, no_data, things, of_task, IsTimely};
-ghost use Rattle.fol_data.specs.Rests.{IsInTime};
+ghost use Rattle.fol_data.specs.Rests.{IsInTime, rests_of};
+ghost use Rattle.fol_store.specs.Clear.{HasNoTask};
 ghost use Rattle.fol_store.specs.Places.{is_bag};
 ghost use Rattle.fol_store.specs.Moves.{SameThings, AreApart, Loses, Gains, Queues};
 ghost use Rattle.std.specs.List.Sorted.{IsStrictlySortedBy};
 ghost use Rattle.fol_chunks.specs.Order.{chunk_cmp};
-ghost use Rattle.fol_chunks.specs.Contents.{is_recorded};
+ghost use Rattle.fol_chunks.specs.Contents.{is_recorded, size_within};
 ghost use Rattle.fol_model.specs.declared.places.ChunkPos.{ChunkPos};
 ghost use Rattle.fol_model.specs.Geometry.{same_chunk};
 
 use crate::bags::Bags;
 use crate::kept::Kept;
 use crate::places::Place;
-use crate::shift::shift;
+use crate::shift::{shift, shift_contents};
 use crate::slot::{Slot, new_data};
 use crate::{Taken, waiting};
 use fol_data::RegionData;
@@ -769,4 +770,39 @@ pub fn shift_out(
 {
     let slot = bags.slot_mut(id);
     shift(&mut slot.body, chunks, to)
+}
+
+/// Moves the blocks and entities that lie on a chunk, which are `size`, from a bag elsewhere, where no task in the bag lies on it. If
+/// memory runs out, nothing has moved.
+pub fn shift_contents_out(
+    bags: &mut Bags,
+    id: usize,
+    c: ChunkPos,
+    size: u64,
+    to: &mut RegionData,
+) -> Result<(), AllocError>
+    requires open { is_open (slot_in bags.old.items id) ≡ true }
+    requires size { size_within (is_recorded (c ∷ [])) (slot_in bags.old.items id).body.chunks
+        ≤ size }
+    requires no_task { HasNoTask c (rests_of (slot_in bags.old.items id).body) }
+    requires timely { IsTimely (slot_in bags.old.items id).body }
+    requires to_timely { IsTimely to.old }
+    requires apart { AreApart (slot_in bags.old.items id).body to.old }
+    ensures timely { IsTimely (slot_in bags.new.items id).body }
+    ensures to_timely { IsTimely to.new }
+    ensures loses { OnOk result (Loses (c ∷ []) (slot_in bags.old.items id).body
+        (slot_in bags.new.items id).body) }
+    ensures gains { OnOk result (Gains (c ∷ []) (slot_in bags.old.items id).body to.old to.new) }
+    ensures err { OnErr result (SameThings (slot_in bags.old.items id).body
+        (slot_in bags.new.items id).body) }
+    ensures to_err { OnErr result (SameThings to.old to.new) }
+    ensures slots { (u : ℕ) → slot_in bags.new.items u
+        ≡ (if nat_eq id u
+        then record (slot_in bags.old.items id) { body = (slot_in bags.new.items id).body }
+        else slot_in bags.old.items u) }
+    ensures len { length bags.new.items ≡ length bags.old.items }
+    ensures free { bags.new.free ≡ bags.old.free }
+{
+    let slot = bags.slot_mut(id);
+    shift_contents(&mut slot.body, c, size, to)
 }

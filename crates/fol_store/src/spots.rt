@@ -6,8 +6,9 @@ ghost use Rattle.fol_chunks.specs.Order.{chunk_cmp};
 ghost use Rattle.fol_store.specs.Slots.{slot_in, spot_in};
 ghost use Rattle.fol_store.specs.Sound.{is_open};
 ghost use Rattle.fol_store.specs.Things.{Key, no_data, things, of_task, of_entity, IsTimely};
-ghost use Rattle.fol_chunks.specs.Contents.{flat_of};
-ghost use Rattle.fol_data.specs.Rests.{IsInTime};
+ghost use Rattle.fol_chunks.specs.Contents.{flat_of, is_recorded, size_within};
+ghost use Rattle.fol_data.specs.Rests.{IsInTime, rests_of};
+ghost use Rattle.fol_store.specs.Clear.{HasNoTask};
 ghost use Rattle.fol_store.specs.Moves.{SameThings, AreApart, Loses, Gains, Queues, LaysBlock, LaysEntity};
 
 use crate::bags::Bags;
@@ -120,6 +121,48 @@ pub fn shift_from_bag(
 {
     let spot = &mut spots[i];
     slots::shift_out(bags, id, chunks, spot)
+}
+
+/// Moves the blocks and entities that lie on a chunk, which are `size`, from a bag into a spot, where no task in the bag lies on it. If
+/// memory runs out, nothing has moved.
+pub fn shift_contents_from_bag(
+    bags: &mut Bags,
+    id: usize,
+    c: ChunkPos,
+    size: u64,
+    spots: &mut Vec<RegionData>,
+    i: usize,
+) -> Result<(), AllocError>
+    requires spot_there { i < vec_len spots.old }
+    requires bag_open { is_open (slot_in bags.old.items id) ≡ true }
+    requires size { size_within (is_recorded (c ∷ [])) (slot_in bags.old.items id).body.chunks
+        ≤ size }
+    requires no_task { HasNoTask c (rests_of (slot_in bags.old.items id).body) }
+    requires timely { IsTimely (slot_in bags.old.items id).body }
+    requires to_timely { IsTimely (spot_in spots.old.items i) }
+    requires apart { AreApart (slot_in bags.old.items id).body (spot_in spots.old.items i) }
+    ensures timely { IsTimely (slot_in bags.new.items id).body }
+    ensures to_timely { IsTimely (spot_in spots.new.items i) }
+    ensures loses { OnOk result (Loses (c ∷ []) (slot_in bags.old.items id).body
+        (slot_in bags.new.items id).body) }
+    ensures gains { OnOk result (Gains (c ∷ []) (slot_in bags.old.items id).body
+        (spot_in spots.old.items i) (spot_in spots.new.items i)) }
+    ensures err { OnErr result (SameThings (slot_in bags.old.items id).body
+        (slot_in bags.new.items id).body) }
+    ensures to_err { OnErr result (SameThings (spot_in spots.old.items i)
+        (spot_in spots.new.items i)) }
+    ensures spots { (n : ℕ) → spot_in spots.new.items n
+        ≡ (if nat_eq i n then spot_in spots.new.items i else spot_in spots.old.items n) }
+    ensures slots { (u : ℕ) → slot_in bags.new.items u
+        ≡ (if nat_eq id u
+        then record (slot_in bags.old.items id) { body = (slot_in bags.new.items id).body }
+        else slot_in bags.old.items u) }
+    ensures spots_len { vec_len spots.new ≡ vec_len spots.old }
+    ensures len { length bags.new.items ≡ length bags.old.items }
+    ensures free { bags.new.free ≡ bags.old.free }
+{
+    let spot = &mut spots[i];
+    slots::shift_contents_out(bags, id, c, size, spot)
 }
 
 /// Makes room for one task in a spot.

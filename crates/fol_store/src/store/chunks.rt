@@ -4,11 +4,11 @@ ghost use Rattle.std.specs.Prelude.{◌≡◌, ◌≢◌, ◌<◌, ◌≤◌, �
 ghost use Rattle.std.specs.Option.{is_none, ForSome};
 ghost use Rattle.std.specs.List.Sorted.{IsStrictlySortedBy};
 ghost use Rattle.fol_model.specs.ActionStep.{at_id};
-ghost use Rattle.fol_chunks.specs.Contents.{is_recorded};
+ghost use Rattle.fol_chunks.specs.Contents.{is_recorded, size_within};
 ghost use Rattle.fol_chunks.specs.Order.{chunk_cmp};
 ghost use Rattle.fol_store.specs.Places.{place_at};
 ghost use Rattle.fol_store.specs.Things.{Key, things};
-ghost use Rattle.fol_store.specs.Clear.{IsClearOf};
+ghost use Rattle.fol_store.specs.Clear.{HasNoTask, IsClearOf};
 ghost use Rattle.fol_store.specs.Relisted.{IsInOrder, Narrowed, Widened};
 
 use crate::places::{Place, has_bag};
@@ -82,11 +82,13 @@ impl Store {
         self.arrivals.is_empty() && spots::is_bare(&self.spots, place)
     }
 
-    /// The region of a bag has a chunk less. A listed bag that is here loses the chunk, if it has it, and what lies on it goes into the
-    /// chunk's spot; one that a worker has notes the chunk. Each is as calm as it was. Where memory runs out, the bag has to be gathered anew.
+    /// The region of a bag has a chunk less, on which no queued task lies. A listed bag that is here loses the chunk, if it has it, and the
+    /// blocks and entities on it go into the chunk's spot; one that a worker has notes the chunk, whatever lies on it. Each is as calm as
+    /// it was. Where memory runs out, the bag has to be gathered anew. Queued tasks cost it nothing.
     pub fn lose(&mut self, id: u64, c: ChunkPos)
         requires known { ((bag_of self.old id).here || (bag_of self.old id).taken) ≡ true }
         requires order { IsInOrder (bag_of self.old id) }
+        requires no_task { (bag_of self.old id).taken ≡ false → HasNoTask c (jobs_of self.old) }
         ensures own { Narrowed c (bag_of self.old id) (bag_of self.new id) }
         ensures away { (bag_of self.old id).taken ≡ true → (bag_of self.new id).listed ≡ true
             → is_recorded (bag_of self.new id).since c ≡ true }
@@ -155,6 +157,7 @@ impl Store {
         requires listed { (bag_of self.old id).listed ≡ true }
         requires order { IsStrictlySortedBy chunk_cmp (bag_of self.old id).chunks }
         requires home { (place self.old c).bag ≡ Some id }
+        requires no_task { HasNoTask c (jobs_of self.old) }
         ensures own { Narrowed c (bag_of self.old id) (bag_of self.new id) }
         ensures calm { (bag_of self.new id).calm ≡ (bag_of self.old id).calm }
         ensures others { (u : ℕ) → u ≢ id → bag_of self.new u ≡ bag_of self.old u }
@@ -176,27 +179,30 @@ impl Store {
         requires listed { (bag_of self.old id).listed ≡ true }
         requires order { IsStrictlySortedBy chunk_cmp (bag_of self.old id).chunks }
         requires home { (place self.old c).bag ≡ Some id }
+        requires no_task { HasNoTask c (jobs_of self.old) }
         ensures own { OnOk result (Narrowed c (bag_of self.old id) (bag_of self.new id)) }
         ensures others { OnOk result ((u : ℕ) → u ≢ id → bag_of self.new u ≡ bag_of self.old u) }
         ensures calm { OnOk result ((bag_of self.new id).calm ≡ (bag_of self.old id).calm) }
         ensures err { OnErr result (bag_of self.new ≡ bag_of self.old) }
         ensures same { SameMeaning self.old self.new }
     {
-        if self.has_nothing_on(id, c) {
+        let size = self.size_on(id, c);
+        if size == 0 {
             self.expel_bare(id, c);
             return Ok(());
         }
         let i = self.spot_of(c)?;
-        self.expel_to(i, id, c)
+        self.expel_to(i, id, c, size)
     }
 
-    /// Whether nothing in a bag lies on the chunk.
-    fn has_nothing_on(&self, id: usize, c: ChunkPos) -> bool
+    /// How many blocks and entities in a bag lie on the chunk. Where no task does, and there is none of them, nothing does.
+    fn size_on(&self, id: usize, c: ChunkPos) -> u64
         requires { (bag_of self.now id).here ≡ true }
-        ensures { IsTrue result → IsClearOf c (slot self.now id).body }
+        ensures size { result ≡ size_within (is_recorded (c ∷ [])) (slot self.now id).body.chunks }
+        ensures none { result ≡ 0 → HasNoTask c (jobs_of self.now)
+            → IsClearOf c (slot self.now id).body }
     {
-        let size = self.bags.slot(id).body.size_listed(&[c]);
-        size.tasks == 0 && size.things == 0
+        self.bags.slot(id).body.chunks.size_listed(&[c])
     }
 
     /// A listed bag loses a chunk that it has, on which nothing in it lies.
@@ -215,20 +221,23 @@ impl Store {
         slots::dismiss(self.alloc, &mut self.bags, id, c);
     }
 
-    /// A listed bag that has the chunk loses it, and what lies on it goes into the chunk's spot, unless memory runs out.
-    fn expel_to(&mut self, i: usize, id: usize, c: ChunkPos) -> Result<(), AllocError>
+    /// A listed bag that has the chunk loses it, and the blocks and entities that lie on it, which are `size`, go into the chunk's spot,
+    /// unless memory runs out.
+    fn expel_to(&mut self, i: usize, id: usize, c: ChunkPos, size: u64) -> Result<(), AllocError>
         requires here { (bag_of self.old id).here ≡ true }
         requires listed { (bag_of self.old id).listed ≡ true }
         requires order { IsStrictlySortedBy chunk_cmp (bag_of self.old id).chunks }
         requires spot { (place self.old c).spot ≡ Some i }
         requires home { (place self.old c).bag ≡ Some id }
+        requires size { size_within (is_recorded (c ∷ [])) (slot self.old id).body.chunks ≤ size }
+        requires no_task { HasNoTask c (jobs_of self.old) }
         ensures own { OnOk result (Narrowed c (bag_of self.old id) (bag_of self.new id)) }
         ensures others { OnOk result ((u : ℕ) → u ≢ id → bag_of self.new u ≡ bag_of self.old u) }
         ensures calm { OnOk result ((bag_of self.new id).calm ≡ (bag_of self.old id).calm) }
         ensures err { OnErr result (bag_of self.new ≡ bag_of self.old) }
         ensures same { SameMeaning self.old self.new }
     {
-        spots::shift_from_bag(&mut self.bags, id, &[c], &mut self.spots, i)?;
+        spots::shift_contents_from_bag(&mut self.bags, id, c, size, &mut self.spots, i)?;
         self.places.unname(c);
         slots::dismiss(self.alloc, &mut self.bags, id, c);
         Ok(())

@@ -21,6 +21,9 @@ pub follow_chunk-requires-clause-follows : goal.follow_chunk-requires-clause-fol
 follow_chunk-requires-clause-follows c = let e = ap (λ (f : ℕ → Bag). f c.args.region) c.next_change.ensures.bags ∙ at_here (bag_of c.loop-c.store) c.args.region _ in
     popped (bag_of c.loop-c.store c.args.region) (bag_of c.next_change.new.self c.args.region) c.in-Some.c _ e (c.in-Some.ensures.some c.in-Some.c refl) c.loop-c.invariant.follows
 
+pub follow_chunk-requires-clause-tasks : goal.follow_chunk-requires-clause-tasks
+follow_chunk-requires-clause-tasks c = let e = c.next_change.ensures.tasks ∙ c.loop-c.invariant.things.jobs in rw e c.requires.tasks
+
 pub loop-c-smaller : goal.loop-c-smaller
 loop-c-smaller c =
     let same : (bag_of c.follow_chunk.new.store c.args.region).since ≡ (bag_of c.next_change.new.self c.args.region).since = ap (λ (b : Bag). b.since) c.follow_chunk.ensures.own.same in

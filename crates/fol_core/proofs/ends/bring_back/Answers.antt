@@ -23,6 +23,9 @@ catch_up-requires-clause-follows c =
     let P : Bag → Type 0 = λ b. b.listed ≡ true → KeepsUp b (filter (is_chunk_of (grid_state c.args.tables.now.regions) c.args.region) all_chunks) in
     subst P (sym (own_back (bag_of c.args.tables.now.store) (grid_state c.args.tables.now.regions) c.args.region c.args.body.tick c.args.body.owed (bag_of c.put.new.self) (bag_of c.put.new.self) c.put.ensures.bags)) c.requires.follows
 
+pub catch_up-requires-clause-tasks : goal.catch_up-requires-clause-tasks
+catch_up-requires-clause-tasks c = let e = c.put.ensures.tasks in rw e c.requires.held
+
 pub returns : goal.returns
 returns c = record {
   regions = refl;

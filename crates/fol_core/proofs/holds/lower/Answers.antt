@@ -22,6 +22,9 @@ lose_chunk-requires-clause-near c =
     let e : nat_eq ((grid_state c.args.regions.now).holds c.args.c) 1 ≡ true = gone_one (grid_state c.args.regions.now) c.args.c (sym c.remove.ensures.answer ∙ c.in-Gone.is) in
     subst (λ (g : GridState). 0 < g.owner c.args.home → Narrows g c.args.c (g.owner c.args.home) (bag_of c.args.store.now (g.owner c.args.home))) (sym c.remove.ensures.state) (λ l. c.requires.near l e)
 
+pub lose_chunk-requires-clause-no_task : goal.lose_chunk-requires-clause-no_task
+lose_chunk-requires-clause-no_task c = c.requires.no_task (gone_one (grid_state c.args.regions.now) c.args.c (sym c.remove.ensures.answer ∙ c.in-Gone.is))
+
 pub returns-in-Gone-clause-bags : goal.returns-in-Gone-clause-bags
 unfolding losing drop_hold
 returns-in-Gone-clause-bags c =

@@ -2,7 +2,7 @@ use Rattle.std.proofs.Common.{ap, ◌∙◌}
 use Rattle.fol_core.specs.declared.tables.Course.{Course}
 use Rattle.fol_core.proofs.Rooms.{room_left, same_room}
 use Rattle.fol_core.proofs.SameKept.{same_stands}
-use Rattle.fol_core.proofs.UnloadKept.{owner_known, owner_loses, unload_answers, unload_kept}
+use Rattle.fol_core.proofs.UnloadKept.{owner_drops, owner_known, owner_loses, unload_answers, unload_kept}
 use Rattle.fol_core.proofs.machine.Core.unload.Goals as goal
 
 pub invariant_of-self : goal.invariant_of-self
@@ -16,6 +16,7 @@ pub unloaded-answer-requires : goal.unloaded-answer-requires
 unloaded-answer-requires c = record {
   known = owner_known _ _ _ (same_stands _ _ _ _ c.in_ok-grow.ensures.same c.self.invariant.0) c.args.c;
   near = owner_loses _ _ _ (same_stands _ _ _ _ c.in_ok-grow.ensures.same c.self.invariant.0) c.args.c;
+  no_task = owner_drops _ _ _ (same_stands _ _ _ _ c.in_ok-grow.ensures.same c.self.invariant.0) c.args.c;
 }
 
 pub invariant_of-self-2 : goal.invariant_of-self-2

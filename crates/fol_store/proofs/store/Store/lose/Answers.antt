@@ -34,6 +34,12 @@ pub expel-requires-clause-order : goal.expel-requires-clause-order
 unfolding bag_of
 expel-requires-clause-order c = c.requires.order (rw (← c.self.view_is) (and_parts (slot (the_view c.self.inside) c.args.id).here (slot (the_view c.self.inside) c.args.id).listed (sym c.is_ready.ensures ∙ c.if-not-is_ready.false)).1)
 
+pub expel-requires-clause-no_task : goal.expel-requires-clause-no_task
+unfolding bag_of
+expel-requires-clause-no_task c =
+    let here : (slot (the_view c.self.inside) c.args.id).here ≡ true = (and_parts (slot (the_view c.self.inside) c.args.id).here (slot (the_view c.self.inside) c.args.id).listed (sym c.is_ready.ensures ∙ c.if-not-is_ready.false)).0 in
+    c.requires.no_task (rw (← c.self.view_is) (here_not_taken c.args.id (the_view c.self.inside) c.self.invariant here))
+
 pub returns-then-not-is_ready-clause-own : goal.returns-then-not-is_ready-clause-own
 returns-then-not-is_ready-clause-own c =
     noted_bag _ c.args.c (bag_of c.args.self.now c.args.id) (bag_of c.note_change.new.self c.args.id) (own_at c.args.id [] (bag_of c.args.self.now) (bag_of c.note_change.new.self) _ c.note_change.ensures.bags)

@@ -1,9 +1,14 @@
-use Rattle.std.proofs.Common.{◌≡◌, rules, ℕ, sym, ◌∙◌, ap, subst}
+use Rattle.std.proofs.Common.{◌≡◌, rules, ℕ, sym, ◌∙◌, ap, subst, arith, List, Option}
 use Rattle.std.specs.List.Sorted.{IsStrictlySortedBy}
 use Rattle.fol_chunks.specs.Order.{chunk_cmp}
 use Rattle.fol_store.specs.Bag.{Bag}
 use Rattle.fol_store.specs.Relisted.{Narrowed}
-use Rattle.fol_store.specs.Stock.{bag_of}
+use Rattle.fol_model.specs.Job.{Job}
+use Rattle.fol_store.specs.declared.slot.Slot.{Slot}
+use Rattle.fol_store.specs.Clear.{HasNoTask}
+use Rattle.fol_store.specs.Slots.{slot_in}
+use Rattle.fol_store.specs.Stock.{bag_of, slot}
+use Rattle.fol_store.proofs.Totals.{same_jobs}
 use Rattle.fol_store.proofs.Arriving.{bags_same}
 use Rattle.fol_store.proofs.PlaceSteps.{on_ok, on_err}
 use Rattle.fol_store.proofs.store.Store.try_expel.Goals as goal
@@ -18,6 +23,17 @@ pub expel_to-requires-clause-order : goal.expel_to-requires-clause-order
 expel_to-requires-clause-order c =
     let P : (ℕ → Bag) → Type 0 = λ f. IsStrictlySortedBy chunk_cmp (f c.args.id).chunks in
     subst P (sym (bags_same _ _ c.spot_of.ensures.bags)) c.requires.order
+
+pub expel_to-requires-clause-size : goal.expel_to-requires-clause-size
+expel_to-requires-clause-size c =
+    let same : slot c.spot_of.new.self c.args.id ≡ slot c.args.self.now c.args.id = ap (λ (l : List Slot). slot_in l c.args.id) c.spot_of.ensures.bags in
+    let size = c.size_on-size.ensures.size in
+    rw same (omega (arith, size))
+
+pub expel_to-requires-clause-no_task : goal.expel_to-requires-clause-no_task
+expel_to-requires-clause-no_task c =
+    let P : (ℕ → Option Job) → Type 0 = λ f. HasNoTask c.args.c f in
+    subst P (sym (same_jobs _ _ c.spot_of.ensures.same.found)) c.requires.no_task
 
 pub returns-clause-own : goal.returns-clause-own
 returns-clause-own c =
