@@ -1,11 +1,11 @@
 -- Two lists in order, merged.
-use Rattle.std.proofs.Common.{◌≡◌, ℕ, zero, suc, ◌+◌, ◌≤◌, ◌<◌, refl, sym, ◌∙◌, ap, arith, subst, Bool, true, false, ◌||◌, List, [], ◌∷◌, ◌++◌, length, take, drop, get_or, append_assoc, inl, inr, length-append, length-take-le, ◌⊎◌}
+use Rattle.std.proofs.Common.{◌≡◌, ℕ, zero, suc, ◌+◌, ◌≤◌, ◌<◌, refl, sym, ◌∙◌, ap, arith, subst, Bool, true, false, ◌||◌, List, [], ◌∷◌, ◌++◌, length, take, drop, get_or, append_assoc, inl, inr, length-append, length-drop, length-take-le, ◌⊎◌}
 use Rattle.std.specs.List.{AllByRecursion}
 use Rattle.std.specs.List.Sorted.{IsStrictlySortedBy}
 use Rattle.std.specs.declared.cmp.Ordering.TheVariants.{Less, Equal, Greater}
 use Rattle.std.specs.Ordering.{ordering_reverse}
 use Rattle.std.proofs.Math.Bool.{or-false}
-use Rattle.std.proofs.lemmas.List.{append-nil, get_or_default, take-append-drop, drop_more, drop_all}
+use Rattle.std.proofs.lemmas.List.{append-nil, get_or_default, get_or-drop, take-append-drop, take_more, drop_more, drop_all}
 use Rattle.std.proofs.lemmas.List.Folds.{list_any-append}
 use Rattle.std.proofs.lemmas.Bool.{cases_lt, or_cases}
 use Rattle.std.proofs.lemmas.Map.Keys.{Less-from_sorted}
@@ -94,6 +94,13 @@ behind_more xs s m k e d sorted l n never u h =
       | inl v ↦ never (ap (λ x. section_cmp x s) same ∙ sections_tell.order.trans (get_or xs m d) (get_or xs k d) s (Less-from_sorted section_cmp xs m k d sorted v n) h)
       | inr v ↦ let at : m ≡ k = omega arith in never (ap (λ x. section_cmp x s) same ∙ ap (λ i. section_cmp (get_or xs i d) s) at ∙ h)
     ]
+
+-- what is left of a list in order is in order
+pub sorted_drop : (n : ℕ) (xs : List SectionPos) → Sorted xs → Sorted (drop n xs)
+unfolding IsStrictlySortedBy
+sorted_drop zero xs h = h
+sorted_drop (suc n) [] h = h
+sorted_drop (suc n) (x ∷ xs) h = sorted_drop n xs h.1
 
 shift : (out rest : List SectionPos) (x : SectionPos) → Sorted (out ++ x ∷ rest) → Sorted ((out ++ x ∷ []) ++ rest)
 shift out rest x h = subst Sorted (sym (append_assoc out (x ∷ []) rest)) h
@@ -191,3 +198,18 @@ module _ (out xs ys : List SectionPos) (i j : ℕ) (d : SectionPos) (m : Merged 
       four false true false f = refl
       four false false true f = refl
       four false false false f = refl
+
+-- several of the first list, all before the next one of the second
+pub take_run : (out xs ys : List SectionPos) (i j : ℕ) (d : SectionPos) (run : ℕ) → Merged out xs ys i j → i + run ≤ length xs → j < length ys
+    → ((k : ℕ) → k < run → section_cmp (get_or xs (i + k) d) (get_or ys j d) ≡ Less) → Merged (out ++ take run (drop i xs)) xs ys (i + run) j
+take_run out xs ys i j d zero m l k less = let n : i + 0 ≡ i = omega arith in rw (append-nil out, n) m
+take_run out xs ys i j d (suc n) m l k less =
+    let before = take_run out xs ys i j d n m (omega (arith, l)) k (λ q h. less q (omega (arith, h))) in
+    let next = take_first (out ++ take n (drop i xs)) xs ys (i + n) j d before (omega (arith, l)) k (less n (omega arith)) in
+    let step : suc n ≡ n + 1 = omega arith in
+    let one : take (suc n) (drop i xs) ≡ take n (drop i xs) ++ get_or xs (i + n) d ∷ [] =
+    ap (λ q. take q (drop i xs)) step ∙ take_more (drop i xs) n d (omega (arith, l, length-drop i xs))
+    ∙ ap (λ (x : SectionPos). take n (drop i xs) ++ x ∷ []) (get_or-drop i xs n d) in
+    let items : (out ++ take n (drop i xs)) ++ get_or xs (i + n) d ∷ [] ≡ out ++ take (suc n) (drop i xs) = append_assoc out (take n (drop i xs)) (get_or xs (i + n) d ∷ []) ∙ ap (λ zs. out ++ zs) (sym one) in
+    let e : (i + n) + 1 ≡ i + suc n = omega arith in
+    subst (λ (zs : List SectionPos). Merged zs xs ys (i + suc n) j) items (subst (λ (q : ℕ). Merged ((out ++ take n (drop i xs)) ++ get_or xs (i + n) d ∷ []) xs ys q j) e next)

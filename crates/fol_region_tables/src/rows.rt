@@ -184,8 +184,9 @@ fn merge(xs: &[SectionPos], ys: &[SectionPos], kept: usize, out: &mut Vec<Sectio
     while i < xs.len() && j < ys.len() {
         match compare(xs[i], ys[j]) {
             Ordering::Less => {
-                let _ = out.push(xs[i]);
-                i += 1;
+                let run = count_before(&xs[i..], ys[j]);
+                let _ = out.extend_from_slice(&xs[i..i + run]);
+                i += run;
             }
             Ordering::Equal => {
                 let _ = out.push(xs[i]);
