@@ -1,14 +1,14 @@
 -- The loaded chunks of a region, counted and listed section by section.
 use Rattle.std.proofs.Common.{◌≡◌, ℕ, zero, suc, ◌+◌, ◌≤◌, ◌<◌, refl, sym, ◌∙◌, ap, arith, Bool, true, false, cond, inl, inr, ◌&&◌, ◌||◌, List, [], ◌∷◌, ◌++◌, length, get_or, take, subst}
-use Rattle.std.specs.Prelude.{nat_eq, nat_lt, count_by, filter, sum_by}
+use Rattle.std.specs.Prelude.{nat_eq, nat_lt, count_by, filter, flat_map, sum_by}
 use Rattle.std.specs.List.Sorted.{IsPermutation, IsSortedBy, IsStrictlySortedBy}
 use Rattle.std.specs.Ordering.{is_lt}
 use Rattle.std.specs.declared.cmp.Ordering.TheVariants.{Less}
-use Rattle.std.proofs.lemmas.Bool.{cases_Bool, true≢false, and_parts, and_from, or_cases, or_left, or_right}
+use Rattle.std.proofs.lemmas.Bool.{cases_Bool}
 use Rattle.std.proofs.lemmas.List.{take_all}
 use Rattle.std.proofs.lemmas.List.Kept.{IsStrictlySortedBy-filter}
-use Rattle.std.proofs.lemmas.List.Sorted.{IsPermutation-append_left, IsPermutation-sym, IsPermutation-trans, length_permutation}
-use Rattle.std.proofs.lemmas.List.Sums.{length-filter, sum_by_more}
+use Rattle.std.proofs.lemmas.List.Sorted.{IsPermutation-append_left, IsPermutation-refl, IsPermutation-sym, IsPermutation-trans}
+use Rattle.std.proofs.lemmas.List.Sums.{sum_by_more}
 use Rattle.std.proofs.lemmas.Map.Keys.{Less-from_sorted}
 use Rattle.std.proofs.Math.Path.{fun_ext}
 use Rattle.fol_model.specs.declared.places.ChunkPos.{ChunkPos}
@@ -17,11 +17,11 @@ use Rattle.fol_model.specs.Geometry.{same_section, section_of, is_among}
 use Rattle.fol_model.specs.Outputs.{is_chunk_of, chunk_count}
 use Rattle.fol_model.specs.Universe.{all_chunks, all_sections, section_cmp, chunk_cmp}
 use Rattle.fol_laws.proofs.ChunkOrder.{chunks_tell, chunks_sorted}
-use Rattle.fol_laws.proofs.ListCounts.{count_by-mono}
 use Rattle.fol_laws.proofs.SamePlaces.{same_section-true}
 use Rattle.fol_laws.proofs.SectionOrder.{sections_sorted}
 use Rattle.fol_sections.specs.Table.{holds_of, is_loaded_chunk_of, loaded_count}
 use Rattle.fol_sections.specs.Table as sections
+use Rattle.fol_sections.proofs.HeldChunks.{flat_map_next}
 use Rattle.fol_split.proofs.Places.{same_section-swap}
 use Rattle.fol_region_tables.specs.Book.{Book, IsBook, owner_of, rows_of}
 use Rattle.fol_regions.specs.Released.{grid_of}
@@ -85,7 +85,7 @@ unfolding loaded_count
 counted_more s xs i d l fresh = count_parts (is_loaded_among s (take (i + 1) xs)) (is_loaded_among s (take i xs)) (is_loaded_chunk_of s (get_or xs i d)) (loaded_more s xs i d l fresh) all_chunks
 
 -- what was listed, and then one more section's chunks
-pub listed_more : (s : sections.Table) (xs : List SectionPos) (i : ℕ) (d : SectionPos) (out : List ChunkPos) → i < length xs → is_among (take i xs) (get_or xs i d) ≡ false
+listed_more : (s : sections.Table) (xs : List SectionPos) (i : ℕ) (d : SectionPos) (out : List ChunkPos) → i < length xs → is_among (take i xs) (get_or xs i d) ≡ false
     → IsPermutation out (filter (is_loaded_among s (take i xs)) all_chunks) → IsPermutation (out ++ filter (is_loaded_chunk_of s (get_or xs i d)) all_chunks) (filter (is_loaded_among s (take (i + 1) xs)) all_chunks)
 listed_more s xs i d out l fresh h =
     let more = filter (is_loaded_chunk_of s (get_or xs i d)) all_chunks in
@@ -93,35 +93,29 @@ listed_more s xs i d out l fresh h =
     IsPermutation-trans (out ++ more) (before ++ more) (filter (is_loaded_among s (take (i + 1) xs)) all_chunks) (IsPermutation-append_left more out before h)
     (filter_either (is_loaded_among s (take (i + 1) xs)) (is_loaded_among s (take i xs)) (is_loaded_chunk_of s (get_or xs i d)) (loaded_more s xs i d l fresh) all_chunks)
 
-among_taken : (xs : List SectionPos) (i : ℕ) (q : SectionPos) → is_among (take i xs) q ≡ true → is_among xs q ≡ true
-among_taken xs zero q h = absurd (true≢false (sym h))
-among_taken [] (suc i) q h = h
-among_taken (x ∷ xs) (suc i) q h = elim (or_cases (same_section q x) (is_among (take i xs) q) h) [
-  | inl e ↦ or_left _ _ e
-  | inr e ↦ or_right _ _ (among_taken xs i q e)
-]
-
--- there is room for one more section's chunks
-pub listed_fits : (s : sections.Table) (xs : List SectionPos) (i : ℕ) (d : SectionPos) (out : List ChunkPos) → i < length xs → is_among (take i xs) (get_or xs i d) ≡ false
-    → IsPermutation out (filter (is_loaded_among s (take i xs)) all_chunks) → length out + loaded_count s (get_or xs i d) ≤ count_by (is_loaded_among s xs) all_chunks
-listed_fits s xs i d out l fresh h =
-    omega (
-      arith,
-      length_permutation out (filter (is_loaded_among s (take i xs)) all_chunks) h,
-      length-filter (is_loaded_among s (take i xs)) all_chunks,
-      counted_more s xs i d l fresh,
-      count_by-mono (is_loaded_among s (take (i + 1) xs)) (is_loaded_among s xs) (λ c e. let a = and_parts (nat_lt 0 (holds_of s c)) (is_among (take (i + 1) xs) (section_of s.grid c)) e in and_from _ _ a.0 (among_taken xs (i + 1) (section_of s.grid c) a.1)) all_chunks,
-    )
-
 -- nothing is listed yet
-pub listed_none : (s : sections.Table) (xs : List SectionPos) → filter (is_loaded_among s (take 0 xs)) all_chunks ≡ []
+listed_none : (s : sections.Table) (xs : List SectionPos) → filter (is_loaded_among s (take 0 xs)) all_chunks ≡ []
 listed_none s xs = none_kept (is_loaded_among s (take 0 xs)) (λ c. elim (cases_Bool (nat_lt 0 (holds_of s c))) [ inl e ↦ rw e refl | inr e ↦ rw e refl ]) all_chunks
 
+-- the chunks of a rising list, section by section, are those of its sections in another order
+pub listed_whole : (s : sections.Table) (xs : List SectionPos) (d : SectionPos) → IsStrictlySortedBy section_cmp xs
+    → IsPermutation (flat_map (λ q. filter (is_loaded_chunk_of s q) all_chunks) xs) (filter (is_loaded_among s xs) all_chunks)
+listed_whole s xs d h = subst (λ (ys : List SectionPos). IsPermutation (flat_map listed ys) (filter (is_loaded_among s ys) all_chunks)) (take_all (length xs) xs (omega arith)) (go (length xs) (omega arith))
+  where
+    listed : SectionPos → List ChunkPos
+    listed q = filter (is_loaded_chunk_of s q) all_chunks
+
+    go : (i : ℕ) → i ≤ length xs → IsPermutation (flat_map listed (take i xs)) (filter (is_loaded_among s (take i xs)) all_chunks)
+    go zero l = let none = listed_none s xs in rw none (IsPermutation-refl [])
+    go (suc i) l =
+        let e : suc i ≡ i + 1 = omega arith in
+        let next = flat_map_next listed xs i d (omega arith) in
+        rw (e, next) (listed_more s xs i d (flat_map listed (take i xs)) (omega arith) (fresh_section xs h i d (omega arith)) (go i (omega arith)))
+
 -- what was listed, after a sort
-pub listed_all : (s : sections.Table) (xs : List SectionPos) (i : ℕ) (out sorted : List ChunkPos) → length xs ≤ i → IsPermutation out (filter (is_loaded_among s (take i xs)) all_chunks)
+pub listed_all : (s : sections.Table) (xs : List SectionPos) (out sorted : List ChunkPos) → IsPermutation out (filter (is_loaded_among s xs) all_chunks)
     → IsPermutation out sorted → IsSortedBy (λ a b. is_lt (chunk_cmp a b)) sorted → sorted ≡ filter (is_loaded_among s xs) all_chunks
-listed_all s xs i out sorted l h moved up =
-    let whole : IsPermutation out (filter (is_loaded_among s xs) all_chunks) = let e = take_all i xs l in subst (λ (ys : List SectionPos). IsPermutation out (filter (is_loaded_among s ys) all_chunks)) e h in
+listed_all s xs out sorted whole moved up =
     sorted_is chunk_cmp chunks_tell sorted (filter (is_loaded_among s xs) all_chunks) up (IsStrictlySortedBy-filter chunk_cmp (is_loaded_among s xs) all_chunks chunks_sorted)
     (IsPermutation-trans sorted out (filter (is_loaded_among s xs) all_chunks) (IsPermutation-sym out sorted moved) whole)
 

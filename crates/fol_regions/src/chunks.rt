@@ -21,9 +21,7 @@ pub fn list_chunks(sections: &Sections, row: &[SectionPos], out: &mut Vec<ChunkP
         && is_among row.now (section_of sections.now.grid c)) all_chunks }
     ensures capacity { vec_capacity out.new ≡ vec_capacity out.old }
 {
-    for s in row {
-        sections.chunks_in(*s, out);
-    }
+    sections.chunks_among(row, out);
     put_in_order(out);
 }
 

@@ -1,36 +1,22 @@
-use Rattle.std.proofs.Common.{refl, ◌∙◌, arith, []}
-use Rattle.std.specs.Prelude.{pos}
-use Rattle.std.proofs.lemmas.List.Sorted.{IsPermutation-refl}
+use Rattle.std.proofs.Common.{◌≡◌, ◌∙◌, ap, arith, length, ◌++◌}
+use Rattle.std.specs.Prelude.{filter, flat_map, pos}
+use Rattle.fol_model.specs.declared.places.ChunkPos.{ChunkPos}
 use Rattle.fol_model.specs.declared.places.SectionPos.{SectionPos}
-use Rattle.fol_regions.proofs.ChunkCounts.{fresh_section, listed_all, listed_fits, listed_more, listed_none}
+use Rattle.fol_model.specs.Universe.{all_chunks}
+use Rattle.fol_sections.specs.Table.{is_loaded_chunk_of}
+use Rattle.std.proofs.Common.{List}
+use Rattle.fol_regions.proofs.ChunkCounts.{counted_sum, listed_all, listed_whole}
 use Rattle.fol_regions.proofs.chunks.list_chunks.Goals as goal
 
-pub loop-s-init : goal.loop-s-init
-loop-s-init c = record {
-  listed = let e = c.requires.empty in let f = listed_none c.args.sections.now c.args.row.now in rw (e, f) (IsPermutation-refl []);
-  capacity = refl;
-}
+abbrev origin : SectionPos
+origin = record { x = pos 0; z = pos 0 }
 
-pub chunks_in-requires : goal.chunks_in-requires
-chunks_in-requires c =
-    let i = c.loop-s.s-index in
-    let origin : SectionPos = record { x = pos 0; z = pos 0 } in
-    let fresh = fresh_section c.args.row.now c.requires.rising i origin (omega arith) in
-    let fits = listed_fits c.args.sections.now c.args.row.now i origin c.loop-s.out.items (omega arith) fresh c.loop-s.invariant.listed in
-    record { room = omega (arith, fits, c.requires.room, c.loop-s.invariant.capacity) }
-
-pub loop-s-preserved : goal.loop-s-preserved
-loop-s-preserved c =
-    let i = c.loop-s.s-index in
-    let fresh = fresh_section c.args.row.now c.requires.rising i _ (omega arith) in
-    record {
-      listed = rw c.chunks_in.ensures.chunks (listed_more c.args.sections.now c.args.row.now i _ c.loop-s.out.items (omega arith) fresh c.loop-s.invariant.listed);
-      capacity = c.chunks_in.ensures.capacity ∙ c.loop-s.invariant.capacity;
-    }
+pub chunks_among-requires : goal.chunks_among-requires
+chunks_among-requires c = omega (arith, ap length c.requires.empty, counted_sum c.args.sections.now c.args.row.now origin c.requires.rising, c.requires.room)
 
 pub returns-clause-chunks : goal.returns-clause-chunks
 returns-clause-chunks c =
-    listed_all c.args.sections.now c.args.row.now c.loop-s.s-index c.loop-s.out.items _ (omega arith) c.loop-s.invariant.listed c.put_in_order.ensures.moved c.put_in_order.ensures.sorted
-
-pub returns-clause-capacity : goal.returns-clause-capacity
-returns-clause-capacity c = c.put_in_order.ensures.capacity ∙ c.loop-s.invariant.capacity
+    let listed : SectionPos → List ChunkPos = λ q. filter (is_loaded_chunk_of c.args.sections.now q) all_chunks in
+    let whole = listed_whole c.args.sections.now c.args.row.now origin c.requires.rising in
+    let items : c.chunks_among.new.out.items ≡ flat_map listed c.args.row.now = c.chunks_among.ensures.chunks ∙ ap (λ xs. xs ++ flat_map listed c.args.row.now) c.requires.empty in
+    listed_all c.args.sections.now c.args.row.now c.chunks_among.new.out.items _ (rw items whole) c.put_in_order.ensures.moved c.put_in_order.ensures.sorted

@@ -1,4 +1,4 @@
-use Rattle.std.proofs.Common.{◌≡◌, ◌≤◌, ◌∙◌, ap, arith, ◌++◌, length, length-append}
+use Rattle.std.proofs.Common.{◌≤◌, ◌∙◌, arith, ◌++◌, length, length-append}
 use Rattle.std.specs.Prelude.{flat_map}
 use Rattle.std.specs.Vec.{vec_capacity}
 use Rattle.fol_sections.specs.Kept.{held_chunks}

@@ -1,7 +1,7 @@
 use Rattle.std.proofs.Common.{sym, ◌∙◌, ap, ◌++◌, get_or}
 use Rattle.std.specs.Option.{option_copied}
-use Rattle.fol_sections.specs.Kept.{IsListed, held_chunks}
-use Rattle.fol_sections.specs.Pages.{chunks_at, chunks_on, page_at}
+use Rattle.fol_sections.specs.Kept.{held_chunks}
+use Rattle.fol_sections.specs.Pages.{page_at}
 use Rattle.fol_sections.proofs.HeldChunks.{flat_map_none}
 use Rattle.fol_sections.proofs.PageStretches.{chunks_nowhere, chunks_there}
 use Rattle.fol_sections.proofs.Rows.{append-none}

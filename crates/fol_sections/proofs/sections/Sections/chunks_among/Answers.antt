@@ -1,15 +1,5 @@
-use Rattle.std.proofs.Common.{◌≡◌, sym, ◌∙◌, ap, arith, List, ◌++◌, length, [], refl}
-use Rattle.std.specs.Prelude.{flat_map, sum_by}
-use Rattle.std.specs.List.{filter}
-use Rattle.std.proofs.lemmas.List.Concat.{length-flat_map}
-use Rattle.std.proofs.lemmas.List.Sums.{length-filter}
-use Rattle.std.proofs.Math.Path.{fun_ext}
-use Rattle.fol_model.specs.declared.places.ChunkPos.{ChunkPos}
-use Rattle.fol_model.specs.declared.places.SectionPos.{SectionPos}
-use Rattle.fol_model.specs.Universe.{all_chunks}
-use Rattle.fol_sections.specs.Kept.{held_chunks, is_held}
-use Rattle.fol_sections.specs.Rows.{chunk_at, rows_of}
-use Rattle.fol_sections.specs.Table.{is_loaded_chunk_of, loaded_count}
+use Rattle.std.proofs.Common.{◌∙◌, ap, arith, ◌++◌}
+use Rattle.std.specs.Prelude.{flat_map}
 use Rattle.fol_sections.proofs.HeldChunks.{listed_known, listed_words}
 use Rattle.fol_sections.proofs.sections.Sections.chunks_among.Goals as goal
 
