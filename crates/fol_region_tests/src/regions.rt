@@ -174,3 +174,37 @@ fn a_region_falls_apart(rt: HostRuntime) {
     parts_are_alike(&rt, &regions);
     drop(regions);
 }
+
+/// The Ready regions that an event on a chunk with z 0 may touch are these.
+fn touched_are(rt: &impl Abort, alloc: Global, regions: &Regions, x: i32, ids: &[u64]) {
+    let c = ChunkPos { x, z: 0 };
+    assert!(rt; c.in_range());
+    let touched = regions.touched(alloc, c).expect(rt, "memory");
+    assert_eq!(rt; *touched.as_slice(), *ids, "touched at {x}");
+}
+
+/// A chunk between two regions touches both, one at the edge of a region that region, a loaded one its own, and one far off none.
+fn near_ones_are_touched(rt: &impl Abort, alloc: Global, regions: &Regions) {
+    touched_are(rt, alloc, regions, 3, &[1, 2]);
+    touched_are(rt, alloc, regions, 1, &[1]);
+    touched_are(rt, alloc, regions, 4, &[2]);
+    touched_are(rt, alloc, regions, 6, &[2]);
+    touched_are(rt, alloc, regions, 40, &[]);
+}
+
+/// A region that ticks is not among them.
+fn ready_ones_are_touched(rt: &impl Abort, alloc: Global, regions: &Regions) {
+    touched_are(rt, alloc, regions, 3, &[1]);
+    touched_are(rt, alloc, regions, 6, &[]);
+}
+
+#[test]
+fn an_event_touches_the_ready_regions_near_it(rt: HostRuntime) {
+    let mut regions = table(&rt, rt.alloc());
+    load(&rt, &mut regions, 0);
+    load(&rt, &mut regions, 6);
+    near_ones_are_touched(&rt, rt.alloc(), &regions);
+    begin(&rt, &mut regions, 2);
+    ready_ones_are_touched(&rt, rt.alloc(), &regions);
+    drop(regions);
+}

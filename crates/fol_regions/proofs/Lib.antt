@@ -20,3 +20,4 @@ pub mod LiveRegions
 pub mod DyingSteps
 pub mod DeadKept
 pub mod BoundSteps
+pub mod TouchedSteps

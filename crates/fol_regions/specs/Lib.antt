@@ -6,3 +6,4 @@ pub mod Answers
 pub mod Released
 pub mod Kept
 pub mod DeadBounds
+pub mod Touched

@@ -223,7 +223,7 @@ pub fn extend(
 }
 
 /// How far an added hold reaches: the create and the merge radius.
-fn reach(grid: &Grid) -> u8
+pub fn reach(grid: &Grid) -> u8
     requires { IsGrid grid.now }
     ensures { result ≡ grid.now.create + grid.now.merge }
 {

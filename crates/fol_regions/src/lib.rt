@@ -21,6 +21,7 @@ mod dying;
 mod near;
 mod regions;
 mod release;
+mod touched;
 
 pub use answers::{AddAnswer, Begun};
 pub use change::{Change, MergePair};

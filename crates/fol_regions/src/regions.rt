@@ -15,6 +15,7 @@ ghost use Rattle.fol_model.specs.Rules.{Rules};
 ghost use Rattle.fol_model.specs.Outputs.{is_chunk_of, chunk_count};
 ghost use Rattle.fol_regions.specs.Changes.{add_change, release_change};
 ghost use Rattle.fol_regions.specs.DeadBounds.{most_in};
+ghost use Rattle.fol_regions.specs.Touched.{is_touched};
 ghost use Rattle.fol_regions.specs.Answers.{IsGiven, add_answer, remove_answer, begin_answer, begun_state, some_id, state_answer};
 
 use crate::add::hold;
@@ -24,6 +25,7 @@ use crate::dead_bounds::{DeadBounds, forget_joined};
 use crate::dying::note_dying;
 use crate::near::{MOST_NEAR, NearRegions};
 use crate::release::{Releaser, can_rest};
+use crate::touched::list_touched;
 use crate::{AddAnswer, Begun, Change};
 use fol_model::{ChunkPos, Grid, MOST_SECTIONS, SectionPos, State};
 use fol_pages::NEAR_PAGES;
@@ -302,6 +304,16 @@ impl Regions {
         self.tables.keeps_lists();
         self.tables.keeps_states();
         self.tables.live(alloc)
+    }
+
+    /// The Ready regions that an event on a chunk may touch, rising: the one that owns its section, and those that an `add` of the
+    /// chunk would make part of one region, or let it wait for, if they ticked. Looks where `add` does, and takes memory for them.
+    pub fn touched(&self, alloc: Global, c: ChunkPos) -> Result<Vec<u64>, AllocError>
+        requires in_range { IsTrue (is_chunk c) }
+        ensures { IfOk result (λ ids. ids.items ≡ filter (is_touched (grid_state self.now) c)
+            (numbers_below (grid_state self.now).next)) }
+    {
+        list_touched(alloc, &self.grid, &self.sections, &self.tables, c)
     }
 
     /// The Ticking regions that a region waits for, rising.

@@ -74,6 +74,10 @@ module _ (grid : Grid) (holds : List ((ℤ × ℤ) × ℕ)) (pages : List ((ℤ 
     unfolding is_full_for
     full-is = ap (λ n. nat_lt 16384 (n + missing_count (table grid holds pages filled spare) c)) count_present ∙ ap (λ n. nat_lt 16384 (count + n)) count_missing
 
+    -- whether missing sections come
+    pub fills-is : (not (is_full_for (table grid holds pages filled spare) c) && not (nat_eq (missing_count (table grid holds pages filled spare) c) 0)) ≡ (not (nat_lt 16384 (count + length missing)) && not (nat_eq (length missing) 0))
+    fills-is = λ i. not (full-is i) && not (nat_eq (count_missing i) 0)
+
     pub added_full : (present wanted : ℕ) → present ≡ count → wanted ≡ length missing → 16384 < present + wanted → Full present wanted ≡ added (table grid holds pages filled spare) c
     unfolding added
     added_full present wanted e f l =

@@ -64,7 +64,7 @@ impl Model for Sections {
 
 impl Sections {
     ghost use Rattle.fol_model.specs.Universe.{all_chunks, square};
-    ghost use Rattle.fol_sections.specs.Table.{Table, holds_of, presence_of, neighbours_of, in_margin_of, present_count, is_full_for, is_loaded_chunk_of, loaded_count, added, removed, Adds, IsSame, IsEmpty, is_missing};
+    ghost use Rattle.fol_sections.specs.Table.{Table, holds_of, presence_of, neighbours_of, in_margin_of, present_count, is_full_for, is_loaded_chunk_of, loaded_count, missing_count, added, removed, Adds, IsSame, IsEmpty, is_missing};
 
     /// Nothing is held and no section is present. Takes the memory for 16,384 present sections.
     pub fn new(alloc: Global, grid: Grid) -> Result<Sections, AllocError>
@@ -262,6 +262,20 @@ impl Sections {
         } else {
             Added::Filled
         }
+    }
+
+    /// Whether an `add` of a chunk within the limits would make sections present now: the chunk needs missing ones, and there is room
+    /// for them. Takes memory while it looks, and looks where `add` does.
+    pub fn will_fill(&self, alloc: Global, c: ChunkPos) -> Result<bool, AllocError>
+        requires { IsTrue (is_chunk c) }
+        ensures { IfOk result (λ fills. fills
+            ≡ (not (is_full_for self.now c) && not (nat_eq (missing_count self.now c) 0))) }
+    {
+        let home = section_of(&self.grid, c);
+        let mut missing = Vec::with_capacity(alloc, AREA)?;
+        find_missing(&self.pages, &mut missing, home, create_radius(&self.grid));
+        let wanted = missing.len() as u32;
+        Ok(wanted > 0 && self.count + wanted <= MOST_SECTIONS as u32)
     }
 
     /// Removes a hold on a chunk. No section changes. Takes no memory.
