@@ -136,7 +136,7 @@ fn chunks_are(
 ) {
     let room = sections.loaded_in(s) as usize;
     let mut listed = Vec::with_capacity(alloc, room).expect(rt, "memory");
-    sections.chunks_in(s, &mut listed);
+    sections.chunks_among(&[s], &mut listed);
     same(rt, &room, &chunks.len());
     assert_eq!(rt; *listed.as_slice(), *chunks);
 }

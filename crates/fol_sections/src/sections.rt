@@ -12,7 +12,6 @@ ghost use Rattle.fol_sections.specs.Turns.{fall, rise};
 ghost use Rattle.fol_model.specs.Geometry.{is_chunk, is_within, same_section, is_among};
 ghost use Rattle.fol_model.specs.GridState.{at_chunk};
 
-use crate::chunks::list_section;
 use crate::drops::drop_list;
 use crate::listings::list_all;
 use crate::pages::{self, Counts, Pages, is_present, loaded, near, put_stretch};
@@ -180,18 +179,6 @@ impl Sections {
         ensures few { result ≤ 1024 * length list.now }
     {
         count_list(&self.pages, list)
-    }
-
-    /// Adds the loaded chunks of a section to a list, by `(z, x)`. The list has room for them, and no memory is taken.
-    pub fn chunks_in(&self, s: SectionPos, out: &mut Vec<ChunkPos>)
-        requires room { length out.old.items + loaded_count self.now s ≤ vec_capacity out.old }
-        ensures chunks { out.new.items ≡ out.old.items
-            ++ filter (is_loaded_chunk_of self.now s) all_chunks }
-        ensures capacity { vec_capacity out.new ≡ vec_capacity out.old }
-    {
-        if loaded(&self.pages, s) > 0 {
-            list_section(&self.holds, out, &self.grid, s);
-        }
     }
 
     /// Adds the loaded chunks of the sections of a list to another list, section by section, and by `(z, x)` in each. The list has
