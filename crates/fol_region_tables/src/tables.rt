@@ -1,6 +1,6 @@
 //! The tables of the regions, and their steps.
 
-ghost use Rattle.std.specs.Prelude.{◌≡◌, ◌≢◌, ℕ, ◌+◌, ◌<◌, ◌≤◌, ◌^◌, true, false, IsTrue, [], length, filter, nat_abs, nat_eq, nat_lt, pos, ◌+ℤ◌, slice_index_or, IfOk, OnOk};
+ghost use Rattle.std.specs.Prelude.{◌≡◌, ◌≢◌, ℕ, ◌+◌, ◌<◌, ◌≤◌, ◌^◌, true, false, IsTrue, [], length, filter, nat_abs, nat_eq, nat_lt, pos, ◌+ℤ◌, slice_index_or, if◌then◌else◌, IfOk, OnOk};
 ghost use Rattle.std.specs.Int.{int_rem_euclid};
 ghost use Rattle.fol_lists.specs.Numbered.{total};
 ghost use Rattle.fol_model.specs.declared.places.SectionPos.{SectionPos};
@@ -163,6 +163,19 @@ impl Tables {
             self.behind.get(slot)
         } else {
             &[]
+        }
+    }
+
+    /// How many sections a region has, if no region waits for it; 0 where one does, and where it has no slot.
+    pub fn size_alone(&self, id: u64) -> usize
+        ensures { result ≡ (if nat_eq (length (behind_of self.now id)) 0
+            then length (rows_of self.now id) else 0) }
+    {
+        let slot = self.slots.find(id);
+        if slot < self.slots.room() && self.behind.get(slot).is_empty() {
+            self.rows.get(slot).len()
+        } else {
+            0
         }
     }
 

@@ -1,8 +1,8 @@
 -- What a release needs of the tables, and what it leaves.
-use Rattle.std.proofs.Common.{◌≡◌, ℕ, ◌+◌, ◌*◌, ◌≤◌, ◌<◌, refl, sym, ◌∙◌, ap, arith, Bool, true, false, inl, inr, not, ◌&&◌, ◌||◌, List, [], ◌∷◌, ◌++◌, length, get_or}
+use Rattle.std.proofs.Common.{◌≡◌, ℕ, ◌+◌, ◌*◌, ◌≤◌, ◌<◌, refl, sym, ◌∙◌, ap, arith, Bool, true, false, inl, inr, not, ◌&&◌, ◌||◌, cond, subst, List, [], ◌∷◌, ◌++◌, length, get_or}
 use Rattle.std.specs.Prelude.{◌≢◌, nat_eq, nat_lt, nat_le, if◌then◌else◌, filter, IsTrue}
 use Rattle.std.specs.List.{All, range_with_len, IsDistinct}
-use Rattle.std.proofs.Math.Bool.{not-not}
+use Rattle.std.proofs.Math.Bool.{and-false, not-not}
 use Rattle.std.proofs.Math.Nat.{mul-le-mul_right}
 use Rattle.std.proofs.Math.Path.{fun_ext}
 use Rattle.std.proofs.lemmas.Bool.{cases_Bool, eq-eqb, ne_eqb, eqb-true, true≢false, and_parts, and_from, or_parts, lt-ltb, le-ltb, ltb-true, le-leb, leb-true, lt-leb, not-true}
@@ -24,10 +24,11 @@ use Rattle.fol_sections.specs.Table as sections
 use Rattle.fol_split.specs.Parts.{ArePartsOf}
 use Rattle.fol_region_tables.specs.Book.{Book, IsBook, SetsState, owner_of, state_of, waits_of, is_live, rows_of, ahead_of, behind_of}
 use Rattle.fol_regions.specs.DeadBounds.{dead_count}
-use Rattle.fol_regions.specs.Changes.{into, release_change, waiting_for, part_ids}
+use Rattle.fol_regions.specs.Changes.{into, nothing, release_change, waiting_for, part_ids}
 use Rattle.fol_regions.specs.Added.{is_id}
 use Rattle.fol_regions.specs.Released.{Joins, Cleans, IsPresence, grid_of, with_parts}
 use Rattle.fol_region_tables.specs.Parted.{Keeps, Ends, Splits}
+use Rattle.fol_region_tables.proofs.BookFacts.{row_most as all_few}
 use Rattle.fol_regions.proofs.ChangeLists.{numbers_from}
 use Rattle.fol_regions.proofs.CleanSteps as clean
 use Rattle.fol_regions.proofs.JoinTest as test
@@ -59,6 +60,10 @@ fewer_worn min size num den dead most l h = elim (cases_Bool (nat_le min size &&
       absurd (true≢false (sym (and_from (nat_le min size) (nat_le (size * num) (most * den)) p.0 k) ∙ h))
 ]
 
+no_length : (xs : List ℕ) → length xs ≡ 0 → xs ≡ []
+no_length [] e = refl
+no_length (x ∷ xs) e = absurd (omega arith)
+
 module _ (s : sections.Table) (b : Book) (t : ℕ) (rules : Rules (grid_of s b)) (ticks : (grid_of s b).state t ≡ Ticking) (h : IsBook b) where
   -- ---- before the joins
   pub shown : test.Shows (grid_of s b) b
@@ -82,6 +87,20 @@ module _ (s : sections.Table) (b : Book) (t : ℕ) (rules : Rules (grid_of s b))
 
   pub few : count_sections (λ q. nat_lt 0 (owner_of b q)) ≤ 16384
   few = owned_few s b rules
+
+  -- where no region waits for t, none joins it
+  pub none_join : Joins b b t []
+  none_join = record {
+    owner = refl;
+    state = refl;
+    waits = fun_ext (λ u. fun_ext (λ v. elim (cases_Bool (nat_eq u t)) [
+      | inl e ↦ rw e (ap (λ x. waits_of b x v) (eqb-true u t e) ∙ alone v ∙ sym (and-false (not (nat_eq v t))))
+      | inr e ↦ rw e refl
+    ]));
+    live = refl;
+    next = refl;
+    rooms = record { free = omega arith; ahead = omega arith; behind = omega arith; ahead_room = refl; behind_room = refl };
+  }
 
   -- ---- after them
   module _ (j : Book) (ids : List ℕ) (is : ids ≡ behind_of b t) (w : Joins b j t ids) (k : IsBook j) where
@@ -172,11 +191,7 @@ module _ (s : sections.Table) (b : Book) (t : ℕ) (rules : Rules (grid_of s b))
       none = let x = test.joins_test (grid_of s b) t rules ticks b j shown ids ids_is w in let y = none_joined in rw y at x
 
       no_ids : ids ≡ []
-      no_ids = by_length ids (eqb-true (length ids) 0 none)
-        where
-          by_length : (xs : List ℕ) → length xs ≡ 0 → xs ≡ []
-          by_length [] e = refl
-          by_length (x ∷ xs) e = absurd (omega arith)
+      no_ids = no_length ids (eqb-true (length ids) 0 none)
 
       pub rested_change : record { created = []; dead = ids; merges = into t ids; parts = [] } ≡ release_change (grid_of s b) t
       unfolding release_change
@@ -445,3 +460,44 @@ module _ (s : sections.Table) (b : Book) (t : ℕ) (rules : Rules (grid_of s b))
                   let n : is_among dead q ≡ false = rw y at m ∙ elim (cases_Bool (in_margin_of s q)) [ inl v ↦ rw v refl | inr v ↦ rw v refl ] in
                   rw (n, z) (let f : (presence_of s q && true) ≡ presence_of s q = elim (cases_Bool (presence_of s q)) [ inl v ↦ rw v refl | inr v ↦ rw v refl ] in f ∙ pq)
             ]
+
+  -- ---- nothing joins t, and few of its sections are dead
+  pub size_few : (size : ℕ) → size ≡ cond (nat_eq (length (behind_of b t)) 0) (length (rows_of b t)) 0 → size ≤ 16384
+  size_few size e =
+      let most = all_few b t h (joins.t_pos (grid_of s b) t rules ticks) few in
+      elim (cases_Bool (nat_eq (length (behind_of b t)) 0)) [
+        | inl y ↦ let z : size ≡ length (rows_of b t) = rw y at e in omega arith
+        | inr y ↦ let z : size ≡ 0 = rw y at e in omega arith
+      ]
+
+  module _ (most size : ℕ) (few_dead : dead_count (grid_of s b) t ≤ most) (alone_size : size ≡ cond (nat_eq (length (behind_of b t)) 0) (length (rows_of b t)) 0)
+      (rest : (nat_lt most size && not (nat_le s.grid.min size && nat_le (size * s.grid.num) (most * s.grid.den))) ≡ true) where
+    none_behind : [] ≡ behind_of b t
+    none_behind = elim (cases_Bool (nat_eq (length (behind_of b t)) 0)) [
+      | inl e ↦ sym (no_length (behind_of b t) (eqb-true _ _ e))
+      | inr e ↦
+          let z : size ≡ 0 = rw e at alone_size in
+          let l : most < size = ltb-true most size (and_parts (nat_lt most size) _ rest).0 in
+          absurd (omega arith)
+    ]
+
+    size_is : size ≡ length (rows_of b t)
+    size_is = let e : nat_eq (length (behind_of b t)) 0 ≡ true = ap (λ xs. nat_eq (length xs) 0) (sym none_behind) in rw e at alone_size
+
+    row_rest : (nat_lt most (length (rows_of b t)) && not (nat_le s.grid.min (length (rows_of b t)) && nat_le (length (rows_of b t) * s.grid.num) (most * s.grid.den))) ≡ true
+    row_rest = subst (λ (n : ℕ). (nat_lt most n && not (nat_le s.grid.min n && nat_le (n * s.grid.num) (most * s.grid.den))) ≡ true) size_is rest
+
+    calm : must_wait (grid_of s b) t ≡ false
+    calm = not-true _ (sym (wait_test b [] none_behind none_join h) ∙ ap (λ xs. nat_eq (length xs) 0) (h.ahead t ∙ filter_none (waits_of b t) (numbers_below b.next) alone))
+
+    rests : cleans (grid_of s b) t ≡ false
+    rests = rest_test b [] none_behind none_join h most few_dead row_rest
+
+    pub alone_state : (d : Book) → SetsState b d t Ready → grid_of s d ≡ release (grid_of s b) t
+    alone_state = rested_state b [] none_behind none_join h calm rests
+
+    pub alone_change : nothing ≡ release_change (grid_of s b) t
+    alone_change = rested_change b [] none_behind none_join h calm rests
+
+    pub alone_dead : (d : Book) → owner_of d ≡ owner_of b → dead_count (grid_of s d) t ≤ most
+    alone_dead d same = omega (arith, dead_set b [] none_behind none_join h d same, rest_dead b [] none_behind none_join h most few_dead row_rest)

@@ -256,7 +256,8 @@ impl Regions {
             → owed_after_release (begin (grid_state self.now) id) id owed r ≡ owed r }
     {
         self.tables.keeps_lists();
-        can_rest(self.grid, &self.tables, &[], id, self.dead.most(id))
+        let size = self.tables.sections(id).len();
+        can_rest(self.grid, size, self.dead.most(id))
     }
 
     /// What the last `add` or `release` changed; nothing after Counted and Full.

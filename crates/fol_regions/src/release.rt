@@ -89,16 +89,16 @@ impl Releaser {
         tables.keeps_lists();
         tables.keeps_states();
         change.clear();
+        if can_rest(grid, tables.size_alone(id), most) {
+            tables.set_state(id, State::Ready);
+            return most;
+        }
         list_waiting(tables, id, &mut self.ids);
         join_all(tables, change, &self.ids, id);
         tables.keeps_lists();
         if tables.is_waiting(id) {
             tables.set_state(id, State::Transient);
             return MOST_SECTIONS as u32;
-        }
-        if can_rest(grid, tables, &self.ids, id, most) {
-            tables.set_state(id, State::Ready);
-            return most;
         }
         self.cleaner.sort_out(sections, tables.sections(id));
         let dead = self.cleaner.dead.len();
@@ -245,16 +245,14 @@ fn must_clean(grid: Grid, joined: usize, size: usize, dead: usize) -> bool
     joined != 0 || dead == size || is_worn(grid, size, dead)
 }
 
-/// Whether a region that these regions joined is not cleaned, whichever of at most `most` of its sections are dead.
-pub fn can_rest(grid: Grid, tables: &Tables, ids: &[u64], id: u64, most: u32) -> bool
-    requires size { length (rows_of tables.now id) ≤ MOST_SECTIONS }
+/// Whether a region of this size that no other joins is not cleaned, whichever of at most `most` of its sections are dead.
+pub fn can_rest(grid: Grid, size: usize, most: u32) -> bool
+    requires { size ≤ MOST_SECTIONS }
     ensures { result
-        ≡ (nat_eq (length ids.now) 0 && (nat_lt most (length (rows_of tables.now id))
-        && not (nat_le grid.min (length (rows_of tables.now id))
-        && nat_le (length (rows_of tables.now id) * grid.num) (most * grid.den)))) }
+        ≡ (nat_lt most size
+        && not (nat_le grid.min size && nat_le (size * grid.num) (most * grid.den))) }
 {
-    let size = tables.sections(id).len();
-    ids.is_empty() && (most as usize) < size && !is_worn(grid, size, most as usize)
+    (most as usize) < size && !is_worn(grid, size, most as usize)
 }
 
 /// Whether a region of this size is cleaned where so many of its sections are dead.

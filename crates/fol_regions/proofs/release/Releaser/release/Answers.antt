@@ -32,8 +32,8 @@ join_all-requires-clause-last c = facts.last c.args.sections.now c.args.tables.n
 pub join_all-requires-clause-few : goal.join_all-requires-clause-few
 join_all-requires-clause-few c = facts.few c.args.sections.now c.args.tables.now c.args.id c.requires.rules c.requires.ticks c.keeps_lists.ensures
 
-pub set_state-requires : goal.set_state-requires
-set_state-requires c =
+pub set_state-requires-then-is_waiting : goal.set_state-requires-then-is_waiting
+set_state-requires-then-is_waiting c =
     let live = facts.t_live c.args.sections.now c.args.tables.now c.args.id c.requires.rules c.requires.ticks c.keeps_lists.ensures c.keeps_states.ensures in
     facts.j_live c.args.sections.now c.args.tables.now c.args.id c.requires.rules c.requires.ticks c.keeps_lists.ensures c.join_all.new.tables c.deref.result.now (c.deref.ensures.value ∙ c.list_waiting.ensures.ids) c.join_all.ensures.joins c.keeps_lists-2.ensures live
 
@@ -41,18 +41,18 @@ pub returns-then-is_waiting-clause-state : goal.returns-then-is_waiting-clause-s
 returns-then-is_waiting-clause-state c =
     let is = c.deref.ensures.value ∙ c.list_waiting.ensures.ids in
     let must = sym (facts.wait_is c.args.sections.now c.args.tables.now c.args.id c.requires.rules c.requires.ticks c.keeps_lists.ensures c.join_all.new.tables c.deref.result.now is c.join_all.ensures.joins c.keeps_lists-2.ensures) ∙ sym c.is_waiting.ensures ∙ c.if-is_waiting.true in
-    facts.held_state c.args.sections.now c.args.tables.now c.args.id c.requires.rules c.requires.ticks c.keeps_lists.ensures c.join_all.new.tables c.deref.result.now is c.join_all.ensures.joins c.keeps_lists-2.ensures c.set_state.new.self c.set_state.ensures must
+    facts.held_state c.args.sections.now c.args.tables.now c.args.id c.requires.rules c.requires.ticks c.keeps_lists.ensures c.join_all.new.tables c.deref.result.now is c.join_all.ensures.joins c.keeps_lists-2.ensures c.set_state-then-is_waiting.new.self c.set_state-then-is_waiting.ensures must
 
 pub returns-then-is_waiting-clause-change : goal.returns-then-is_waiting-clause-change
 returns-then-is_waiting-clause-change c =
     let is = c.deref.ensures.value ∙ c.list_waiting.ensures.ids in
     let must = sym (facts.wait_is c.args.sections.now c.args.tables.now c.args.id c.requires.rules c.requires.ticks c.keeps_lists.ensures c.join_all.new.tables c.deref.result.now is c.join_all.ensures.joins c.keeps_lists-2.ensures) ∙ sym c.is_waiting.ensures ∙ c.if-is_waiting.true in
-    c.join_all.ensures.change ∙ facts.held_change c.args.sections.now c.args.tables.now c.args.id c.requires.rules c.requires.ticks c.keeps_lists.ensures c.join_all.new.tables c.deref.result.now is c.join_all.ensures.joins c.keeps_lists-2.ensures c.set_state.new.self c.set_state.ensures must
+    c.join_all.ensures.change ∙ facts.held_change c.args.sections.now c.args.tables.now c.args.id c.requires.rules c.requires.ticks c.keeps_lists.ensures c.join_all.new.tables c.deref.result.now is c.join_all.ensures.joins c.keeps_lists-2.ensures c.set_state-then-is_waiting.new.self c.set_state-then-is_waiting.ensures must
 
 pub returns-then-is_waiting-clause-presence : goal.returns-then-is_waiting-clause-presence
 returns-then-is_waiting-clause-presence c =
     let is = c.deref.ensures.value ∙ c.list_waiting.ensures.ids in
-    rw c.set_state.ensures.owner
+    rw c.set_state-then-is_waiting.ensures.owner
     (facts.presence_j c.args.sections.now c.args.tables.now c.args.id c.requires.rules c.requires.ticks c.keeps_lists.ensures c.join_all.new.tables c.deref.result.now is c.join_all.ensures.joins c.keeps_lists-2.ensures c.requires.presence)
 
 pub sort_out-requires-clause-living_room : goal.sort_out-requires-clause-living_room
@@ -223,51 +223,33 @@ returns-else-must_clean-clause-change c =
     let cleaning : cleans (grid_of c.args.sections.now c.args.tables.now) c.args.id ≡ false = sym test ∙ sym answer ∙ c.if-must_clean.false in
     c.join_all.ensures.change ∙ facts.rested_change c.args.sections.now c.args.tables.now c.args.id c.requires.rules c.requires.ticks c.keeps_lists.ensures c.join_all.new.tables c.deref.result.now is c.join_all.ensures.joins c.keeps_lists-2.ensures calm cleaning
 
--- ---- the region rests
-pub can_rest-requires : goal.can_rest-requires
-can_rest-requires c =
-    let is = c.deref.ensures.value ∙ c.list_waiting.ensures.ids in
-    let live = facts.t_live c.args.sections.now c.args.tables.now c.args.id c.requires.rules c.requires.ticks c.keeps_lists.ensures c.keeps_states.ensures in
-    record { size = facts.row_most c.args.sections.now c.args.tables.now c.args.id c.requires.rules c.requires.ticks c.keeps_lists.ensures c.join_all.new.tables c.deref.result.now is c.join_all.ensures.joins c.keeps_lists-2.ensures live }
-
-pub set_state-requires-then-can_rest : goal.set_state-requires-then-can_rest
-set_state-requires-then-can_rest c =
-    let is = c.deref.ensures.value ∙ c.list_waiting.ensures.ids in
-    let live = facts.t_live c.args.sections.now c.args.tables.now c.args.id c.requires.rules c.requires.ticks c.keeps_lists.ensures c.keeps_states.ensures in
-    facts.j_live c.args.sections.now c.args.tables.now c.args.id c.requires.rules c.requires.ticks c.keeps_lists.ensures c.join_all.new.tables c.deref.result.now is c.join_all.ensures.joins c.keeps_lists-2.ensures live
-
-pub returns-then-can_rest-clause-state : goal.returns-then-can_rest-clause-state
-returns-then-can_rest-clause-state c =
-    let is = c.deref.ensures.value ∙ c.list_waiting.ensures.ids in
-    let calm : must_wait (grid_of c.args.sections.now c.args.tables.now) c.args.id ≡ false = sym (facts.wait_is c.args.sections.now c.args.tables.now c.args.id c.requires.rules c.requires.ticks c.keeps_lists.ensures c.join_all.new.tables c.deref.result.now is c.join_all.ensures.joins c.keeps_lists-2.ensures) ∙ sym c.is_waiting.ensures ∙ c.if-is_waiting.false in
-    let same = c.deref-2.ensures.value ∙ sym c.deref.ensures.value in
-    let rest = rw (c.requires.grid, same) at (sym c.can_rest.ensures ∙ c.if-can_rest.true) in
-    let rests = facts.rest_test c.args.sections.now c.args.tables.now c.args.id c.requires.rules c.requires.ticks c.keeps_lists.ensures c.join_all.new.tables c.deref.result.now is c.join_all.ensures.joins c.keeps_lists-2.ensures c.args.most c.requires.dead rest in
-    facts.rested_state c.args.sections.now c.args.tables.now c.args.id c.requires.rules c.requires.ticks c.keeps_lists.ensures c.join_all.new.tables c.deref.result.now is c.join_all.ensures.joins c.keeps_lists-2.ensures calm rests c.set_state-then-can_rest.new.self c.set_state-then-can_rest.ensures
-
-pub returns-then-can_rest-clause-change : goal.returns-then-can_rest-clause-change
-returns-then-can_rest-clause-change c =
-    let is = c.deref.ensures.value ∙ c.list_waiting.ensures.ids in
-    let calm : must_wait (grid_of c.args.sections.now c.args.tables.now) c.args.id ≡ false = sym (facts.wait_is c.args.sections.now c.args.tables.now c.args.id c.requires.rules c.requires.ticks c.keeps_lists.ensures c.join_all.new.tables c.deref.result.now is c.join_all.ensures.joins c.keeps_lists-2.ensures) ∙ sym c.is_waiting.ensures ∙ c.if-is_waiting.false in
-    let same = c.deref-2.ensures.value ∙ sym c.deref.ensures.value in
-    let rest = rw (c.requires.grid, same) at (sym c.can_rest.ensures ∙ c.if-can_rest.true) in
-    let rests = facts.rest_test c.args.sections.now c.args.tables.now c.args.id c.requires.rules c.requires.ticks c.keeps_lists.ensures c.join_all.new.tables c.deref.result.now is c.join_all.ensures.joins c.keeps_lists-2.ensures c.args.most c.requires.dead rest in
-    c.join_all.ensures.change ∙ facts.rested_change c.args.sections.now c.args.tables.now c.args.id c.requires.rules c.requires.ticks c.keeps_lists.ensures c.join_all.new.tables c.deref.result.now is c.join_all.ensures.joins c.keeps_lists-2.ensures calm rests
-
-pub returns-then-can_rest-clause-dead : goal.returns-then-can_rest-clause-dead
-returns-then-can_rest-clause-dead c = λ _.
-    let is = c.deref.ensures.value ∙ c.list_waiting.ensures.ids in
-    let same = c.deref-2.ensures.value ∙ sym c.deref.ensures.value in
-    let rest = rw (c.requires.grid, same) at (sym c.can_rest.ensures ∙ c.if-can_rest.true) in
-    omega (arith, facts.dead_set c.args.sections.now c.args.tables.now c.args.id c.requires.rules c.requires.ticks c.keeps_lists.ensures c.join_all.new.tables c.deref.result.now is c.join_all.ensures.joins c.keeps_lists-2.ensures c.set_state-then-can_rest.new.self c.set_state-then-can_rest.ensures.owner, facts.rest_dead c.args.sections.now c.args.tables.now c.args.id c.requires.rules c.requires.ticks c.keeps_lists.ensures c.join_all.new.tables c.deref.result.now is c.join_all.ensures.joins c.keeps_lists-2.ensures c.args.most c.requires.dead rest)
-
-pub returns-then-can_rest-clause-presence : goal.returns-then-can_rest-clause-presence
-returns-then-can_rest-clause-presence c =
-    let is = c.deref.ensures.value ∙ c.list_waiting.ensures.ids in
-    rw c.set_state-then-can_rest.ensures.owner (facts.presence_j c.args.sections.now c.args.tables.now c.args.id c.requires.rules c.requires.ticks c.keeps_lists.ensures c.join_all.new.tables c.deref.result.now is c.join_all.ensures.joins c.keeps_lists-2.ensures c.requires.presence)
-
 pub returns-else-must_clean-clause-dead : goal.returns-else-must_clean-clause-dead
 returns-else-must_clean-clause-dead c = λ _.
     let is = c.deref.ensures.value ∙ c.list_waiting.ensures.ids in
     let out = rw c.sections.ensures at c.sort_out.ensures.dead in
     omega (arith, facts.dead_set c.args.sections.now c.args.tables.now c.args.id c.requires.rules c.requires.ticks c.keeps_lists.ensures c.join_all.new.tables c.deref.result.now is c.join_all.ensures.joins c.keeps_lists-2.ensures c.set_state-else-must_clean.new.self c.set_state-else-must_clean.ensures.owner, ap length out)
+
+-- ---- the region rests
+pub can_rest-requires : goal.can_rest-requires
+can_rest-requires c = facts.size_few c.args.sections.now c.args.tables.now c.args.id c.requires.rules c.requires.ticks c.keeps_lists.ensures c.size_alone.result c.size_alone.ensures
+
+pub set_state-requires : goal.set_state-requires
+set_state-requires c = facts.t_live c.args.sections.now c.args.tables.now c.args.id c.requires.rules c.requires.ticks c.keeps_lists.ensures c.keeps_states.ensures
+
+pub returns-then-can_rest-clause-state : goal.returns-then-can_rest-clause-state
+returns-then-can_rest-clause-state c =
+    let rest = rw c.requires.grid at (sym c.can_rest.ensures ∙ c.if-can_rest.true) in
+    facts.alone_state c.args.sections.now c.args.tables.now c.args.id c.requires.rules c.requires.ticks c.keeps_lists.ensures c.args.most c.size_alone.result c.requires.dead c.size_alone.ensures rest c.set_state.new.self c.set_state.ensures
+
+pub returns-then-can_rest-clause-change : goal.returns-then-can_rest-clause-change
+returns-then-can_rest-clause-change c =
+    let rest = rw c.requires.grid at (sym c.can_rest.ensures ∙ c.if-can_rest.true) in
+    c.clear.ensures ∙ facts.alone_change c.args.sections.now c.args.tables.now c.args.id c.requires.rules c.requires.ticks c.keeps_lists.ensures c.args.most c.size_alone.result c.requires.dead c.size_alone.ensures rest
+
+pub returns-then-can_rest-clause-dead : goal.returns-then-can_rest-clause-dead
+returns-then-can_rest-clause-dead c = λ _.
+    let rest = rw c.requires.grid at (sym c.can_rest.ensures ∙ c.if-can_rest.true) in
+    facts.alone_dead c.args.sections.now c.args.tables.now c.args.id c.requires.rules c.requires.ticks c.keeps_lists.ensures c.args.most c.size_alone.result c.requires.dead c.size_alone.ensures rest c.set_state.new.self c.set_state.ensures.owner
+
+pub returns-then-can_rest-clause-presence : goal.returns-then-can_rest-clause-presence
+returns-then-can_rest-clause-presence c = rw c.set_state.ensures.owner c.requires.presence
