@@ -11,7 +11,8 @@ use Rattle.fol_model.specs.contracts.grids.Grid as grid
 use Rattle.fol_model.specs.contracts.openings.Opening as opening
 use Rattle.fol_regions.proofs.regions.Regions.TheSendSync as sent_regions
 use Rattle.fol_regions.specs.contracts.regions.Regions as regions
-use Rattle.fol_store.proofs.Crossing.{Store-send, hasher_send, map_send, place_send}
+use Rattle.fol_store.proofs.Crossing.{Store-send}
+use Rattle.fol_bags.proofs.Crossing.{hasher_send, map_send, place_send}
 use Rattle.fol_store.specs.contracts.store.Store as store
 use Rattle.fol_core.specs.contracts.machine.Core as core
 use Rattle.fol_core.specs.contracts.machine.Core.TheInside as inside

@@ -7,7 +7,7 @@ use Rattle.fol_model.specs.GridState.{GridState}
 use Rattle.fol_model.specs.Job.{Job, is_on}
 use Rattle.fol_laws.proofs.CountBelow.{count_some}
 use Rattle.fol_laws.proofs.SoundState.{Sound}
-use Rattle.fol_store.specs.Clear.{HasNoTask}
+use Rattle.fol_bags.specs.Clear.{HasNoTask}
 use Rattle.fol_core.specs.Hands.{at_rest, went}
 
 pub none_on : (g : GridState) (tickets : ChunkPos → ℕ) (jobs : ℕ → Option Job) (next : ℕ) → Sound g tickets jobs next → (c : ChunkPos) → g.holds c ≤ tickets c → HasNoTask c jobs

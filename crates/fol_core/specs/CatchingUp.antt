@@ -8,7 +8,7 @@ use Rattle.fol_model.specs.Job.{Job}
 use Rattle.fol_chunks.specs.Contents.{is_recorded}
 use Rattle.fol_chunks.specs.Order.{chunk_cmp}
 use Rattle.fol_store.specs.Bag.{Bag}
-use Rattle.fol_store.specs.Clear.{HasNoTask}
+use Rattle.fol_bags.specs.Clear.{HasNoTask}
 use Rattle.fol_core.specs.Bags.{KeepsUp}
 
 -- the chunks of the bag are these, but for c and those that it noted

@@ -28,7 +28,7 @@ use Rattle.fol_regions.specs.declared.answers.AddAnswer.TheVariants.{Changed, Co
 use Rattle.fol_regions.specs.Answers.{add_answer}
 use Rattle.fol_regions.specs.declared.change.MergePair.{MergePair}
 use Rattle.fol_store.specs.Bag.{Bag}
-use Rattle.fol_store.specs.Clear.{HasNoTask}
+use Rattle.fol_bags.specs.Clear.{HasNoTask}
 use Rattle.fol_store.specs.Stock.{Stock, bag_of, flat_of, jobs_of, next_of}
 use Rattle.fol_core.specs.declared.tables.Tables.{Tables}
 use Rattle.fol_core.specs.Bags.{Alike, AreInOrder, CanJoin, Follow, Joins, joined_bags, opened_bags, unsettled_at}

@@ -10,7 +10,7 @@ ghost use Rattle.fol_regions.specs.Table.{grid_state};
 ghost use Rattle.fol_regions.specs.Answers.{add_answer};
 ghost use Rattle.fol_regions.specs.Changes.{add_change};
 ghost use Rattle.fol_store.specs.Bag.{Bag};
-ghost use Rattle.fol_store.specs.Clear.{HasNoTask};
+ghost use Rattle.fol_bags.specs.Clear.{HasNoTask};
 ghost use Rattle.fol_store.specs.Stock.{bag_of, jobs_of, next_of};
 ghost use Rattle.fol_core.specs.Answers.{LoadRecords, UnloadRecords, load_result, unload_result};
 ghost use Rattle.fol_core.specs.Bags.{AreInOrder, CanJoin, Follow, opened_bags, unsettled_at};

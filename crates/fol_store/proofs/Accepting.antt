@@ -1,10 +1,13 @@
 -- A task that comes.
-use Rattle.std.proofs.Common.{◌≡◌, ℕ, ◌-◌, ◌<◌, Bool, true, false, not, cond, ◌&&◌, List, [], ◌∷◌, ◌++◌, length, get_or, refl, sym, ◌∙◌, ap, subst, ◌⊎◌, inl, inr, arith, Option, Some, None}
-use Rattle.std.specs.Prelude.{nat_eq, if◌then◌else◌, IsNone}
+use Rattle.std.proofs.Common.{◌≡◌, refl, Option, Some, None}
 use Rattle.std.specs.Option.{option_map}
+use Rattle.std.proofs.Common.{◌≡◌, ℕ, ◌-◌, ◌<◌, Bool, true, false, not, cond, ◌&&◌, List, [], ◌∷◌, ◌++◌, length, get_or, refl, sym, ◌∙◌, ap, subst, ◌⊎◌, inl, inr, arith, Option, Some, None}
+use Rattle.std.specs.Prelude.{nat_eq, if◌then◌else◌}
 use Rattle.std.proofs.lemmas.Bool.{cases_Bool, eqb-true, and_parts}
 use Rattle.std.proofs.lemmas.List.Elements.{All-append, All-cons, All-nil}
 use Rattle.std.proofs.Math.Path.{fun_ext}
+use Rattle.std.proofs.Common.{◌≡◌, ℕ, refl, Option, Some, None}
+use Rattle.std.specs.Prelude.{IsNone}
 use Rattle.fol_model.specs.ActionStep.{at_id}
 use Rattle.fol_model.specs.Job.{Job, queued}
 use Rattle.fol_chunks.specs.Contents.{is_recorded}
@@ -13,28 +16,18 @@ use Rattle.fol_queues.specs.declared.dated.Dated.{Dated}
 use Rattle.fol_queues.proofs.Numbers.{nat_self}
 use Rattle.fol_keyed.proofs.Keyed.{find_push, differ_push}
 use Rattle.fol_data.specs.Rests.{IsInTime}
-use Rattle.fol_store.specs.declared.slot.Slot.{Slot}
-use Rattle.fol_store.specs.declared.places.Place.{Place}
+use Rattle.fol_model.specs.Job.{Job}
+use Rattle.fol_bags.specs.declared.slot.Slot.{Slot}
 use Rattle.fol_store.specs.Bag.{disturbed}
-use Rattle.fol_store.specs.Places.{is_bag, is_number}
-use Rattle.fol_store.specs.Slots.{stays_calm}
-use Rattle.fol_store.specs.Things.{Key, of_block, of_entity, of_task, Thing, things, chunk_at, IsTimely}
-use Rattle.fol_store.specs.Stock.{Stock, Where, arriving, in_spot, in_bag, slot, place, column, found, flat_of, jobs_of, bag_of, shown, no_slot}
+use Rattle.fol_bags.specs.Places.{is_bag}
+use Rattle.fol_bags.specs.Slots.{stays_calm, no_slot}
+use Rattle.fol_bags.specs.Things.{Key, of_block, of_entity, of_task, Thing, things, chunk_at, IsTimely}
+use Rattle.fol_store.specs.Stock.{Stock, Where, arriving, in_spot, in_bag, slot, place, column, found, flat_of, jobs_of, bag_of, shown}
 use Rattle.fol_store.specs.Sound.{Allows, Near, IsBag, IsSound}
+use Rattle.fol_bags.proofs.PlaceSteps.{is_bag-some, bag-from_is}
 use Rattle.fol_store.proofs.Totals.{IsUnique, found_of, found_none, found_columns, same_flat_at}
 use Rattle.fol_store.proofs.Resound.{Kept, kept_bag, near_kept}
 use Rattle.fol_store.proofs.BagSteps.{with_room}
-
--- the test for a bag
-pub is_bag-some : (p : Place) (u : ℕ) → p.bag ≡ Some u → is_bag u p ≡ true
-is_bag-some p u e = ap (is_number u) e ∙ nat_self u
-
-pub bag-from_is : (p : Place) (u : ℕ) → is_bag u p ≡ true → p.bag ≡ Some u
-bag-from_is p u h = go p.bag refl
-  where
-    go : (o : Option ℕ) → p.bag ≡ o → p.bag ≡ Some u
-    go None e = let f : false ≡ true = sym (ap (is_number u) e) ∙ h in cc
-    go (Some v) e = let f : nat_eq u v ≡ true = sym (ap (is_number u) e) ∙ h in let g : u ≡ v = eqb-true u v f in e ∙ ap (λ (n : ℕ). Some n) (sym g)
 
 pub map_none : {X Y : Type 0} (f : X → Y) (o : Option X) → option_map f o ≡ None → o ≡ None
 map_none f None h = refl

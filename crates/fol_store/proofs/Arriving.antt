@@ -19,17 +19,17 @@ use Rattle.fol_queues.specs.Distinct.{Distinct}
 use Rattle.fol_queues.specs.declared.dated.Dated.{Dated}
 use Rattle.fol_data.specs.Rests.{IsInTime}
 use Rattle.fol_data.specs.declared.region_data.RegionData.{RegionData}
-use Rattle.fol_store.specs.declared.places.Place.{Place}
-use Rattle.fol_store.specs.Moves.{SameThings, Queues}
-use Rattle.fol_store.specs.Places.{PlaceRows}
-use Rattle.fol_store.specs.Things.{Key, of_block, of_entity, of_task, Thing, things, some_number, arrived, chunk_at, IsTimely, no_data}
+use Rattle.fol_bags.specs.declared.places.Place.{Place}
+use Rattle.fol_bags.specs.Moves.{SameThings, Queues}
+use Rattle.fol_bags.specs.Places.{PlaceRows}
+use Rattle.fol_bags.specs.Things.{Key, of_block, of_entity, of_task, Thing, things, some_number, arrived, chunk_at, IsTimely, no_data}
 use Rattle.fol_store.specs.Stock.{Stock, Where, arriving, in_spot, in_bag, slot, spot, place, column, bag_of}
 use Rattle.fol_store.specs.Sound.{Allows, IsSound}
 use Rattle.fol_store.specs.Steps.{SameMeaning, IsNoted}
 use Rattle.fol_store.proofs.Columns.{Moves}
-use Rattle.fol_store.proofs.Totals.{where_cases, things_none}
+use Rattle.fol_store.proofs.Totals.{where_cases}
+use Rattle.fol_bags.proofs.Empty.{things_none, timely_empty}
 use Rattle.fol_store.proofs.Resound.{SameColumns, same_found, same_bag, kept_self, moved_found, moved_sound, MovesSoundly}
-use Rattle.fol_store.proofs.Opening.{timely_empty}
 
 pub record Changed (s t : Stock) : Type 0 where
   pub sound : IsSound t

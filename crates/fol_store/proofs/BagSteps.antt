@@ -1,18 +1,25 @@
 -- Steps that change bags, and neither spots nor arrivals nor places.
-use Rattle.std.proofs.Common.{◌≡◌, ◌≢◌, ℕ, zero, suc, ◌<◌, ◌≤◌, Bool, true, false, ◌||◌, List, [], ◌∷◌, length, get_or, refl, sym, ◌∙◌, ap, subst, inl, inr, arith}
+use Rattle.std.proofs.Common.{◌≡◌, ℕ}
+use Rattle.std.proofs.Common.{◌≡◌, ℕ, refl}
+use Rattle.std.proofs.Common.{ℕ, List}
+use Rattle.std.proofs.Common.{◌≡◌}
+use Rattle.std.proofs.Common.{◌≡◌, ℕ, List, refl, sym, ◌∙◌, subst, inl}
+use Rattle.std.proofs.Common.{◌≡◌, ℕ, true, false, ◌||◌, refl, sym, ◌∙◌}
+use Rattle.std.proofs.Common.{◌≡◌, ◌≢◌, ℕ, ◌<◌, ◌≤◌, Bool, true, false, List, length, refl, sym, ◌∙◌, ap, subst, inl, inr, arith}
 use Rattle.std.specs.Prelude.{nat_eq, if◌then◌else◌}
 use Rattle.std.proofs.lemmas.Bool.{cases_Bool, cases_eq, eqb-true, eqb-false}
 use Rattle.std.proofs.Math.Path.{fun_ext}
+use Rattle.std.proofs.Common.{◌≡◌, ℕ, ◌<◌, true}
 use Rattle.fol_model.specs.ActionStep.{at_id}
-use Rattle.fol_queues.proofs.Numbers.{nat_self}
 use Rattle.fol_queues.specs.declared.dated.Dated.{Dated}
-use Rattle.fol_store.specs.declared.slot.Slot.{Slot}
 use Rattle.fol_store.specs.Bag.{Bag}
-use Rattle.fol_store.specs.Things.{Key, things, IsTimely}
-use Rattle.fol_store.specs.Stock.{Stock, arriving, in_spot, in_bag, slot, found, flat_of, jobs_of, next_of, bag_of, shown, no_slot}
-use Rattle.fol_store.specs.Sound.{is_open, IsBag, IsSound}
+use Rattle.fol_store.specs.Stock.{Stock, flat_of, jobs_of, next_of, bag_of, slot, shown, arriving, in_spot, in_bag, found}
+use Rattle.fol_store.specs.Sound.{IsSound, IsBag}
+use Rattle.fol_bags.specs.declared.slot.Slot.{Slot}
+use Rattle.fol_bags.specs.Things.{Key, things, IsTimely}
+use Rattle.fol_store.proofs.Resound.{Kept, SameColumns, same_bag, same_unique, same_found}
 use Rattle.fol_store.proofs.Totals.{same_flat, same_jobs}
-use Rattle.fol_store.proofs.Resound.{Kept, SameColumns, same_unique, same_found, same_bag}
+use Rattle.fol_bags.proofs.OpenBags.{here_range}
 
 -- the bag of a region changed, and nothing else that contracts see
 pub record OneStep (s t : Stock) (id : ℕ) (b : Bag) : Type 0 where
@@ -21,49 +28,6 @@ pub record OneStep (s t : Stock) (id : ℕ) (b : Bag) : Type 0 where
   pub next : next_of t ≡ next_of s
   pub contents : flat_of t ≡ flat_of s
   pub tasks : jobs_of t ≡ jobs_of s
-
--- a bag that is here has an id that was given out
-pub here_range : (bags : List Slot) (id : ℕ) → (get_or bags id no_slot).here ≡ true → id < length bags
-here_range [] id h = cc
-here_range (b ∷ bs) zero h = omega arith
-here_range (b ∷ bs) (suc id) h = let l : id < length bs = here_range bs id h in omega arith
-
-pub taken_range : (bags : List Slot) (id : ℕ) → (get_or bags id no_slot).taken ≡ true → id < length bags
-taken_range [] id h = cc
-taken_range (b ∷ bs) zero h = omega arith
-taken_range (b ∷ bs) (suc id) h = let l : id < length bs = taken_range bs id h in omega arith
-
-pub open_range : (bags : List Slot) (id : ℕ) → ((get_or bags id no_slot).here || (get_or bags id no_slot).taken) ≡ true → id < length bags
-open_range [] id h = cc
-open_range (b ∷ bs) zero h = omega arith
-open_range (b ∷ bs) (suc id) h = let l : id < length bs = open_range bs id h in omega arith
-
-pub here_open : (bags : List Slot) (id : ℕ) → (get_or bags id no_slot).here ≡ true → is_open (get_or bags id no_slot) ≡ true
-here_open bags id h = rw h refl
-
-pub taken_open : (bags : List Slot) (id : ℕ) → (get_or bags id no_slot).taken ≡ true → is_open (get_or bags id no_slot) ≡ true
-taken_open bags id h = either (get_or bags id no_slot).here
-  where
-    either : (b : Bool) → (b || (get_or bags id no_slot).taken) ≡ true
-    either true = refl
-    either false = h
-
--- a bag that changes, and the second of two, are as open as what they change to
-pub first_open : (a : ℕ) (x y w : Slot) → w ≡ (if nat_eq a a then x else y) → x.here ≡ true → is_open w ≡ true
-first_open a x y w e h = let f : w ≡ x = e ∙ rw (nat_self a) refl in rw (f, h) refl
-
-pub second_open : (a b : ℕ) (x y z w : Slot) → a ≢ b → w ≡ (if nat_eq a b then x else (if nat_eq b b then y else z)) → y.here ≡ true → is_open w ≡ true
-second_open a b x y z w n e h =
-    elim (cases_Bool (nat_eq a b)) [
-      | inl q ↦ absurd (n (eqb-true a b q))
-      | inr q ↦ let f : w ≡ y = e ∙ rw (q, nat_self b) refl in rw (f, h) refl
-    ]
-
--- an element within the list is the same whatever stands for those past its end
-pub get_or-any : {X : Type 0} (xs : List X) (i : ℕ) (d e : X) → i < length xs → get_or xs i d ≡ get_or xs i e
-get_or-any [] i d e l = absurd (omega arith)
-get_or-any (x ∷ xs) zero d e l = refl
-get_or-any (x ∷ xs) (suc i) d e l = get_or-any xs i d e (omega arith)
 
 pub bag_slot : (s : Stock) (id : ℕ) → bag_of s id ≡ shown (slot s id)
 unfolding bag_of

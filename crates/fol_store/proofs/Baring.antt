@@ -14,18 +14,18 @@ use Rattle.fol_model.specs.World.{block_in, standing_in}
 use Rattle.fol_model.specs.ActionStep.{Flat, Standing, standing_of}
 use Rattle.fol_chunks.proofs.Flats.{flat_is}
 use Rattle.fol_data.specs.Rests.{IsInTime}
-use Rattle.fol_store.specs.declared.slot.Slot.{Slot}
-use Rattle.fol_store.specs.declared.places.Place.{Place}
+use Rattle.fol_bags.specs.declared.slot.Slot.{Slot}
+use Rattle.fol_bags.specs.declared.places.Place.{Place}
 use Rattle.fol_store.specs.Bag.{no_bag}
 use Rattle.fol_store.specs.Laid.{AllClosed, IsBare}
-use Rattle.fol_store.specs.Slots.{slot_in}
-use Rattle.fol_store.specs.Places.{PlaceRows, place_at, nowhere}
-use Rattle.fol_store.specs.Things.{Key, of_block, of_entity, of_task, Thing, things, some_number, no_data, IsTimely}
-use Rattle.fol_store.specs.Stock.{Stock, Where, arriving, in_spot, in_bag, slot, column, found, bag_of, shown, no_slot, flat_of, jobs_of}
+use Rattle.fol_bags.specs.Slots.{slot_in, no_slot}
+use Rattle.fol_bags.specs.Places.{PlaceRows, place_at, nowhere}
+use Rattle.fol_bags.specs.Things.{Key, of_block, of_entity, of_task, Thing, things, some_number, no_data, IsTimely}
+use Rattle.fol_store.specs.Stock.{Stock, Where, arriving, in_spot, in_bag, slot, column, found, bag_of, shown, flat_of, jobs_of}
 use Rattle.fol_store.specs.Sound.{IsSound}
-use Rattle.fol_store.proofs.Totals.{things_none, found_at, number_is}
+use Rattle.fol_bags.proofs.Empty.{things_none, timely_empty}
+use Rattle.fol_store.proofs.Totals.{found_at, number_is}
 use Rattle.fol_store.proofs.BagSteps.{closed_bag, bag_slot}
-use Rattle.fol_store.proofs.Opening.{timely_empty}
 use Rattle.fol_store.proofs.Spotting.{none_arrives}
 
 -- the one bag of an id that no region has

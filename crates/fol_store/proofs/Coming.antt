@@ -9,18 +9,18 @@ use Rattle.fol_chunks.specs.Contents.{is_recorded}
 use Rattle.fol_chunks.specs.Order.{chunk_cmp}
 use Rattle.fol_keyed.proofs.Places.{same_chunk-true, same_chunk-self}
 use Rattle.fol_queues.proofs.Numbers.{nat_self}
-use Rattle.fol_store.specs.declared.slot.Slot.{Slot}
-use Rattle.fol_store.specs.declared.places.Place.{Place}
-use Rattle.fol_store.specs.Places.{PlaceRows}
+use Rattle.fol_bags.specs.declared.slot.Slot.{Slot}
+use Rattle.fol_bags.specs.declared.places.Place.{Place}
+use Rattle.fol_bags.specs.Places.{PlaceRows}
 use Rattle.fol_store.specs.Relisted.{Relisted}
-use Rattle.fol_store.specs.Things.{Key, Thing, things, chunk_at, IsTimely}
+use Rattle.fol_bags.specs.Things.{Key, Thing, things, chunk_at, IsTimely}
 use Rattle.fol_store.specs.Stock.{Stock, Where, arriving, in_spot, in_bag, slot, spot, place, column, bag_of, shown}
 use Rattle.fol_store.specs.Sound.{Allows, Near, IsBag, IsSound}
 use Rattle.fol_store.specs.Steps.{SameMeaning}
 use Rattle.fol_store.proofs.Resound.{SameColumns, same_unique, same_found, same_bag, kept_self}
 use Rattle.fol_store.proofs.BagSteps.{slot_here, slot_other, one_columns}
 use Rattle.fol_store.proofs.Drawing.{with_parts}
-use Rattle.fol_store.proofs.Noting.{recorded_front, recorded_last}
+use Rattle.fol_bags.proofs.Recorded.{recorded_front, recorded_last}
 use Rattle.fol_store.proofs.Spotting.{none_arrives}
 use Rattle.fol_store.proofs.Stepping.{here_not_taken}
 

@@ -8,19 +8,19 @@ use Rattle.fol_model.specs.declared.places.ChunkPos.{ChunkPos}
 use Rattle.fol_chunks.specs.Contents.{is_recorded}
 use Rattle.fol_queues.proofs.Numbers.{nat_self}
 use Rattle.fol_data.specs.declared.region_data.RegionData.{RegionData}
-use Rattle.fol_store.specs.declared.slot.Slot.{Slot}
-use Rattle.fol_store.specs.declared.places.Place.{Place}
+use Rattle.fol_bags.specs.declared.slot.Slot.{Slot}
+use Rattle.fol_bags.specs.declared.places.Place.{Place}
 use Rattle.fol_store.specs.Gathered.{IsClear, Spared}
-use Rattle.fol_store.specs.Places.{PlaceRows, rehomed}
-use Rattle.fol_store.specs.Moves.{Loses, Gains, SameThings}
-use Rattle.fol_store.specs.Things.{Key, Thing, things, chunk_at, IsTimely}
+use Rattle.fol_bags.specs.Places.{PlaceRows, rehomed}
+use Rattle.fol_bags.specs.Moves.{Loses, Gains, SameThings}
+use Rattle.fol_bags.specs.Things.{Key, Thing, things, chunk_at, IsTimely}
 use Rattle.fol_store.specs.Stock.{Stock, Where, arriving, in_spot, in_bag, slot, place, column, bag_of, shown}
 use Rattle.fol_store.specs.Sound.{Allows, IsSound}
 use Rattle.fol_store.specs.Steps.{Draws}
 use Rattle.fol_store.proofs.Columns.{Moves, moves_back}
 use Rattle.fol_store.proofs.Totals.{where_cases}
 use Rattle.fol_store.proofs.Resound.{Kept, kept_self, moved_found, moved_sound, MovesSoundly}
-use Rattle.fol_store.proofs.Homes.{Homed, rehomed-spot, rehomed-keeps, rehomed-cases, rehomed-moves}
+use Rattle.fol_bags.proofs.Homes.{Homed, rehomed-spot, rehomed-keeps, rehomed-cases, rehomed-moves}
 
 -- a store with other spots, bags and places
 abbrev pub with_parts : Stock → List RegionData → List Slot → PlaceRows → ℕ → ℕ → Stock

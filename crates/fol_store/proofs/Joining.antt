@@ -4,12 +4,14 @@ use Rattle.std.proofs.lemmas.Bool.{cases_Bool}
 use Rattle.fol_model.specs.declared.places.ChunkPos.{ChunkPos}
 use Rattle.fol_chunks.specs.Contents.{is_recorded}
 use Rattle.fol_data.specs.declared.region_data.RegionData.{RegionData}
-use Rattle.fol_store.specs.declared.slot.Slot.{Slot}
+use Rattle.fol_bags.specs.declared.slot.Slot.{Slot}
 use Rattle.fol_store.specs.Bag.{Bag, is_whole}
-use Rattle.fol_store.specs.Places.{PlaceRows}
-use Rattle.fol_store.specs.Relisted.{Relisted, IsUnion, Joined, Stays}
-use Rattle.fol_store.specs.Things.{Key, Thing, chunk_at}
-use Rattle.fol_store.specs.Stock.{Stock, Where, in_bag, slot, place, column, found, next_of, bag_of, shown, no_slot}
+use Rattle.fol_bags.specs.Places.{PlaceRows}
+use Rattle.fol_store.specs.Relisted.{Relisted, Joined, Stays}
+use Rattle.fol_bags.specs.Members.{IsUnion}
+use Rattle.fol_bags.specs.Things.{Key, Thing, chunk_at}
+use Rattle.fol_store.specs.Stock.{Stock, Where, in_bag, slot, place, column, found, next_of, bag_of, shown}
+use Rattle.fol_bags.specs.Slots.{no_slot}
 use Rattle.fol_store.specs.Sound.{Near, IsBag, IsSound}
 use Rattle.fol_store.specs.Steps.{SameWorld}
 use Rattle.fol_store.proofs.Columns.{Moves, moves_back}

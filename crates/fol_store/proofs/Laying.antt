@@ -7,7 +7,7 @@ use Rattle.fol_queues.proofs.Numbers.{nat_self}
 use Rattle.fol_data.specs.declared.region_data.RegionData.{RegionData}
 use Rattle.fol_store.specs.Bag.{Bag}
 use Rattle.fol_store.specs.Laid.{AllClosed}
-use Rattle.fol_store.specs.Things.{Key, Thing, things, chunk_at, IsTimely}
+use Rattle.fol_bags.specs.Things.{Key, Thing, things, chunk_at, IsTimely}
 use Rattle.fol_store.specs.Stock.{Stock, Where, arriving, in_spot, in_bag, slot, spot, place, column, found, bag_of, shown}
 use Rattle.fol_store.specs.Sound.{Allows, IsSound}
 use Rattle.fol_store.proofs.Totals.{IsUnique, found_of, found_none, found_columns}

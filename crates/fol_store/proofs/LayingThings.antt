@@ -19,8 +19,8 @@ use Rattle.fol_keyed.proofs.Places.{same_block-true, block_cmp_total}
 use Rattle.std.proofs.lemmas.Cmp.{nat_cmp_total}
 use Rattle.fol_data.specs.declared.region_data.RegionData.{RegionData}
 use Rattle.fol_store.specs.Laid.{AllClosed}
-use Rattle.fol_store.specs.Moves.{LaysBlock, LaysEntity}
-use Rattle.fol_store.specs.Things.{Key, of_block, of_entity, of_task, Thing, things, some_number, IsTimely}
+use Rattle.fol_bags.specs.Moves.{LaysBlock, LaysEntity}
+use Rattle.fol_bags.specs.Things.{Key, of_block, of_entity, of_task, Thing, things, some_number, IsTimely}
 use Rattle.fol_store.specs.Stock.{Stock, spot, place, found}
 use Rattle.fol_store.specs.Sound.{IsSound}
 use Rattle.fol_store.proofs.Laying.{New, Lays, laid_sound, laid_here, laid_other}

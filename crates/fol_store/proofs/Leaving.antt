@@ -10,17 +10,17 @@ use Rattle.fol_chunks.specs.Order.{chunk_cmp}
 use Rattle.fol_keyed.proofs.Places.{same_chunk-self}
 use Rattle.fol_queues.proofs.Numbers.{nat_self}
 use Rattle.fol_data.specs.declared.region_data.RegionData.{RegionData}
-use Rattle.fol_store.specs.declared.slot.Slot.{Slot}
-use Rattle.fol_store.specs.Places.{PlaceRows}
-use Rattle.fol_store.specs.Moves.{Loses, Gains}
+use Rattle.fol_bags.specs.declared.slot.Slot.{Slot}
+use Rattle.fol_bags.specs.Places.{PlaceRows}
+use Rattle.fol_bags.specs.Moves.{Loses, Gains}
 use Rattle.fol_store.specs.Relisted.{Relisted}
-use Rattle.fol_store.specs.Things.{Key, Thing, things, chunk_at, IsTimely}
+use Rattle.fol_bags.specs.Things.{Key, Thing, things, chunk_at, IsTimely}
 use Rattle.fol_store.specs.Stock.{Stock, Where, arriving, in_spot, in_bag, slot, spot, place, column, bag_of, shown}
 use Rattle.fol_store.specs.Sound.{Near, IsBag, IsSound}
 use Rattle.fol_store.proofs.Columns.{Moves, moves_back}
 use Rattle.fol_store.proofs.Totals.{where_cases}
 use Rattle.fol_store.proofs.Resound.{kept_self, moved_unique, moved_found, moved_lies, moved_bag}
-use Rattle.fol_store.proofs.Homes.{single-is}
+use Rattle.fol_bags.proofs.Recorded.{single-is}
 use Rattle.fol_store.proofs.Drawing.{with_parts}
 use Rattle.fol_store.proofs.Outward.{Outward, apart_out, moves_out, home_spot, home_bag, home_before, home_gone, comes_out, stays_out}
 use Rattle.fol_store.proofs.Stepping.{here_not_taken}

@@ -1,8 +1,6 @@
-pub mod PlaceSteps
 pub mod Columns
 pub mod Totals
 pub mod Resound
-pub mod ThingSteps
 pub mod BagSteps
 pub mod Accepting
 pub mod Queuing
@@ -12,7 +10,6 @@ pub mod Taking
 pub mod Passing
 pub mod Putting
 pub mod Opening
-pub mod Homes
 pub mod Drawing
 pub mod Spotting
 pub mod Stepping
@@ -25,19 +22,15 @@ pub mod Laying
 pub mod LayingThings
 pub mod Baring
 pub mod Timing
-pub mod Ordered
 pub mod Listing
 pub mod RowLists
 pub mod Crossing
-pub mod OneMore
 pub mod Coming
 pub mod Outward
 pub mod NoTask
-pub mod Counting
 pub mod Leaving
 pub mod LeavingBare
 pub mod Joining
 pub mod Relisting
-pub mod Compacting
 pub mod Releasing
 pub mod Parting

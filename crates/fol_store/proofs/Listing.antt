@@ -6,10 +6,11 @@ use Rattle.std.specs.List.Sorted.{IsPermutation}
 use Rattle.std.specs.Option.{option_map}
 use Rattle.std.proofs.lemmas.List.Elements.{Contains-append_left, Contains-append_right, Contains-append_cases}
 use Rattle.fol_keyed.proofs.Keyed.{Differ, differ_append, find_absent, find_key, find_of, find_permuted}
-use Rattle.fol_store.specs.declared.slot.Slot.{Slot}
+use Rattle.fol_bags.specs.declared.slot.Slot.{Slot}
 use Rattle.fol_data.specs.declared.region_data.RegionData.{RegionData}
-use Rattle.fol_store.specs.Things.{no_data}
-use Rattle.fol_store.specs.Stock.{Stock, Where, arriving, in_spot, in_bag, slot, spot, no_slot}
+use Rattle.fol_bags.specs.Things.{no_data}
+use Rattle.fol_store.specs.Stock.{Stock, Where, arriving, in_spot, in_bag, slot, spot}
+use Rattle.fol_bags.specs.Slots.{no_slot}
 
 module _ {X P : Type 0} (f : P → List X) (d : P) (nothing : f d ≡ []) where
   none_in : (x : X) → Contains (f d) x → ⊥

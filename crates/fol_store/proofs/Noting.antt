@@ -1,40 +1,27 @@
 -- What is noted of the spots where tasks may lie, and a listed bag for which they are drawn.
-use Rattle.std.proofs.Common.{◌≡◌, ◌≢◌, ℕ, ◌≤◌, Bool, true, false, not, ◌||◌, ◌&&◌, List, [], ◌∷◌, ◌++◌, length, refl, sym, ◌∙◌, ap, subst, inl, inr, arith, Some, None}
+use Rattle.std.proofs.Common.{◌≡◌, Bool, true, false, List, refl, sym, ◌∙◌, ap}
+use Rattle.std.proofs.Common.{◌≡◌, sym, ◌∙◌, ap}
+use Rattle.std.proofs.Common.{◌≡◌, true, false, sym, ◌∙◌, ap}
+use Rattle.std.proofs.Common.{◌≡◌, ℕ, true, false, not, ◌&&◌, sym, ◌∙◌, subst, Some}
+use Rattle.std.proofs.Common.{◌≡◌, ◌≢◌, ℕ, ◌≤◌, Bool, true, false, ◌||◌, List, [], length, refl, sym, ◌∙◌, ap, subst, inl, inr, arith, Some, None}
 use Rattle.std.specs.Prelude.{nat_eq, if◌then◌else◌}
 use Rattle.std.proofs.lemmas.Bool.{cases_Bool, cases_eq, eqb-true}
 use Rattle.std.proofs.Math.Path.{fun_ext}
 use Rattle.fol_model.specs.declared.places.ChunkPos.{ChunkPos}
-use Rattle.fol_model.specs.Geometry.{same_chunk}
 use Rattle.fol_chunks.specs.Contents.{is_recorded}
-use Rattle.fol_keyed.proofs.Places.{same_chunk-true, same_chunk-self}
-use Rattle.fol_store.specs.declared.slot.Slot.{Slot}
+use Rattle.fol_keyed.proofs.Places.{same_chunk-true}
 use Rattle.fol_store.specs.Bag.{Bag}
 use Rattle.fol_store.specs.Gathered.{Spared, IsClear, Touched}
-use Rattle.fol_store.specs.Things.{Key, Thing, chunk_at}
-use Rattle.fol_store.specs.Stock.{Stock, Where, arriving, in_spot, in_bag, slot, place, column, bag_of, shown}
-use Rattle.fol_store.specs.Sound.{Near, IsBag, IsSound}
+use Rattle.fol_store.specs.Stock.{Stock, slot, place, Where, arriving, in_spot, in_bag, column, bag_of, shown}
 use Rattle.fol_store.specs.Steps.{IsNoted, IsReopened}
+use Rattle.fol_bags.specs.declared.slot.Slot.{Slot}
+use Rattle.fol_bags.specs.Things.{Key, Thing, chunk_at}
+use Rattle.fol_store.specs.Sound.{Near, IsBag, IsSound}
 use Rattle.fol_store.proofs.Resound.{SameColumns}
 use Rattle.fol_store.proofs.BagSteps.{with_bags, one_sound, one_columns, one_found, one_step, bag_slot, slot_here, slot_other}
 use Rattle.fol_store.proofs.Spotting.{Spotted, none_arrives}
 use Rattle.fol_store.proofs.Settling.{Settled}
 use Rattle.fol_store.proofs.Stepping.{here_not_taken}
-
--- a chunk at the end of a list, and one in front of it
-pub recorded_last : (xs : List ChunkPos) (c : ChunkPos) → is_recorded (xs ++ c ∷ []) c ≡ true
-recorded_last [] c = rw (same_chunk-self c) refl
-recorded_last (x ∷ xs) c = or_second (same_chunk c x) (recorded_last xs c)
-  where
-    or_second : (a : Bool) {b : Bool} → b ≡ true → (a || b) ≡ true
-    or_second true e = refl
-    or_second false e = e
-
-pub recorded_front : (xs ys : List ChunkPos) (c : ChunkPos) → is_recorded xs c ≡ true → is_recorded (xs ++ ys) c ≡ true
-recorded_front [] ys c h = (let z : false ≡ true = h in cc)
-recorded_front (x ∷ xs) ys c h = elim (cases_Bool (same_chunk c x)) [
-  | inl e ↦ rw e refl
-  | inr e ↦ let r : is_recorded xs c ≡ true = rw e at h in rw e (recorded_front xs ys c r)
-]
 
 -- a bag that is spared and had none of the chunks where it was listed is the same
 pub spared_clear : (chunks : List ChunkPos) (a b : Bag) → Spared chunks a b → (a.listed ≡ true → IsClear chunks a) → b ≡ a

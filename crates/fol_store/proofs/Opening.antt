@@ -1,33 +1,21 @@
 -- A bag that is opened.
-use Rattle.std.proofs.Common.{◌≡◌, ℕ, ◌+◌, ◌<◌, ◌≤◌, ◌^◌, true, false, List, [], length, refl, sym, ◌∙◌, ap, arith, Some, None}
+use Rattle.std.proofs.Common.{◌≡◌, ℕ, ◌+◌}
+use Rattle.std.proofs.Common.{◌≡◌, ℕ, ◌+◌, ◌<◌, ◌≤◌, ◌^◌, true, false, List, [], length, refl, sym, ◌∙◌, ap, arith}
 use Rattle.std.specs.Prelude.{nat_eq, if◌then◌else◌}
 use Rattle.std.proofs.Math.ListN.{get_or-eq_default}
 use Rattle.fol_model.specs.ActionStep.{at_id}
-use Rattle.fol_queues.specs.Waiting.{dated_in}
-use Rattle.fol_queues.specs.declared.dated.Dated.{Dated}
 use Rattle.fol_data.specs.declared.region_data.RegionData.{RegionData}
-use Rattle.fol_store.specs.declared.slot.Slot.{Slot}
 use Rattle.fol_store.specs.Bag.{Bag, new_bag}
-use Rattle.fol_store.specs.Moves.{SameThings}
-use Rattle.fol_store.specs.Things.{Key, of_block, of_entity, of_task, things, IsTimely, no_data}
-use Rattle.fol_store.specs.Stock.{Stock, slot, flat_of, jobs_of, next_of, bag_of, no_slot}
-use Rattle.fol_store.specs.Sound.{IsBag, IsSound}
-use Rattle.fol_store.proofs.Totals.{things_none, same_flat, same_jobs}
+use Rattle.fol_store.specs.Stock.{Stock, flat_of, jobs_of, next_of, bag_of, slot}
+use Rattle.fol_store.specs.Sound.{IsSound, IsBag}
+use Rattle.fol_bags.specs.declared.slot.Slot.{Slot}
+use Rattle.fol_bags.specs.Moves.{SameThings}
+use Rattle.fol_bags.specs.Things.{Key, things, IsTimely, no_data}
+use Rattle.fol_bags.specs.Slots.{no_slot}
+use Rattle.fol_bags.proofs.Empty.{things_of_nothing, timely_empty, things_none}
+use Rattle.fol_store.proofs.Totals.{same_flat, same_jobs}
 use Rattle.fol_store.proofs.Resound.{SameColumns}
 use Rattle.fol_store.proofs.BagSteps.{with_bags, one_sound, one_found, bags_shown}
-
--- nothing, whatever the counters
-pub things_of_nothing : (tick owed : ℕ) (k : Key) → things (record no_data { tick = tick; owed = owed }) k ≡ None
-things_of_nothing tick owed (of_block b) = refl
-things_of_nothing tick owed (of_entity id) = refl
-things_of_nothing tick owed (of_task n) = refl
-
--- data without tasks is timely
-pub timely_empty : (r : RegionData) → r.tick ≤ 2 ^ 62 → r.queues.tasks ≡ [] → IsTimely r
-timely_empty r l e = record {
-  tick = l;
-  in_time = λ n x q. let f : None ≡ Some x = sym (ap (λ (ds : List Dated). dated_in ds n) e) ∙ q in absurd (let z : ⊥ = cc in z);
-}
 
 pub record OpenStep (s t : Stock) (id : ℕ) (b : Bag) : Type 0 where
   pub sound : IsSound t

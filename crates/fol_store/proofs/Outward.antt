@@ -7,14 +7,14 @@ use Rattle.fol_model.specs.Geometry.{same_chunk}
 use Rattle.fol_chunks.specs.Contents.{is_recorded}
 use Rattle.fol_keyed.proofs.Places.{same_chunk-true}
 use Rattle.fol_data.specs.declared.region_data.RegionData.{RegionData}
-use Rattle.fol_store.specs.declared.places.Place.{Place}
-use Rattle.fol_store.specs.Moves.{Loses, Gains}
-use Rattle.fol_store.specs.Things.{Key, Thing, things, chunk_at}
+use Rattle.fol_bags.specs.declared.places.Place.{Place}
+use Rattle.fol_bags.specs.Moves.{Loses, Gains}
+use Rattle.fol_bags.specs.Things.{Key, Thing, things, chunk_at}
 use Rattle.fol_store.specs.Stock.{Stock, Where, arriving, in_spot, in_bag, slot, spot, place, column}
 use Rattle.fol_store.specs.Sound.{Allows, IsSound}
 use Rattle.fol_store.proofs.Columns.{Moves}
 use Rattle.fol_store.proofs.Totals.{where_cases}
-use Rattle.fol_store.proofs.Homes.{single-is, single-self}
+use Rattle.fol_bags.proofs.Recorded.{single-is, single-self}
 
 -- a chunk is no longer one of the bag
 pub record Unnamed (s t : Stock) (id : ℕ) (c : ChunkPos) : Type 0 where

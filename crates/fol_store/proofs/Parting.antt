@@ -8,12 +8,12 @@ use Rattle.fol_model.specs.declared.places.ChunkPos.{ChunkPos}
 use Rattle.fol_chunks.specs.Contents.{is_recorded}
 use Rattle.fol_queues.proofs.Numbers.{nat_self}
 use Rattle.fol_data.specs.declared.region_data.RegionData.{RegionData}
-use Rattle.fol_store.specs.declared.slot.Slot.{Slot}
+use Rattle.fol_bags.specs.declared.slot.Slot.{Slot}
 use Rattle.fol_store.specs.Bag.{Bag}
-use Rattle.fol_store.specs.Moves.{Loses, Gains}
-use Rattle.fol_store.specs.Places.{PlaceRows}
+use Rattle.fol_bags.specs.Moves.{Loses, Gains}
+use Rattle.fol_bags.specs.Places.{PlaceRows}
 use Rattle.fol_store.specs.Relisted.{IsUngathered, Receives}
-use Rattle.fol_store.specs.Things.{Key, Thing, things, chunk_at}
+use Rattle.fol_bags.specs.Things.{Key, Thing, things, chunk_at}
 use Rattle.fol_store.specs.Stock.{Stock, Where, arriving, in_spot, in_bag, slot, place, column, found, next_of, bag_of, shown}
 use Rattle.fol_store.specs.Sound.{Near, IsBag, IsSound}
 use Rattle.fol_store.specs.Noted.{AreNoted}

@@ -11,9 +11,9 @@ use Rattle.fol_queues.specs.Waiting.{dated, dated_in, due_count, is_due, job_of}
 use Rattle.fol_queues.specs.declared.dated.Dated.{Dated}
 use Rattle.fol_chunks.specs.Contents.{is_recorded}
 use Rattle.fol_data.specs.Rests.{IsInTime}
-use Rattle.fol_store.specs.declared.slot.Slot.{Slot}
+use Rattle.fol_bags.specs.declared.slot.Slot.{Slot}
 use Rattle.fol_store.specs.Passing.{nearer}
-use Rattle.fol_store.specs.Things.{Key, of_block, of_entity, of_task, Thing, things, chunk_at, IsTimely}
+use Rattle.fol_bags.specs.Things.{Key, of_block, of_entity, of_task, Thing, things, chunk_at, IsTimely}
 use Rattle.fol_store.specs.Stock.{Stock, Where, arriving, in_spot, in_bag, slot, place, column, found, flat_of, jobs_of}
 use Rattle.fol_store.specs.Sound.{Allows, Near, IsBag, IsSound}
 use Rattle.fol_store.proofs.Totals.{where_cases, IsUnique, found_of, found_at, found_none, same_flat_at}

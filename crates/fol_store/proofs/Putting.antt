@@ -12,8 +12,8 @@ use Rattle.fol_chunks.specs.Contents.{is_recorded, within, joined, Apart, flat_o
 use Rattle.fol_chunks.proofs.Flats.{flat_is}
 use Rattle.fol_data.specs.Rests.{rests_of}
 use Rattle.fol_data.specs.declared.region_data.RegionData.{RegionData}
-use Rattle.fol_store.specs.declared.slot.Slot.{Slot}
-use Rattle.fol_store.specs.Things.{Key, of_block, of_entity, of_task, Thing, things, some_number, chunk_at, IsTimely}
+use Rattle.fol_bags.specs.declared.slot.Slot.{Slot}
+use Rattle.fol_bags.specs.Things.{Key, of_block, of_entity, of_task, Thing, things, some_number, chunk_at, IsTimely}
 use Rattle.fol_store.specs.Stock.{Stock, Where, arriving, in_spot, in_bag, slot, place, column, found, flat_of, jobs_of}
 use Rattle.fol_store.specs.Sound.{Allows, Near, IsBag, IsSound}
 use Rattle.fol_store.proofs.Columns.{filter_some}

@@ -7,9 +7,9 @@ use Rattle.fol_model.specs.ActionStep.{Flat, at_id}
 use Rattle.fol_model.specs.Job.{Job, queued}
 use Rattle.fol_queues.specs.declared.dated.Dated.{Dated}
 use Rattle.fol_data.specs.declared.region_data.RegionData.{RegionData}
-use Rattle.fol_store.specs.declared.slot.Slot.{Slot}
-use Rattle.fol_store.specs.Moves.{SameThings, Queues}
-use Rattle.fol_store.specs.Things.{Key, of_block, of_entity, of_task, Thing, things, some_number, chunk_at, IsTimely}
+use Rattle.fol_bags.specs.declared.slot.Slot.{Slot}
+use Rattle.fol_bags.specs.Moves.{SameThings, Queues}
+use Rattle.fol_bags.specs.Things.{Key, of_block, of_entity, of_task, Thing, things, some_number, chunk_at, IsTimely}
 use Rattle.fol_store.specs.Stock.{Stock, Where, arriving, in_spot, in_bag, slot, place, column, found, flat_of, jobs_of, bag_of, next_of, shown}
 use Rattle.fol_store.specs.Sound.{Allows, Near, IsBag, IsSound}
 use Rattle.fol_store.specs.Steps.{Roomier}

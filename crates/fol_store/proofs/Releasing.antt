@@ -5,9 +5,9 @@ use Rattle.std.proofs.lemmas.Bool.{cases_Bool, eqb-true}
 use Rattle.std.proofs.Math.Path.{fun_ext}
 use Rattle.fol_model.specs.declared.places.ChunkPos.{ChunkPos}
 use Rattle.fol_data.specs.declared.region_data.RegionData.{RegionData}
-use Rattle.fol_store.specs.declared.slot.Slot.{Slot}
+use Rattle.fol_bags.specs.declared.slot.Slot.{Slot}
 use Rattle.fol_store.specs.Bag.{Bag}
-use Rattle.fol_store.specs.Things.{Key, things, IsTimely}
+use Rattle.fol_bags.specs.Things.{Key, things, IsTimely}
 use Rattle.fol_store.specs.Stock.{Stock, slot, bag_of, next_of, shown}
 use Rattle.fol_store.specs.Sound.{IsSound}
 use Rattle.fol_store.specs.Steps.{Draws, SameMeaning, SameWorld}

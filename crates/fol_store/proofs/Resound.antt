@@ -6,10 +6,11 @@ use Rattle.fol_chunks.specs.Contents.{is_recorded}
 use Rattle.fol_queues.specs.Distinct.{Distinct}
 use Rattle.fol_data.specs.Rests.{IsInTime}
 use Rattle.std.proofs.lemmas.Bool.{cases_Bool}
-use Rattle.fol_store.specs.declared.slot.Slot.{Slot}
-use Rattle.fol_store.specs.Things.{Key, Thing, chunk_at, IsTimely}
+use Rattle.fol_bags.specs.declared.slot.Slot.{Slot}
+use Rattle.fol_bags.specs.Things.{Key, Thing, chunk_at, IsTimely}
 use Rattle.fol_store.specs.Stock.{Stock, Where, arriving, in_spot, in_bag, slot, spot, place, column, found}
-use Rattle.fol_store.specs.Sound.{Allows, Near, is_open, IsBag, IsSound}
+use Rattle.fol_store.specs.Sound.{Allows, Near, IsBag, IsSound}
+use Rattle.fol_bags.specs.Slots.{is_open}
 use Rattle.fol_store.proofs.Columns.{Moves, Came, Stayed, moves_back, moves_forth, moves_one}
 use Rattle.fol_store.proofs.Totals.{where_cases, IsUnique, found_from}
 

@@ -22,11 +22,12 @@ use Rattle.fol_queues.proofs.Numbers.{nat_self}
 use Rattle.fol_queues.specs.Distinct.{Distinct}
 use Rattle.fol_queues.specs.Waiting.{dated_in, job_of}
 use Rattle.fol_queues.specs.declared.dated.Dated.{Dated}
-use Rattle.fol_store.specs.declared.slot.Slot.{Slot}
+use Rattle.fol_bags.specs.declared.slot.Slot.{Slot}
 use Rattle.fol_store.specs.TaskRows.{job_of_row, row_of, rows_of}
 use Rattle.fol_store.specs.Lists.{blocks_of, entities_of, tasks_of, IsListed}
-use Rattle.fol_store.specs.Things.{of_block, of_entity, of_task, some_number, no_data}
-use Rattle.fol_store.specs.Stock.{Stock, Where, arriving, in_spot, in_bag, slot, spot, column, found, flat_of, jobs_of, no_slot}
+use Rattle.fol_bags.specs.Things.{of_block, of_entity, of_task, some_number, no_data}
+use Rattle.fol_store.specs.Stock.{Stock, Where, arriving, in_spot, in_bag, slot, spot, column, found, flat_of, jobs_of}
+use Rattle.fol_bags.specs.Slots.{no_slot}
 use Rattle.fol_store.specs.Sound.{IsSound}
 use Rattle.fol_store.proofs.Totals.{found_at, found_none}
 use Rattle.fol_store.proofs.Listing.{look, list_at, whole, whole_part, whole_differs, look_permuted}

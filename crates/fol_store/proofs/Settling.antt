@@ -5,15 +5,16 @@ use Rattle.fol_model.specs.declared.places.ChunkPos.{ChunkPos}
 use Rattle.fol_model.specs.ActionStep.{at_id}
 use Rattle.fol_chunks.specs.Contents.{is_recorded}
 use Rattle.fol_keyed.proofs.Places.{same_chunk-self}
-use Rattle.fol_store.specs.declared.slot.Slot.{Slot}
+use Rattle.fol_bags.specs.declared.slot.Slot.{Slot}
 use Rattle.fol_store.specs.Bag.{Bag}
-use Rattle.fol_store.specs.Things.{chunk_at}
+use Rattle.fol_bags.specs.Things.{chunk_at}
 use Rattle.fol_store.specs.Stock.{Stock, Where, in_bag, slot, place, bag_of, shown}
 use Rattle.fol_store.specs.Sound.{Near, IsBag, IsSound}
 use Rattle.fol_store.specs.Steps.{SameMeaning, IsGathered}
 use Rattle.fol_store.proofs.Resound.{SameColumns}
 use Rattle.fol_store.proofs.BagSteps.{with_bags, one_step, one_found, bag_slot}
-use Rattle.fol_store.proofs.Stepping.{recorded_index, here_not_taken}
+use Rattle.fol_bags.proofs.Recorded.{recorded_index}
+use Rattle.fol_store.proofs.Stepping.{here_not_taken}
 
 pub record Settled (s t : Stock) (id : ℕ) (b : Bag) : Type 0 where
   pub sound : IsSound t

@@ -10,11 +10,11 @@ use Rattle.fol_keyed.proofs.Places.{same_chunk-true}
 use Rattle.fol_queues.proofs.Numbers.{nat_self}
 use Rattle.fol_queues.specs.declared.dated.Dated.{Dated}
 use Rattle.fol_data.specs.declared.region_data.RegionData.{RegionData}
-use Rattle.fol_store.specs.declared.slot.Slot.{Slot}
-use Rattle.fol_store.specs.declared.places.Place.{Place}
-use Rattle.fol_store.specs.Places.{PlaceRows}
-use Rattle.fol_store.specs.Moves.{Loses, Gains}
-use Rattle.fol_store.specs.Things.{Key, of_block, of_entity, of_task, Thing, things, chunk_at, arrived, IsTimely}
+use Rattle.fol_bags.specs.declared.slot.Slot.{Slot}
+use Rattle.fol_bags.specs.declared.places.Place.{Place}
+use Rattle.fol_bags.specs.Places.{PlaceRows}
+use Rattle.fol_bags.specs.Moves.{Loses, Gains}
+use Rattle.fol_bags.specs.Things.{Key, of_block, of_entity, of_task, Thing, things, chunk_at, arrived, IsTimely}
 use Rattle.fol_store.specs.Stock.{Stock, Where, arriving, in_spot, in_bag, slot, spot, place, column, found, bag_of, shown}
 use Rattle.fol_store.specs.Sound.{Allows, IsSound}
 use Rattle.fol_store.specs.Steps.{SameMeaning, IsGathered}

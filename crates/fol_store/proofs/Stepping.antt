@@ -1,19 +1,40 @@
 -- Steps of a gathering, one after another.
-use Rattle.std.proofs.Common.{◌≡◌, ℕ, zero, suc, ◌<◌, ◌≤◌, Bool, true, false, ◌||◌, ◌&&◌, List, [], ◌∷◌, length, get_or, refl, sym, ◌∙◌, ap, subst, ◌⊎◌, inl, inr, arith, Some, None}
+use Rattle.std.proofs.Common.{refl, arith}
+use Rattle.std.proofs.Common.{◌≤◌, ◌∙◌, arith}
+use Rattle.std.proofs.Common.{◌≡◌, List, refl, sym, subst}
+use Rattle.std.proofs.Common.{List, ◌∙◌, ap}
+use Rattle.std.proofs.Common.{◌≡◌, ℕ, List, ap}
+use Rattle.std.proofs.Common.{ℕ, List}
+use Rattle.std.proofs.Common.{ℕ, List, refl}
+use Rattle.std.proofs.Common.{ℕ, List, ◌∙◌}
+use Rattle.std.proofs.Common.{◌≡◌, ℕ, true, false, List, sym, ◌∙◌, ap, subst, inl, inr}
+use Rattle.std.proofs.lemmas.Bool.{cases_eq}
+use Rattle.std.proofs.Common.{ℕ, List, ◌∙◌, ap}
+use Rattle.std.proofs.Common.{ℕ, List, sym, subst}
+use Rattle.std.proofs.Common.{ℕ, List, subst}
+use Rattle.std.proofs.Common.{◌≡◌, ℕ, ◌<◌, true, List, length, refl, sym, ◌∙◌, ap, subst, ◌⊎◌, inl, inr, arith, Some, None}
 use Rattle.std.specs.Prelude.{if◌then◌else◌}
-use Rattle.std.proofs.lemmas.Bool.{cases_Bool, cases_eq}
+use Rattle.std.proofs.lemmas.Bool.{cases_Bool}
+use Rattle.std.proofs.Common.{◌≡◌, ℕ, [], sym, ◌∙◌, ap, Some, None}
+use Rattle.std.proofs.Common.{◌≡◌, ℕ, List, refl}
+use Rattle.std.proofs.Common.{◌≡◌, ℕ, true, List}
+use Rattle.std.proofs.Common.{◌≡◌, ℕ, false, List}
+use Rattle.std.proofs.Common.{◌≡◌, ℕ, true, List, ◌∙◌, ap}
+use Rattle.std.proofs.Common.{◌≡◌, ℕ, true, false, ◌&&◌}
+use Rattle.std.proofs.Common.{◌≡◌, ℕ, true}
+use Rattle.std.proofs.Common.{◌≡◌, ℕ, Bool, true, false, ◌||◌, List, refl, sym, ◌∙◌, inl, inr, Some}
 use Rattle.fol_model.specs.declared.places.ChunkPos.{ChunkPos}
-use Rattle.fol_model.specs.Geometry.{same_chunk}
 use Rattle.fol_chunks.specs.Contents.{is_recorded}
-use Rattle.fol_keyed.proofs.Places.{same_chunk-true, same_chunk-self}
-use Rattle.fol_store.specs.declared.places.Place.{Place}
+use Rattle.fol_model.specs.Geometry.{same_chunk}
+use Rattle.fol_keyed.proofs.Places.{same_chunk-true}
+use Rattle.fol_store.specs.Stock.{Stock, bag_of, Where, arriving, in_spot, in_bag, slot, place, column, shown}
+use Rattle.fol_store.specs.Steps.{SameMeaning, Draws, IsTarget, IsGathered}
 use Rattle.fol_store.specs.Bag.{Bag}
-use Rattle.fol_store.specs.Gathered.{AreFree, Spared, OthersSpared}
-use Rattle.fol_store.specs.Places.{PlaceRows}
-use Rattle.fol_store.specs.Things.{Key, Thing, chunk_at}
-use Rattle.fol_store.specs.Stock.{Stock, Where, arriving, in_spot, in_bag, slot, place, column, bag_of, shown}
+use Rattle.fol_store.specs.Gathered.{Spared, OthersSpared, AreFree}
+use Rattle.fol_bags.specs.Places.{PlaceRows}
+use Rattle.fol_bags.specs.declared.places.Place.{Place}
+use Rattle.fol_bags.specs.Things.{chunk_at, Key, Thing}
 use Rattle.fol_store.specs.Sound.{Allows, IsSound}
-use Rattle.fol_store.specs.Steps.{SameMeaning, IsGathered, Draws, IsTarget}
 use Rattle.fol_store.proofs.Resound.{SameColumns, same_found, same_bag, kept_self}
 use Rattle.fol_store.proofs.Drawing.{Drawn}
 use Rattle.fol_store.proofs.Spotting.{none_arrives}
@@ -242,23 +263,3 @@ source_not_taken id u chunks s g h c r e =
     either : (b : Bool) → (slot s u).taken ≡ true → (b || (slot s u).taken) ≡ true
     either true q = refl
     either false q = q
-
--- a chunk of the list by its index
-pub recorded_at : (chunks : List ChunkPos) (i : ℕ) (d : ChunkPos) → i < length chunks → is_recorded chunks (get_or chunks i d) ≡ true
-recorded_at [] i d l = absurd (omega arith)
-recorded_at (x ∷ xs) zero d l = rw (same_chunk-self x) refl
-recorded_at (x ∷ xs) (suc i) d l = or_second (same_chunk (get_or xs i d) x) (recorded_at xs i d (omega arith))
-  where
-    or_second : (a : Bool) {b : Bool} → b ≡ true → (a || b) ≡ true
-    or_second true e = refl
-    or_second false e = e
-
-pub recorded_index : (chunks : List ChunkPos) (c d : ChunkPos) → is_recorded chunks c ≡ true → (i : ℕ) × (i < length chunks) × (get_or chunks i d ≡ c)
-recorded_index [] c d h = (let z : false ≡ true = h in cc)
-recorded_index (x ∷ xs) c d h =
-    elim (cases_Bool (same_chunk c x)) [
-      | inl e ↦ (0, omega arith, sym (same_chunk-true c x e))
-      | inr e ↦
-          let r : (i : ℕ) × (i < length xs) × (get_or xs i d ≡ c) = recorded_index xs c d (rw e at h) in
-          (suc r.0, (let l : r.0 < length xs = r.1 in omega arith), r.2)
-    ]

@@ -11,8 +11,8 @@ use Rattle.fol_queues.specs.Waiting.{option_filter}
 use Rattle.fol_chunks.specs.Contents.{is_recorded, outside}
 use Rattle.fol_chunks.proofs.Flats.{flat_is}
 use Rattle.fol_data.specs.declared.region_data.RegionData.{RegionData}
-use Rattle.fol_store.specs.declared.slot.Slot.{Slot}
-use Rattle.fol_store.specs.Things.{Key, of_block, of_entity, of_task, Thing, things, chunk_at, IsTimely}
+use Rattle.fol_bags.specs.declared.slot.Slot.{Slot}
+use Rattle.fol_bags.specs.Things.{Key, of_block, of_entity, of_task, Thing, things, chunk_at, IsTimely}
 use Rattle.fol_store.specs.Stock.{Stock, Where, arriving, in_spot, in_bag, slot, column, found, flat_of, jobs_of}
 use Rattle.fol_store.specs.Sound.{IsBag, IsSound}
 use Rattle.fol_store.proofs.Totals.{where_cases, IsUnique, found_of, found_at, found_none, unwrap_filter}

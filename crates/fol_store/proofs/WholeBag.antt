@@ -10,7 +10,7 @@ use Rattle.fol_queues.specs.Waiting.{option_filter}
 use Rattle.fol_chunks.specs.Contents.{is_recorded, within, flat_of as contents_of}
 use Rattle.fol_chunks.proofs.Flats.{flat_is}
 use Rattle.fol_data.specs.Rests.{rests_of}
-use Rattle.fol_store.specs.Things.{Key, of_block, of_entity, of_task, Thing, chunk_at}
+use Rattle.fol_bags.specs.Things.{Key, of_block, of_entity, of_task, Thing, chunk_at}
 use Rattle.fol_store.specs.Stock.{Stock, Where, in_bag, slot, column, found, flat_of, jobs_of}
 use Rattle.fol_store.specs.Sound.{IsSound}
 use Rattle.fol_store.proofs.Totals.{where_cases, found_at, found_none, number_is, unwrap_filter}

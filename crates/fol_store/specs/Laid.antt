@@ -1,7 +1,7 @@
 -- A store before any region is there.
 use Rattle.std.specs.Prelude.{ℕ, ◌≡◌, None}
 use Rattle.fol_store.specs.Bag.{no_bag}
-use Rattle.fol_store.specs.Things.{Key}
+use Rattle.fol_bags.specs.Things.{Key}
 use Rattle.fol_store.specs.Stock.{Stock, found, bag_of}
 
 -- no bag is here or taken out

@@ -2,15 +2,8 @@ pub mod Bag
 pub mod Stock
 pub mod Gathered
 pub mod Relisted
-pub mod Places
 pub mod Columns
-pub mod Things
 pub mod Sound
-pub mod Moves
-pub mod Clear
-pub mod Slots
-pub mod KeptLends
-pub mod BagLends
 pub mod Steps
 pub mod Laid
 pub mod TaskRows

@@ -1,10 +1,18 @@
 -- What becomes of the bag of a region that has a chunk more or a chunk less, or that another region joins.
-use Rattle.std.specs.Prelude.{ℕ, ◌≡◌, ◌≢◌, Bool, true, false, not, ◌&&◌, ◌||◌, max, List, []}
+use Rattle.std.specs.Prelude.{◌≡◌, Bool, true, false, not}
 use Rattle.std.specs.List.Sorted.{IsStrictlySortedBy}
+use Rattle.std.specs.Prelude.{◌||◌}
+use Rattle.std.specs.Prelude.{not, ◌&&◌}
+use Rattle.std.specs.Prelude.{◌≡◌, true}
+use Rattle.std.specs.Prelude.{◌≡◌, true, ◌||◌, max}
+use Rattle.std.specs.Prelude.{◌≡◌}
+use Rattle.std.specs.Prelude.{ℕ, ◌≡◌, ◌≢◌, true, ◌||◌}
+use Rattle.std.specs.Prelude.{ℕ, ◌≡◌, ◌≢◌, true, List}
+use Rattle.std.specs.Prelude.{◌≡◌, true, false, []}
 use Rattle.fol_model.specs.declared.places.ChunkPos.{ChunkPos}
-use Rattle.fol_model.specs.Geometry.{same_chunk}
 use Rattle.fol_chunks.specs.Contents.{is_recorded}
 use Rattle.fol_chunks.specs.Order.{chunk_cmp}
+use Rattle.fol_model.specs.Geometry.{same_chunk}
 use Rattle.fol_store.specs.Bag.{Bag, no_bag}
 
 -- the bag is listed for the chunks that pass, in their order, or has to be gathered anew; one that was taken out keeps its chunks, and
@@ -38,11 +46,6 @@ pub record United («from» into new : Bag) : Type 0 where
 -- the bag is where it was and has the same numbers
 abbrev pub Stays : Bag → Bag → Type 0
 Stays old new = new ≡ record old { listed = new.listed; calm = new.calm; chunks = new.chunks }
-
--- the chunks of two lists, in their order
-pub record IsUnion (xs ys zs : List ChunkPos) : Type 0 where
-  pub order : IsStrictlySortedBy chunk_cmp zs
-  pub has : (q : ChunkPos) → is_recorded zs q ≡ (is_recorded xs q || is_recorded ys q)
 
 -- the bag of a region that joins another one is closed; where both were listed, the other may be listed for the chunks of both
 pub record Joined («from» into : ℕ) (old new : ℕ → Bag) : Type 0 where

@@ -1,22 +1,23 @@
 -- What holds of a store at all times.
-use Rattle.std.specs.Prelude.{ℕ, ◌≡◌, ◌<◌, Bool, true, false, ◌||◌, ◌&&◌, [], length, Some, All}
+use Rattle.std.specs.Prelude.{◌≡◌, Some}
+use Rattle.std.specs.Prelude.{ℕ, ◌≡◌, true}
+use Rattle.std.specs.Prelude.{ℕ, ◌≡◌, true, false, ◌||◌, ◌&&◌, [], Some}
+use Rattle.std.specs.Prelude.{ℕ, ◌≡◌, ◌<◌, length, Some, All}
 use Rattle.fol_model.specs.declared.places.ChunkPos.{ChunkPos}
 use Rattle.fol_chunks.specs.Contents.{is_recorded}
 use Rattle.fol_queues.specs.Distinct.{Distinct}
 use Rattle.fol_data.specs.Rests.{IsInTime}
-use Rattle.fol_store.specs.declared.slot.Slot.{Slot}
-use Rattle.fol_store.specs.declared.places.Place.{Place}
-use Rattle.fol_store.specs.Things.{Key, Thing, chunk_at, IsTimely}
-use Rattle.fol_store.specs.Stock.{Stock, Where, arriving, in_spot, in_bag, slot, spot, place, column}
+use Rattle.fol_bags.specs.declared.places.Place.{Place}
+use Rattle.fol_store.specs.Stock.{Where, arriving, in_spot, in_bag, spot, place, Stock, column, slot}
+use Rattle.fol_bags.specs.declared.slot.Slot.{Slot}
+use Rattle.fol_bags.specs.Slots.{is_open}
+use Rattle.fol_bags.specs.Things.{Key, Thing, chunk_at, IsTimely}
 
 -- things of a chunk with this place may lie there
 abbrev pub Allows : Place → Where → Type 0
 Allows p arriving = Unit {0}
 Allows p (in_spot i) = p.spot ≡ Some i
 Allows p (in_bag id) = p.bag ≡ Some id
-
-abbrev pub is_open : Slot → Bool
-is_open b = b.here || b.taken
 
 -- where a thing on a chunk of a listed bag may lie
 abbrev pub Near : ℕ → Slot → ChunkPos → Where → Type 0

@@ -3,7 +3,7 @@ use Rattle.std.specs.Prelude.{ℕ, ◌≡◌, ◌≢◌, ◌≤◌, true, false,
 use Rattle.fol_model.specs.declared.places.ChunkPos.{ChunkPos}
 use Rattle.fol_model.specs.Geometry.{same_chunk}
 use Rattle.fol_chunks.specs.Contents.{is_recorded}
-use Rattle.fol_store.specs.Things.{Key, Thing, chunk_at}
+use Rattle.fol_bags.specs.Things.{Key, Thing, chunk_at}
 use Rattle.fol_store.specs.Stock.{Stock, Where, in_bag, slot, place, column, found, flat_of, jobs_of, bag_of, next_of}
 use Rattle.fol_store.specs.Gathered.{OthersSpared, AreFree, IsClear}
 

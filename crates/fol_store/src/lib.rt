@@ -1,9 +1,9 @@
 //! Where tasks, blocks and entities lie while no worker has them.
 //!
 //! A `Store` stands for one flat world, one map of queued tasks with their rests, and the bag of each region with the region's
-//! counters. What lies in it is kept in parts: a bag for each region, and a spot for each chunk. A task that is accepted goes
-//! into the bag that has its chunk, or waits in a list of its own. Moving things between the parts changes nothing of what the
-//! store stands for, so running out of memory in the middle of a gathering does no harm.
+//! counters. What lies in it is kept in parts: a bag for each region and a spot for each chunk, which `fol_bags` has, and a list of the
+//! tasks that came and wait. Moving things between the parts changes nothing of what the store stands for, so running out of memory in
+//! the middle of a gathering does no harm.
 //!
 //! The crate promises that `accept` queues exactly the task, that `gather` makes a bag hold exactly what lies on its chunks and
 //! loses nothing elsewhere, that `gain`, `lose`, `unite`, `hand_over` and `succeed` give a bag just the chunks that it has then, or
@@ -13,21 +13,10 @@
 //! `gain`, `lose`, `unite`, `hand_over`, `succeed` and `into_rows` take memory; `accept` takes some where there is. It serves the core.
 #![tactic(auto)]
 
-mod bags;
-mod kept;
-mod members;
-mod places;
-mod recalled;
 mod rows;
-mod shift;
-mod slot;
-mod slots;
 mod sorting;
-mod spots;
 mod store;
-mod taken;
-mod waiting;
 
+pub use fol_bags::Taken;
 pub use rows::Rows;
 pub use store::Store;
-pub use taken::Taken;

@@ -3,12 +3,11 @@
 ghost use Rattle.std.specs.Prelude.{◌≡◌, ◌≤◌, ◌++◌, map, IfOk, OnOk, All};
 ghost use Rattle.std.specs.List.{flat_map};
 ghost use Rattle.fol_data.specs.Rests.{IsInTime};
-ghost use Rattle.fol_store.specs.Things.{IsTimely};
+ghost use Rattle.fol_bags.specs.Things.{IsTimely};
 ghost use Rattle.fol_store.specs.TaskRows.{row_of};
 ghost use Rattle.fol_store.specs.Lists.{blocks_of, entities_of, tasks_of, IsListed};
 
-use crate::bags::Bags;
-use crate::kept::Kept;
+use fol_bags::{Bags, Kept};
 use fol_data::RegionData;
 use fol_model::{BlockAt, Entity, TaskRow};
 use fol_queues::Dated;

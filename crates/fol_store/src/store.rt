@@ -29,9 +29,8 @@ mod quiet;
 mod settle;
 mod unite;
 
-use crate::bags::Bags;
-use crate::places::Places;
-use crate::{Rows, Taken, rows, slots, sorting};
+use crate::{Rows, rows, sorting};
+use fol_bags::{Bags, Places, Taken, slots};
 use fol_data::RegionData;
 use fol_model::{ChunkPos, Opening};
 use fol_queues::Dated;

@@ -8,8 +8,8 @@ ghost use Rattle.fol_model.specs.declared.places.ChunkPos.{ChunkPos};
 ghost use Rattle.fol_store.specs.Bag.{Stirred, disturbed};
 ghost use Rattle.fol_store.specs.Steps.{Roomier, TakesTask};
 
-use crate::slots;
 use crate::store::Store;
+use fol_bags::slots;
 use fol_model::{ChunkPos, Task};
 use fol_queues::Dated;
 

@@ -6,9 +6,8 @@ ghost use Rattle.fol_model.specs.declared.places.ChunkPos.{ChunkPos};
 ghost use Rattle.fol_chunks.specs.Contents.{is_recorded};
 ghost use Rattle.fol_store.specs.Gathered.{Touched};
 
-use crate::places::has_bag;
-use crate::slots;
 use crate::store::Store;
+use fol_bags::{has_bag, slots};
 use fol_model::ChunkPos;
 use std::alloc::AllocError;
 

@@ -6,14 +6,13 @@ ghost use Rattle.std.specs.List.Sorted.{IsStrictlySortedBy};
 ghost use Rattle.fol_model.specs.ActionStep.{at_id};
 ghost use Rattle.fol_chunks.specs.Contents.{is_recorded, size_within};
 ghost use Rattle.fol_chunks.specs.Order.{chunk_cmp};
-ghost use Rattle.fol_store.specs.Places.{place_at};
-ghost use Rattle.fol_store.specs.Things.{Key, things};
-ghost use Rattle.fol_store.specs.Clear.{HasNoTask, IsClearOf};
+ghost use Rattle.fol_bags.specs.Places.{place_at};
+ghost use Rattle.fol_bags.specs.Things.{Key, things};
+ghost use Rattle.fol_bags.specs.Clear.{HasNoTask, IsClearOf};
 ghost use Rattle.fol_store.specs.Relisted.{IsInOrder, Narrowed, Widened};
 
-use crate::places::{Place, has_bag};
 use crate::store::Store;
-use crate::{slots, spots};
+use fol_bags::{Place, has_bag, slots, spots};
 use fol_model::ChunkPos;
 use std::alloc::AllocError;
 

@@ -5,8 +5,8 @@ ghost use Rattle.fol_model.specs.ActionStep.{at_id};
 ghost use Rattle.fol_model.specs.declared.places.ChunkPos.{ChunkPos};
 ghost use Rattle.fol_store.specs.Bag.{no_bag};
 
-use crate::slots;
 use crate::store::Store;
+use fol_bags::slots;
 
 impl Store {
     ghost use Rattle.fol_store.specs.Stock.{Stock, flat_of, jobs_of, bag_of, next_of};

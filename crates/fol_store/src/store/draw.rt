@@ -5,11 +5,10 @@ ghost use Rattle.std.specs.List.Sorted.{IsStrictlySortedBy};
 ghost use Rattle.fol_model.specs.declared.places.ChunkPos.{ChunkPos};
 ghost use Rattle.fol_chunks.specs.Contents.{is_recorded};
 ghost use Rattle.fol_chunks.specs.Order.{chunk_cmp};
-ghost use Rattle.fol_store.specs.Places.{place_at};
+ghost use Rattle.fol_bags.specs.Places.{place_at};
 
-use crate::places::Place;
 use crate::store::Store;
-use crate::{slots, spots};
+use fol_bags::{Place, slots, spots};
 use fol_model::ChunkPos;
 use std::alloc::AllocError;
 

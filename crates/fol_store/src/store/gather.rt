@@ -9,8 +9,8 @@ ghost use Rattle.fol_chunks.specs.Contents.{is_recorded};
 ghost use Rattle.fol_chunks.specs.Order.{chunk_cmp};
 ghost use Rattle.fol_store.specs.Gathered.{AreFree, OthersSpared, Touched};
 
-use crate::slots;
 use crate::store::Store;
+use fol_bags::slots;
 use fol_model::ChunkPos;
 use std::alloc::AllocError;
 

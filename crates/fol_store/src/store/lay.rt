@@ -11,12 +11,10 @@ ghost use Rattle.fol_model.specs.World.{start, block_in, standing_in};
 ghost use Rattle.fol_model.specs.ActionStep.{standing_of};
 ghost use Rattle.fol_model.specs.OpeningParts.{is_block_at};
 ghost use Rattle.fol_store.specs.Bag.{no_bag};
-ghost use Rattle.fol_store.specs.Things.{of_block, of_entity, of_task, some_number};
+ghost use Rattle.fol_bags.specs.Things.{of_block, of_entity, of_task, some_number};
 
-use crate::bags::Bags;
-use crate::places::Places;
-use crate::spots;
 use crate::store::Store;
+use fol_bags::{Bags, Places, spots};
 use fol_model::{BlockAt, BlockPos, Entity, Opening, chunk_of};
 use std::alloc::{AllocError, Global};
 

@@ -8,10 +8,8 @@ ghost use Rattle.fol_chunks.specs.Order.{chunk_cmp};
 ghost use Rattle.fol_store.specs.Bag.{no_bag};
 ghost use Rattle.fol_store.specs.Relisted.{IsUngathered, Receives, Stays};
 
-use crate::places::{Place, has_bag};
-use crate::slots;
-use crate::slots::Listing;
 use crate::store::Store;
+use fol_bags::{Listing, Place, has_bag, slots};
 use fol_keyed::ChunkList;
 use fol_model::ChunkPos;
 use std::alloc::AllocError;

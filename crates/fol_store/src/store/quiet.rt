@@ -1,17 +1,15 @@
 //! Ticks of a region in which nothing is due.
 
-ghost use Rattle.std.specs.Prelude.{◌≡◌, ◌+◌, ◌-◌, ◌<◌, ◌≤◌, ◌^◌, true, ℕ, nat_eq, if◌then◌else◌, length, IsTrue};
+ghost use Rattle.std.specs.Prelude.{◌≡◌, ◌+◌, ◌-◌, ◌<◌, ◌≤◌, ◌^◌, true, ℕ, IsTrue};
 ghost use Rattle.std.specs.Option.{ForSome};
 ghost use Rattle.fol_model.specs.ActionStep.{Recorded, at_id};
 ghost use Rattle.fol_model.specs.FlatTick.{moved};
 ghost use Rattle.fol_chunks.specs.Contents.{within, is_recorded};
 ghost use Rattle.fol_store.specs.Bag.{is_whole};
 ghost use Rattle.fol_store.specs.Passing.{nearer};
-ghost use Rattle.fol_store.specs.Slots.{slot_in};
-ghost use Rattle.fol_store.specs.Sound.{is_open};
 
-use crate::bags::Bags;
 use crate::store::Store;
+use fol_bags::slots;
 
 impl Store {
     ghost use Rattle.fol_store.specs.Stock.{Stock, flat_of, jobs_of, bag_of, next_of, due_of};
@@ -59,26 +57,6 @@ impl Store {
         ensures spare { self.new.spare ≡ self.old.spare }
         ensures slots { self.new.slots ≡ self.old.slots }
     {
-        count_tick(&mut self.bags, id as usize);
+        slots::count_tick(&mut self.bags, id as usize);
     }
-}
-
-/// Counts a tick of a region, which owes one less.
-fn count_tick(bags: &mut Bags, id: usize)
-    requires open { is_open (slot_in bags.old.items id) ≡ true }
-    requires owes { 0 < (slot_in bags.old.items id).body.owed }
-    requires early { (slot_in bags.old.items id).body.tick < 2 ^ 62 }
-    ensures slots { (u : ℕ) → slot_in bags.new.items u
-        ≡ (if nat_eq id u then record (slot_in bags.old.items id) {
-          body = record (slot_in bags.old.items id).body {
-            tick = (slot_in bags.old.items id).body.tick + 1;
-            owed = (slot_in bags.old.items id).body.owed - 1;
-          };
-        } else slot_in bags.old.items u) }
-    ensures len { length bags.new.items ≡ length bags.old.items }
-    ensures free { bags.new.free ≡ bags.old.free }
-{
-    let slot = bags.slot_mut(id);
-    slot.body.tick += 1;
-    slot.body.owed -= 1;
 }

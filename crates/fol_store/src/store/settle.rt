@@ -6,11 +6,10 @@ ghost use Rattle.fol_model.specs.declared.places.ChunkPos.{ChunkPos};
 ghost use Rattle.fol_queues.specs.declared.dated.Dated.{Dated};
 ghost use Rattle.fol_chunks.specs.Contents.{is_recorded};
 ghost use Rattle.fol_chunks.specs.Order.{chunk_cmp};
-ghost use Rattle.fol_store.specs.Places.{place_at};
+ghost use Rattle.fol_bags.specs.Places.{place_at};
 
-use crate::places::{Place, has_bag};
 use crate::store::Store;
-use crate::{slots, spots};
+use fol_bags::{Place, has_bag, slots, spots};
 use fol_keyed::ChunkList;
 use fol_model::ChunkPos;
 use std::alloc::AllocError;

@@ -2,10 +2,11 @@
 
 ghost use Rattle.std.specs.Prelude.{◌≡◌, ◌≢◌, ◌≤◌, true, false, ℕ, IfOk, OnOk};
 ghost use Rattle.fol_store.specs.Bag.{no_bag, is_whole};
-ghost use Rattle.fol_store.specs.Relisted.{IsInOrder, IsUnion, Joined, Stays, United};
+ghost use Rattle.fol_store.specs.Relisted.{IsInOrder, Joined, Stays, United};
+ghost use Rattle.fol_bags.specs.Members.{IsUnion};
 
 use crate::store::Store;
-use crate::{members, slots};
+use fol_bags::{members, slots};
 use fol_model::ChunkPos;
 use std::alloc::AllocError;
 

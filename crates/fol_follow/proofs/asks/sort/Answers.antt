@@ -4,7 +4,7 @@ use Rattle.std.specs.Cmp.{nat_cmp_total}
 use Rattle.std.proofs.lemmas.Bool.{eqb-true}
 use Rattle.fol_keyed.proofs.Places.{nat_cmp_tells}
 use Rattle.fol_keyed.proofs.Keyed.{differ_permuted}
-use Rattle.fol_store.proofs.Ordered.{strict_by_key}
+use Rattle.fol_bags.proofs.Ordered.{strict_by_key}
 use Rattle.fol_follow.specs.declared.entries.Visit.{Visit}
 use Rattle.fol_follow.proofs.Numbers.{nat_self}
 use Rattle.fol_follow.proofs.asks.sort.Goals as goal

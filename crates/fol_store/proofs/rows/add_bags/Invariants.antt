@@ -1,7 +1,7 @@
 use Rattle.std.proofs.Common.{◌≡◌, ◌++◌}
 use Rattle.std.specs.Prelude.{All}
 use Rattle.std.specs.List.{flat_map}
-use Rattle.fol_store.specs.declared.slot.Slot.{Slot}
+use Rattle.fol_bags.specs.declared.slot.Slot.{Slot}
 use Rattle.fol_store.specs.Lists.{blocks_of, entities_of, tasks_of, IsListed}
 use Rattle.fol_store.proofs.rows.add_bags.Given as goal
 

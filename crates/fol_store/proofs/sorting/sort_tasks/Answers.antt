@@ -6,7 +6,7 @@ use Rattle.fol_model.specs.declared.closings.TaskRow.{TaskRow}
 use Rattle.fol_keyed.proofs.Places.{nat_cmp_tells}
 use Rattle.fol_keyed.proofs.Keyed.{differ_permuted}
 use Rattle.fol_queues.proofs.Numbers.{nat_self}
-use Rattle.fol_store.proofs.Ordered.{strict_by_key}
+use Rattle.fol_bags.proofs.Ordered.{strict_by_key}
 use Rattle.fol_store.proofs.sorting.sort_tasks.Goals as goal
 
 pub returns-clause-order : goal.returns-clause-order

@@ -6,12 +6,12 @@ use Rattle.fol_model.specs.Geometry.{same_chunk}
 use Rattle.fol_chunks.specs.Contents.{is_recorded}
 use Rattle.fol_chunks.specs.Order.{chunk_cmp}
 use Rattle.fol_store.specs.contracts.store.Store.{the_view}
-use Rattle.fol_store.specs.declared.slot.Slot.{Slot}
-use Rattle.fol_store.specs.Slots.{slot_in}
-use Rattle.fol_store.specs.declared.places.Place.{Place}
-use Rattle.fol_store.specs.Things.{Key, things}
+use Rattle.fol_bags.specs.declared.slot.Slot.{Slot}
+use Rattle.fol_bags.specs.Slots.{slot_in}
+use Rattle.fol_bags.specs.declared.places.Place.{Place}
+use Rattle.fol_bags.specs.Things.{Key, things}
 use Rattle.fol_store.specs.Stock.{slot, spot, bag_of, place}
-use Rattle.fol_store.proofs.BagSteps.{here_range, here_open, first_open}
+use Rattle.fol_bags.proofs.OpenBags.{here_range, here_open, first_open}
 use Rattle.fol_store.proofs.Coming.{Followed, came, expects, unlisted, set_twice, wider}
 use Rattle.fol_store.proofs.Drawing.{with_parts}
 use Rattle.fol_store.proofs.Stepping.{listed_here}

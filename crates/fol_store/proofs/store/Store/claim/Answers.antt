@@ -1,14 +1,14 @@
 use Rattle.std.proofs.Common.{◌≡◌, ◌<◌, true, length, refl, ◌∙◌, ap, inl, inr}
 use Rattle.fol_keyed.proofs.Places.{same_chunk-self}
 use Rattle.fol_store.specs.contracts.store.Store.{the_view}
-use Rattle.fol_store.specs.declared.places.Place.{Place}
+use Rattle.fol_bags.specs.declared.places.Place.{Place}
 use Rattle.fol_store.specs.Stock.{slot, place}
 use Rattle.fol_store.specs.Steps.{IsTarget}
-use Rattle.fol_store.proofs.BagSteps.{here_range}
+use Rattle.fol_bags.proofs.OpenBags.{here_range}
 use Rattle.fol_store.proofs.Drawing.{Drawn}
 use Rattle.fol_store.proofs.Stepping.{with_places, same_places, claimed, target_here, target_listed}
 use Rattle.fol_store.proofs.store.Store.claim.Goals as goal
-use Rattle.fol_store.proofs.PlaceSteps.{answer_cases}
+use Rattle.fol_bags.proofs.Answers.{answer_cases}
 
 step : (c : goal.After-set) → Drawn c.args.id c.args.chunks.now (the_view c.self.inside) (with_places (the_view c.self.inside) c.set.new.self)
 step c =

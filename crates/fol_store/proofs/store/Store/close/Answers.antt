@@ -1,11 +1,12 @@
 use Rattle.std.proofs.Common.{◌≡◌, ◌-◌, true, length, refl, sym, ◌∙◌, ap, arith, vec_len}
 use Rattle.std.specs.Vec.{vec_capacity}
 use Rattle.fol_store.specs.contracts.store.Store.{the_view}
-use Rattle.fol_store.specs.declared.slot.Slot.{Slot}
+use Rattle.fol_bags.specs.declared.slot.Slot.{Slot}
 use Rattle.fol_store.specs.Bag.{Bag, no_bag}
-use Rattle.fol_store.specs.Stock.{Stock, slot, no_slot}
-use Rattle.fol_store.proofs.BagSteps.{OneStep, with_bags, one_step, closed_bag, here_open, bag_slot}
-use Rattle.fol_store.specs.Slots.{slot_in}
+use Rattle.fol_store.specs.Stock.{Stock, slot}
+use Rattle.fol_bags.specs.Slots.{no_slot, slot_in}
+use Rattle.fol_store.proofs.BagSteps.{OneStep, with_bags, one_step, closed_bag, bag_slot}
+use Rattle.fol_bags.proofs.OpenBags.{here_open}
 use Rattle.fol_store.proofs.store.Store.close.Goals as goal
 
 pub close-requires : goal.close-requires

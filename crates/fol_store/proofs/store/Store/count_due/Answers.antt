@@ -1,11 +1,12 @@
 use Rattle.std.proofs.Common.{◌≡◌, ◌≤◌, ◌+◌, ◌^◌, true, sym, ◌∙◌, ap, arith}
 use Rattle.fol_queues.specs.Waiting.{due_count}
 use Rattle.fol_store.specs.contracts.store.Store.{the_view}
-use Rattle.fol_store.specs.declared.slot.Slot.{Slot}
+use Rattle.fol_bags.specs.declared.slot.Slot.{Slot}
 use Rattle.fol_store.specs.Bag.{Bag}
 use Rattle.fol_store.specs.Stock.{slot, due_of}
-use Rattle.fol_store.specs.Things.{IsTimely}
-use Rattle.fol_store.proofs.BagSteps.{here_open, bag_slot}
+use Rattle.fol_bags.specs.Things.{IsTimely}
+use Rattle.fol_bags.proofs.OpenBags.{here_open}
+use Rattle.fol_store.proofs.BagSteps.{bag_slot}
 use Rattle.fol_store.proofs.store.Store.count_due.Goals as goal
 
 pub slot-slot-requires : goal.slot-slot-requires

@@ -3,7 +3,7 @@ use Rattle.std.specs.Prelude.{All}
 use Rattle.std.specs.Vec.{vec_capacity}
 use Rattle.fol_data.specs.Rests.{IsInTime}
 use Rattle.fol_store.specs.contracts.store.Store.{the_view}
-use Rattle.fol_store.specs.Slots.{slot_in}
+use Rattle.fol_bags.specs.Slots.{slot_in}
 use Rattle.fol_store.specs.Stock.{Stock, in_bag, place}
 use Rattle.fol_store.specs.Steps.{TakesTask}
 use Rattle.fol_store.proofs.Arriving.{Changed, all_before, nowhere_else}

@@ -1,5 +1,5 @@
 use Rattle.std.proofs.Common.{◌∙◌, ap}
-use Rattle.fol_store.specs.Places.{PlaceRows, place_at}
+use Rattle.fol_bags.specs.Places.{PlaceRows, place_at}
 use Rattle.fol_store.proofs.Stepping.{draws_trans}
 use Rattle.fol_store.proofs.store.Store.draw_bag.Goals as goal
 

@@ -1,8 +1,8 @@
 use Rattle.std.proofs.Common.{◌≡◌, true, sym, ◌∙◌}
 use Rattle.fol_store.specs.contracts.store.Store.{the_view}
-use Rattle.fol_store.specs.Places.{is_bag}
+use Rattle.fol_bags.specs.Places.{is_bag}
 use Rattle.fol_store.specs.Stock.{place}
-use Rattle.fol_store.proofs.Accepting.{bag-from_is}
+use Rattle.fol_bags.proofs.PlaceSteps.{bag-from_is}
 use Rattle.fol_store.proofs.store.Store.draw_known.Goals as goal
 
 pub draw_rest-requires-clause-home : goal.draw_rest-requires-clause-home

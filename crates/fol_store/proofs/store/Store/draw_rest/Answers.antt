@@ -1,6 +1,6 @@
 use Rattle.std.proofs.Common.{◌≡◌, sym, ◌∙◌, ap, Some, None}
 use Rattle.fol_store.specs.contracts.store.Store.{the_view}
-use Rattle.fol_store.specs.declared.places.Place.{Place}
+use Rattle.fol_bags.specs.declared.places.Place.{Place}
 use Rattle.fol_store.specs.Stock.{place, bag_of}
 use Rattle.fol_store.specs.Steps.{IsTarget}
 use Rattle.fol_store.proofs.Stepping.{gathered_home}

@@ -4,17 +4,17 @@ use Rattle.fol_model.specs.declared.places.ChunkPos.{ChunkPos}
 use Rattle.std.specs.List.Sorted.{IsStrictlySortedBy}
 use Rattle.fol_store.specs.Bag.{Bag}
 use Rattle.fol_store.specs.contracts.store.Store.{the_view}
-use Rattle.fol_store.specs.Slots.{slot_in, spot_in}
+use Rattle.fol_bags.specs.Slots.{slot_in, spot_in}
 use Rattle.fol_store.specs.Stock.{Stock, slot, in_bag, in_spot, bag_of}
 use Rattle.fol_store.specs.Steps.{IsTarget, IsGathered}
 use Rattle.fol_store.proofs.Drawing.{Drawn, with_parts, loses_none, gains_none}
 use Rattle.fol_store.proofs.Spotting.{Spotted, OnePair, from_spot, keeps_gathered, gathers}
-use Rattle.fol_store.proofs.Homes.{single-is, single-self}
+use Rattle.fol_bags.proofs.Recorded.{single-is, single-self}
 use Rattle.fol_store.proofs.Stepping.{target_here, here_not_taken, others_same}
-use Rattle.fol_store.proofs.BagSteps.{here_open}
+use Rattle.fol_bags.proofs.OpenBags.{here_open}
 use Rattle.fol_store.proofs.store.Store.draw_spot.Goals as goal
-use Rattle.fol_store.proofs.PlaceSteps.{answer_cases}
-use Rattle.fol_store.specs.Moves.{Loses, Gains, SameThings}
+use Rattle.fol_bags.proofs.Answers.{answer_cases}
+use Rattle.fol_bags.specs.Moves.{Loses, Gains, SameThings}
 
 pub shift_to_bag-requires-clause-order : goal.shift_to_bag-requires-clause-order
 unfolding IsStrictlySortedBy

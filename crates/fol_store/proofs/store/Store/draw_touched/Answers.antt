@@ -2,11 +2,12 @@ use Rattle.std.proofs.Common.{◌≡◌, get_or, ◌∙◌, ap, subst, inl, inr,
 use Rattle.std.proofs.lemmas.Bool.{cases_Bool, cases_eq}
 use Rattle.fol_model.specs.declared.places.ChunkPos.{ChunkPos}
 use Rattle.fol_chunks.specs.Contents.{is_recorded}
-use Rattle.fol_store.specs.Places.{PlaceRows, place_at}
+use Rattle.fol_bags.specs.Places.{PlaceRows, place_at}
 use Rattle.fol_store.specs.Stock.{place, bag_of}
 use Rattle.fol_store.specs.Steps.{IsGathered}
-use Rattle.fol_store.proofs.BagSteps.{get_or-any}
-use Rattle.fol_store.proofs.Stepping.{target_own, draws_own, recorded_index}
+use Rattle.fol_bags.proofs.OpenBags.{get_or-any}
+use Rattle.fol_store.proofs.Stepping.{target_own, draws_own}
+use Rattle.fol_bags.proofs.Recorded.{recorded_index}
 use Rattle.fol_store.proofs.store.Store.draw_touched.Goals as goal
 
 pub draw_known-requires : goal.draw_known-requires

@@ -1,11 +1,12 @@
 use Rattle.std.proofs.Common.{◌≡◌, ◌-◌, true, false, [], refl, sym, ◌∙◌, ap, arith, vec_len, Some, None}
 use Rattle.std.specs.Vec.{vec_capacity}
 use Rattle.fol_store.specs.contracts.store.Store.{the_view}
-use Rattle.fol_store.specs.declared.places.Place.{Place}
+use Rattle.fol_bags.specs.declared.places.Place.{Place}
 use Rattle.fol_store.specs.Bag.{Bag}
-use Rattle.fol_store.specs.Slots.{slot_in, spot_in}
+use Rattle.fol_bags.specs.Slots.{slot_in, spot_in}
 use Rattle.fol_store.specs.Stock.{slot, in_bag, in_spot, bag_of}
-use Rattle.fol_store.proofs.BagSteps.{bag_slot, here_open}
+use Rattle.fol_store.proofs.BagSteps.{bag_slot}
+use Rattle.fol_bags.proofs.OpenBags.{here_open}
 use Rattle.std.specs.List.Sorted.{IsStrictlySortedBy}
 use Rattle.fol_keyed.proofs.Places.{same_chunk-self}
 use Rattle.fol_store.proofs.Drawing.{with_parts, loses_none, gains_none}

@@ -6,15 +6,15 @@ use Rattle.fol_chunks.specs.Contents.{is_recorded}
 use Rattle.fol_chunks.specs.Order.{chunk_cmp}
 use Rattle.fol_queues.proofs.Numbers.{nat_self}
 use Rattle.fol_store.specs.contracts.store.Store.{the_view}
-use Rattle.fol_store.specs.declared.slot.Slot.{Slot}
-use Rattle.fol_store.specs.Slots.{slot_in}
+use Rattle.fol_bags.specs.declared.slot.Slot.{Slot}
+use Rattle.fol_bags.specs.Slots.{slot_in}
 use Rattle.fol_store.specs.Stock.{Stock, slot, bag_of}
 use Rattle.fol_store.proofs.Coming.{Followed}
 use Rattle.fol_store.proofs.Drawing.{with_parts}
 use Rattle.fol_store.proofs.Leaving.{narrower}
 use Rattle.fol_store.proofs.LeavingBare.{left_bare}
 use Rattle.fol_store.proofs.Stepping.{listed_here}
-use Rattle.fol_store.proofs.BagSteps.{here_open}
+use Rattle.fol_bags.proofs.OpenBags.{here_open}
 use Rattle.fol_store.proofs.store.Store.expel_bare.Goals as goal
 
 pub dismiss-requires-clause-open : goal.dismiss-requires-clause-open

@@ -7,8 +7,8 @@ use Rattle.fol_chunks.specs.Contents.{is_recorded}
 use Rattle.fol_chunks.specs.Order.{chunk_cmp}
 use Rattle.fol_queues.proofs.Numbers.{nat_self}
 use Rattle.fol_store.specs.contracts.store.Store.{the_view}
-use Rattle.fol_store.specs.declared.slot.Slot.{Slot}
-use Rattle.fol_store.specs.Slots.{slot_in, spot_in}
+use Rattle.fol_bags.specs.declared.slot.Slot.{Slot}
+use Rattle.fol_bags.specs.Slots.{slot_in, spot_in}
 use Rattle.fol_store.specs.Stock.{Stock, slot, in_bag, in_spot, bag_of}
 use Rattle.fol_store.proofs.Coming.{Followed, set_twice}
 use Rattle.fol_store.proofs.Drawing.{with_parts, loses_none, gains_none}
@@ -16,7 +16,7 @@ use Rattle.fol_store.proofs.Leaving.{left_one, narrower}
 use Rattle.fol_store.proofs.NoTask.{none_in_part}
 use Rattle.fol_store.proofs.Spotting.{Spotted, from_spot}
 use Rattle.fol_store.proofs.Stepping.{here_not_taken, listed_here}
-use Rattle.fol_store.proofs.BagSteps.{here_open, first_open}
+use Rattle.fol_bags.proofs.OpenBags.{here_open, first_open}
 use Rattle.fol_store.proofs.store.Store.expel_to.Goals as goal
 
 pub shift_contents_from_bag-requires-clause-bag_open : goal.shift_contents_from_bag-requires-clause-bag_open

@@ -6,7 +6,8 @@ use Rattle.fol_store.specs.contracts.store.Store.{the_view}
 use Rattle.fol_store.specs.Bag.{Bag}
 use Rattle.fol_store.specs.Stock.{slot, bag_of}
 use Rattle.fol_store.specs.Steps.{IsGathered}
-use Rattle.fol_store.proofs.BagSteps.{with_bags, here_open, bag_slot}
+use Rattle.fol_store.proofs.BagSteps.{with_bags, bag_slot}
+use Rattle.fol_bags.proofs.OpenBags.{here_open}
 use Rattle.fol_store.proofs.Settling.{Settled, now_whole}
 use Rattle.fol_store.proofs.store.Store.finish.Goals as goal
 

@@ -3,10 +3,10 @@ use Rattle.std.proofs.lemmas.Bool.{and_parts}
 use Rattle.fol_model.specs.Geometry.{same_chunk}
 use Rattle.fol_chunks.specs.Contents.{is_recorded}
 use Rattle.fol_store.specs.contracts.store.Store.{the_view}
-use Rattle.fol_store.specs.Places.{is_bag}
+use Rattle.fol_bags.specs.Places.{is_bag}
 use Rattle.fol_store.specs.Stock.{slot, place, bag_of, next_of}
 use Rattle.fol_store.proofs.Filling.{own_at}
-use Rattle.fol_store.proofs.OneMore.{recorded_there}
+use Rattle.fol_bags.proofs.OneMore.{recorded_there}
 use Rattle.fol_store.proofs.Relisting.{has_chunk, more_elsewhere, noted_bag, same_chunks}
 use Rattle.fol_store.proofs.Totals.{same_flat, same_jobs}
 use Rattle.fol_store.proofs.store.Store.gain.Goals as goal

@@ -1,8 +1,8 @@
 use Rattle.std.proofs.Common.{◌≡◌, ◌-◌, [], ◌∷◌, length, sym, ◌∙◌, ap, subst, arith, vec_len, Some}
 use Rattle.std.specs.Vec.{vec_capacity}
 use Rattle.fol_store.specs.contracts.store.Store.{the_view}
-use Rattle.fol_store.specs.Slots.{spot_in}
-use Rattle.fol_store.specs.Things.{of_task}
+use Rattle.fol_bags.specs.Slots.{spot_in}
+use Rattle.fol_bags.specs.Things.{of_task}
 use Rattle.fol_store.specs.Stock.{Stock, place}
 use Rattle.fol_store.specs.Steps.{IsNoted}
 use Rattle.fol_store.proofs.Arriving.{Changed, spot_same, handed_out, nothing_there, all_before, twice_written}

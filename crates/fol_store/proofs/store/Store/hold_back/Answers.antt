@@ -3,7 +3,7 @@ use Rattle.std.specs.Vec.{vec_capacity}
 use Rattle.fol_queues.specs.declared.dated.Dated.{Dated}
 use Rattle.fol_data.specs.Rests.{IsInTime}
 use Rattle.fol_store.specs.contracts.store.Store.{the_view}
-use Rattle.fol_store.specs.Things.{of_task}
+use Rattle.fol_bags.specs.Things.{of_task}
 use Rattle.fol_store.specs.Stock.{found, next_of}
 use Rattle.fol_store.proofs.Accepting.{accepted, accepted_tasks, accepted_contents, accepted_bags, fresh_found}
 use Rattle.fol_store.proofs.store.Store.hold_back.Goals as goal

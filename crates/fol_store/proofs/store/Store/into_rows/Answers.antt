@@ -1,8 +1,8 @@
 use Rattle.std.proofs.Common.{subst}
-use Rattle.fol_store.specs.declared.slot.Slot.{Slot}
-use Rattle.fol_store.specs.Stock.{no_slot}
-use Rattle.fol_store.specs.Things.{IsTimely}
-use Rattle.fol_store.proofs.BagSteps.{get_or-any}
+use Rattle.fol_bags.specs.declared.slot.Slot.{Slot}
+use Rattle.fol_bags.specs.Slots.{no_slot}
+use Rattle.fol_bags.specs.Things.{IsTimely}
+use Rattle.fol_bags.proofs.OpenBags.{get_or-any}
 use Rattle.fol_store.specs.contracts.store.Store.{the_view}
 use Rattle.fol_store.proofs.RowLists.{all_blocks_differ, all_entities_differ, all_tasks_differ, blocks_held, blocks_above, entities_held, tasks_held}
 use Rattle.fol_store.proofs.store.Store.into_rows.Goals as goal

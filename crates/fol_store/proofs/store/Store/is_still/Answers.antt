@@ -6,7 +6,8 @@ use Rattle.fol_chunks.specs.Contents.{flat_of as contents_of}
 use Rattle.fol_store.specs.contracts.store.Store.{the_view}
 use Rattle.fol_store.specs.Bag.{Bag}
 use Rattle.fol_store.specs.Stock.{slot, bag_of}
-use Rattle.fol_store.proofs.BagSteps.{here_open, bag_slot}
+use Rattle.fol_bags.proofs.OpenBags.{here_open}
+use Rattle.fol_store.proofs.BagSteps.{bag_slot}
 use Rattle.fol_store.proofs.WholeBag.{body_contents}
 use Rattle.fol_store.proofs.store.Store.is_still.Goals as goal
 

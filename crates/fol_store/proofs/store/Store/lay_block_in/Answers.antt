@@ -1,11 +1,11 @@
 use Rattle.std.proofs.Common.{inl, inr, arith}
 use Rattle.fol_store.specs.contracts.store.Store.{the_view}
-use Rattle.fol_store.specs.Slots.{spot_in}
-use Rattle.fol_store.proofs.PlaceSteps.{answer_cases, on_ok}
+use Rattle.fol_bags.specs.Slots.{spot_in}
+use Rattle.fol_bags.proofs.Answers.{answer_cases, on_ok}
 use Rattle.fol_store.proofs.Arriving.{spot_same}
 use Rattle.fol_store.proofs.LayingThings.{InSpot, BlockLaid, block_laid}
 use Rattle.fol_model.specs.Geometry.{chunk_of}
-use Rattle.fol_store.specs.Moves.{SameThings, LaysBlock}
+use Rattle.fol_bags.specs.Moves.{SameThings, LaysBlock}
 use Rattle.fol_store.proofs.store.Store.lay_block_in.Goals as goal
 
 in_spot : (c : goal.After-lay_block) → InSpot (the_view c.self.inside) c.lay_block.new.spots.items c.args.i (spot_in c.lay_block.new.spots.items c.args.i) (chunk_of c.args.at)

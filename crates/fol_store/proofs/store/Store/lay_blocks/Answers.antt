@@ -3,7 +3,7 @@ use Rattle.fol_model.specs.World.{block_in}
 use Rattle.fol_model.specs.declared.openings.BlockAt.{BlockAt}
 use Rattle.std.specs.Prelude.{List}
 use Rattle.fol_store.specs.Stock.{found}
-use Rattle.fol_store.specs.Things.{of_block, some_number}
+use Rattle.fol_bags.specs.Things.{of_block, some_number}
 use Rattle.fol_store.proofs.Baring.{all_closed}
 use Rattle.fol_store.proofs.LayingThings.{block_fresh, block_above, block_more, take_all}
 use Rattle.fol_store.proofs.store.Store.lay_blocks.Goals as goal

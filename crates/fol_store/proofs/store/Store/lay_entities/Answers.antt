@@ -3,7 +3,7 @@ use Rattle.fol_model.specs.World.{standing_in}
 use Rattle.fol_model.specs.declared.entities.Entity.{Entity}
 use Rattle.std.specs.Prelude.{List}
 use Rattle.fol_store.specs.Stock.{found}
-use Rattle.fol_store.specs.Things.{of_entity}
+use Rattle.fol_bags.specs.Things.{of_entity}
 use Rattle.fol_store.proofs.Baring.{all_closed}
 use Rattle.fol_store.proofs.LayingThings.{entity_fresh, entity_more, take_all}
 use Rattle.fol_store.proofs.store.Store.lay_entities.Goals as goal

@@ -1,7 +1,7 @@
 use Rattle.std.proofs.Common.{◌≡◌, ℕ, take}
 use Rattle.fol_model.specs.declared.places.BlockPos.{BlockPos}
 use Rattle.fol_model.specs.World.{standing_in}
-use Rattle.fol_store.specs.Things.{of_block, of_entity, of_task}
+use Rattle.fol_bags.specs.Things.{of_block, of_entity, of_task}
 use Rattle.fol_store.specs.Stock.{found}
 use Rattle.fol_store.proofs.store.Store.lay_entities.Given as goal
 

@@ -1,14 +1,14 @@
 use Rattle.std.proofs.Common.{◌≡◌, inl, inr, arith, None}
 use Rattle.fol_store.specs.contracts.store.Store.{the_view}
-use Rattle.fol_store.specs.Slots.{spot_in}
-use Rattle.fol_store.specs.Things.{of_entity}
+use Rattle.fol_bags.specs.Slots.{spot_in}
+use Rattle.fol_bags.specs.Things.{of_entity}
 use Rattle.fol_store.specs.Stock.{in_spot as spot_part, found}
 use Rattle.fol_store.proofs.Totals.{found_none}
-use Rattle.fol_store.proofs.PlaceSteps.{answer_cases, on_ok}
+use Rattle.fol_bags.proofs.Answers.{answer_cases, on_ok}
 use Rattle.fol_store.proofs.Arriving.{spot_same}
 use Rattle.fol_store.proofs.LayingThings.{InSpot, EntityLaid, entity_laid}
 use Rattle.fol_model.specs.Geometry.{chunk_of}
-use Rattle.fol_store.specs.Moves.{SameThings, LaysEntity}
+use Rattle.fol_bags.specs.Moves.{SameThings, LaysEntity}
 use Rattle.fol_store.proofs.store.Store.lay_entity_in.Goals as goal
 
 in_spot : (c : goal.After-lay_entity) → InSpot (the_view c.self.inside) c.lay_entity.new.spots.items c.args.i (spot_in c.lay_entity.new.spots.items c.args.i) (chunk_of c.args.e.at)

@@ -1,6 +1,6 @@
 use Rattle.std.proofs.Common.{◌≡◌, length, arith}
 use Rattle.fol_store.specs.contracts.store.Store.{the_view}
-use Rattle.fol_store.specs.Slots.{slot_in}
+use Rattle.fol_bags.specs.Slots.{slot_in}
 use Rattle.fol_store.proofs.Queuing.{same_sound, roomier}
 use Rattle.fol_store.proofs.store.Store.make_room.Goals as goal
 

@@ -2,11 +2,11 @@ use Rattle.std.proofs.Common.{◌-◌, true, false, List, ◌∙◌, ap, arith, 
 use Rattle.std.specs.Vec.{vec_capacity}
 use Rattle.fol_model.specs.declared.places.ChunkPos.{ChunkPos}
 use Rattle.fol_store.specs.contracts.store.Store.{the_view}
-use Rattle.fol_store.specs.declared.slot.Slot.{Slot}
-use Rattle.fol_store.specs.Places.{rehomed}
-use Rattle.fol_store.specs.Slots.{slot_in}
+use Rattle.fol_bags.specs.declared.slot.Slot.{Slot}
+use Rattle.fol_bags.specs.Places.{rehomed}
+use Rattle.fol_bags.specs.Slots.{slot_in}
 use Rattle.fol_store.specs.Stock.{slot, place}
-use Rattle.fol_store.proofs.BagSteps.{here_range, here_open, second_open}
+use Rattle.fol_bags.proofs.OpenBags.{here_range, here_open, second_open}
 use Rattle.fol_store.proofs.Drawing.{with_parts}
 use Rattle.fol_store.proofs.Parting.{Handed, a_pair, listed_over, same_numbers, shift_and_list, swap_gains, swap_loses}
 use Rattle.fol_store.proofs.store.Store.move_all.Goals as goal

@@ -2,11 +2,11 @@ use Rattle.std.proofs.Common.{◌≡◌, ◌-◌, true, false, List, refl, ◌�
 use Rattle.std.specs.Vec.{vec_capacity}
 use Rattle.fol_model.specs.declared.places.ChunkPos.{ChunkPos}
 use Rattle.fol_store.specs.contracts.store.Store.{the_view}
-use Rattle.fol_store.specs.declared.slot.Slot.{Slot}
-use Rattle.fol_store.specs.Places.{rehomed}
-use Rattle.fol_store.specs.Slots.{slot_in}
+use Rattle.fol_bags.specs.declared.slot.Slot.{Slot}
+use Rattle.fol_bags.specs.Places.{rehomed}
+use Rattle.fol_bags.specs.Slots.{slot_in}
 use Rattle.fol_store.specs.Stock.{slot, place, in_bag}
-use Rattle.fol_store.proofs.BagSteps.{here_range, here_open, second_open}
+use Rattle.fol_bags.proofs.OpenBags.{here_range, here_open, second_open}
 use Rattle.fol_store.proofs.Drawing.{with_parts, loses_none, gains_none}
 use Rattle.fol_store.proofs.Parting.{Handed, a_pair, left_over, listed_over, shift_and_list}
 use Rattle.fol_store.proofs.store.Store.move_some.Goals as goal

@@ -1,6 +1,6 @@
 use Rattle.std.proofs.Common.{◌≡◌, ◌<◌, [], length, refl, ◌∙◌, ap, inl, inr}
 use Rattle.fol_store.specs.contracts.store.Store.{the_view}
-use Rattle.fol_store.specs.declared.places.Place.{Place}
+use Rattle.fol_bags.specs.declared.places.Place.{Place}
 use Rattle.fol_store.specs.Stock.{Stock, place}
 use Rattle.fol_store.proofs.Arriving.{Changed, spot_named}
 use Rattle.fol_store.proofs.Stepping.{same_places}

@@ -1,5 +1,5 @@
 use Rattle.std.proofs.Common.{List, length, ◌∙◌, ap}
-use Rattle.fol_store.specs.declared.slot.Slot.{Slot}
+use Rattle.fol_bags.specs.declared.slot.Slot.{Slot}
 use Rattle.fol_store.specs.Stock.{next_of}
 use Rattle.fol_store.proofs.Baring.{laid_flat, no_jobs, all_closed, bags_closed}
 use Rattle.fol_store.proofs.store.Store.new.Goals as goal

@@ -4,11 +4,12 @@ use Rattle.std.proofs.lemmas.Bool.{and_parts}
 use Rattle.fol_model.specs.declared.places.ChunkPos.{ChunkPos}
 use Rattle.fol_chunks.specs.Contents.{is_recorded}
 use Rattle.fol_store.specs.contracts.store.Store.{the_view}
-use Rattle.fol_store.specs.Slots.{slot_in}
+use Rattle.fol_bags.specs.Slots.{slot_in}
 use Rattle.fol_store.specs.Stock.{slot, place}
 use Rattle.fol_store.proofs.BagSteps.{with_bags}
-use Rattle.fol_store.proofs.Noting.{marked_step, marked_is, recorded_front, recorded_last, unstirred_is}
-use Rattle.fol_store.proofs.PlaceSteps.{answer_cases, on_ok}
+use Rattle.fol_store.proofs.Noting.{marked_step, marked_is, unstirred_is}
+use Rattle.fol_bags.proofs.Recorded.{recorded_front, recorded_last}
+use Rattle.fol_bags.proofs.Answers.{answer_cases, on_ok}
 use Rattle.fol_store.proofs.Spotting.{Spotted}
 use Rattle.fol_store.proofs.store.Store.note_in.Goals as goal
 

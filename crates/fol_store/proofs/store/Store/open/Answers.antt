@@ -2,7 +2,7 @@ use Rattle.std.proofs.Common.{◌≡◌, ◌+◌, ◌-◌, length, arith, vec_le
 use Rattle.std.specs.Vec.{vec_capacity}
 use Rattle.fol_store.specs.contracts.store.Store.{the_view}
 use Rattle.fol_store.specs.Bag.{new_bag}
-use Rattle.fol_store.specs.Slots.{slot_in}
+use Rattle.fol_bags.specs.Slots.{slot_in}
 use Rattle.fol_store.specs.Stock.{Stock, next_of}
 use Rattle.fol_store.proofs.BagSteps.{with_bags}
 use Rattle.fol_store.proofs.Opening.{OpenStep, open_step}

@@ -3,10 +3,11 @@ use Rattle.std.specs.Vec.{vec_capacity}
 use Rattle.std.proofs.lemmas.Bool.{and_parts}
 use Rattle.fol_queues.specs.Waiting.{due_count}
 use Rattle.fol_store.specs.contracts.store.Store.{the_view}
-use Rattle.fol_store.specs.declared.slot.Slot.{Slot}
+use Rattle.fol_bags.specs.declared.slot.Slot.{Slot}
 use Rattle.fol_store.specs.Bag.{Bag}
 use Rattle.fol_store.specs.Stock.{slot, shown, next_of, bag_of, due_of}
-use Rattle.fol_store.proofs.BagSteps.{here_open, bag_slot, bags_shown}
+use Rattle.fol_bags.proofs.OpenBags.{here_open}
+use Rattle.fol_store.proofs.BagSteps.{bag_slot, bags_shown}
 use Rattle.fol_store.proofs.Passing.{passed, passed_timely, passed_sound, passed_contents, passed_tasks, waits_longer}
 use Rattle.fol_store.proofs.store.Store.pass.Goals as goal
 

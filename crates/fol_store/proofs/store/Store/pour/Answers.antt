@@ -5,10 +5,10 @@ use Rattle.fol_model.specs.declared.places.ChunkPos.{ChunkPos}
 use Rattle.fol_chunks.specs.Contents.{is_recorded}
 use Rattle.fol_chunks.specs.Order.{chunk_cmp}
 use Rattle.fol_store.specs.contracts.store.Store.{the_view}
-use Rattle.fol_store.specs.Places.{rehomed}
-use Rattle.fol_store.specs.Slots.{slot_in}
+use Rattle.fol_bags.specs.Places.{rehomed}
+use Rattle.fol_bags.specs.Slots.{slot_in}
 use Rattle.fol_store.specs.Stock.{slot, place, in_bag, bag_of}
-use Rattle.fol_store.proofs.BagSteps.{here_range, here_open}
+use Rattle.fol_bags.proofs.OpenBags.{here_range, here_open}
 use Rattle.fol_store.proofs.Drawing.{with_parts, loses_none, gains_none}
 use Rattle.fol_store.proofs.Joining.{Merged, both_whole, merged_bags}
 use Rattle.fol_store.proofs.Stepping.{listed_here}

@@ -1,13 +1,13 @@
 use Rattle.std.proofs.Common.{◌≡◌, ◌-◌, true, false, [], refl, ◌∙◌, ap, arith, vec_len, Some}
 use Rattle.std.specs.Vec.{vec_capacity}
 use Rattle.fol_store.specs.contracts.store.Store.{the_view}
-use Rattle.fol_store.specs.declared.places.Place.{Place}
-use Rattle.fol_store.specs.Slots.{slot_in}
+use Rattle.fol_bags.specs.declared.places.Place.{Place}
+use Rattle.fol_bags.specs.Slots.{slot_in}
 use Rattle.fol_store.specs.Stock.{slot, place, in_bag}
 use Rattle.fol_store.specs.Steps.{IsTarget}
-use Rattle.fol_store.proofs.BagSteps.{here_range, here_open}
+use Rattle.fol_bags.proofs.OpenBags.{here_range, here_open}
 use Rattle.fol_store.proofs.Drawing.{Drawn, drawn_bag, with_parts, loses_none, gains_none}
-use Rattle.fol_store.proofs.Homes.{rehomed-moves}
+use Rattle.fol_bags.proofs.Homes.{rehomed-moves}
 use Rattle.fol_store.proofs.Stepping.{target_here, target_not_listed, target_listed, source_not_taken}
 use Rattle.fol_store.proofs.store.Store.pull.Goals as goal
 

@@ -3,9 +3,10 @@ use Rattle.std.specs.Vec.{vec_capacity}
 use Rattle.fol_chunks.specs.Contents.{is_recorded}
 use Rattle.fol_store.specs.contracts.store.Store.{the_view}
 use Rattle.fol_store.specs.Bag.{Bag, put_back}
-use Rattle.fol_store.specs.Things.{Key, Thing, things, chunk_at, IsTimely}
+use Rattle.fol_bags.specs.Things.{Key, Thing, things, chunk_at, IsTimely}
 use Rattle.fol_store.specs.Stock.{slot, found, next_of, bag_of}
-use Rattle.fol_store.proofs.BagSteps.{taken_open, bag_slot, bags_shown}
+use Rattle.fol_bags.proofs.OpenBags.{taken_open}
+use Rattle.fol_store.proofs.BagSteps.{bag_slot, bags_shown}
 use Rattle.fol_store.proofs.Putting.{filled, there, apart_found, put_sound, put_contents, put_tasks}
 use Rattle.fol_store.proofs.store.Store.put.Goals as goal
 

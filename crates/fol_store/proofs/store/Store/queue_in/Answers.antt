@@ -2,14 +2,14 @@ use Rattle.std.proofs.Common.{◌≡◌, ◌-◌, length, arith, vec_len, None}
 use Rattle.std.specs.Vec.{vec_capacity}
 use Rattle.fol_queues.specs.declared.dated.Dated.{Dated}
 use Rattle.fol_store.specs.contracts.store.Store.{the_view}
-use Rattle.fol_store.specs.Slots.{slot_in}
-use Rattle.fol_store.specs.Things.{of_task}
+use Rattle.fol_bags.specs.Slots.{slot_in}
+use Rattle.fol_bags.specs.Things.{of_task}
 use Rattle.fol_store.specs.Stock.{in_bag, found, next_of}
 use Rattle.fol_store.specs.Steps.{TakesTask}
 use Rattle.fol_store.proofs.Accepting.{fresh_found}
 use Rattle.fol_store.proofs.Totals.{found_none}
 use Rattle.fol_store.proofs.Queuing.{queued_sound, queued_tasks, queued_contents, queued_bags}
-use Rattle.fol_store.proofs.BagSteps.{here_open}
+use Rattle.fol_bags.proofs.OpenBags.{here_open}
 use Rattle.fol_store.proofs.store.Store.queue_in.Goals as goal
 
 -- the task with its rest

@@ -1,7 +1,7 @@
 use Rattle.std.proofs.Common.{◌≡◌, ◌-◌, length, arith, vec_len}
 use Rattle.std.specs.Vec.{vec_capacity}
 use Rattle.fol_store.specs.contracts.store.Store.{the_view}
-use Rattle.fol_store.specs.Slots.{slot_in}
+use Rattle.fol_bags.specs.Slots.{slot_in}
 use Rattle.fol_store.proofs.BagSteps.{with_bags}
 use Rattle.fol_store.proofs.Releasing.{Released, released}
 use Rattle.fol_store.proofs.store.Store.release.Goals as goal

@@ -3,7 +3,8 @@ use Rattle.std.specs.Vec.{vec_capacity}
 use Rattle.fol_store.specs.contracts.store.Store.{the_view}
 use Rattle.fol_store.specs.Bag.{Bag}
 use Rattle.fol_store.specs.Stock.{slot, bag_of}
-use Rattle.fol_store.proofs.BagSteps.{with_bags, here_open, bag_slot}
+use Rattle.fol_store.proofs.BagSteps.{with_bags, bag_slot}
+use Rattle.fol_bags.proofs.OpenBags.{here_open}
 use Rattle.fol_store.proofs.Settling.{Settled, relisted}
 use Rattle.fol_store.proofs.store.Store.relist.Goals as goal
 

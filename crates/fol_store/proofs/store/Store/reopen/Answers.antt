@@ -1,10 +1,11 @@
 use Rattle.std.proofs.Common.{◌≡◌, ◌-◌, [], true, false, sym, ◌∙◌, ap, arith, vec_len}
 use Rattle.std.specs.Vec.{vec_capacity}
 use Rattle.fol_store.specs.contracts.store.Store.{the_view}
-use Rattle.fol_store.specs.declared.slot.Slot.{Slot}
+use Rattle.fol_bags.specs.declared.slot.Slot.{Slot}
 use Rattle.fol_store.specs.Bag.{Bag}
 use Rattle.fol_store.specs.Stock.{Stock, slot, bag_of}
-use Rattle.fol_store.proofs.BagSteps.{with_bags, here_open, bag_slot, slot_here}
+use Rattle.fol_store.proofs.BagSteps.{with_bags, bag_slot, slot_here}
+use Rattle.fol_bags.proofs.OpenBags.{here_open}
 use Rattle.fol_store.proofs.Settling.{Settled}
 use Rattle.fol_store.proofs.Noting.{reopened_step, reopened_is}
 use Rattle.fol_store.proofs.store.Store.reopen.Goals as goal

@@ -1,10 +1,11 @@
 use Rattle.std.proofs.Common.{◌≡◌, ◌-◌, true, length, refl, sym, ◌∙◌, ap, arith, vec_len}
 use Rattle.std.specs.Vec.{vec_capacity}
 use Rattle.fol_store.specs.contracts.store.Store.{the_view}
-use Rattle.fol_store.specs.declared.slot.Slot.{Slot}
+use Rattle.fol_bags.specs.declared.slot.Slot.{Slot}
 use Rattle.fol_store.specs.Bag.{Bag}
 use Rattle.fol_store.specs.Stock.{Stock, slot, shown, bag_of}
-use Rattle.fol_store.proofs.BagSteps.{OneStep, with_bags, one_step, one_kept, here_open, bag_slot}
+use Rattle.fol_store.proofs.BagSteps.{OneStep, with_bags, one_step, one_kept, bag_slot}
+use Rattle.fol_bags.proofs.OpenBags.{here_open}
 use Rattle.fol_store.proofs.store.Store.set_owed.Goals as goal
 
 pub set_owed-requires : goal.set_owed-requires

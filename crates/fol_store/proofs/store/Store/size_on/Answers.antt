@@ -2,12 +2,12 @@ use Rattle.std.proofs.Common.{◌≡◌, true, [], ◌∷◌, sym, ◌∙◌}
 use Rattle.std.specs.List.Sorted.{IsStrictlySortedBy}
 use Rattle.fol_chunks.specs.Contents.{is_recorded, size_within}
 use Rattle.fol_store.specs.contracts.store.Store.{the_view}
-use Rattle.fol_store.specs.declared.slot.Slot.{Slot}
+use Rattle.fol_bags.specs.declared.slot.Slot.{Slot}
 use Rattle.fol_data.specs.Rests.{rests_of}
-use Rattle.fol_store.specs.Clear.{HasNoTask, IsClearOf}
+use Rattle.fol_bags.specs.Clear.{HasNoTask, IsClearOf}
 use Rattle.fol_store.specs.Stock.{slot, bag_of, in_bag}
-use Rattle.fol_store.proofs.BagSteps.{here_open}
-use Rattle.fol_store.proofs.Counting.{clear_of}
+use Rattle.fol_bags.proofs.OpenBags.{here_open}
+use Rattle.fol_bags.proofs.Counting.{clear_of}
 use Rattle.fol_store.proofs.NoTask.{none_in_part}
 use Rattle.fol_store.proofs.store.Store.size_on.Goals as goal
 

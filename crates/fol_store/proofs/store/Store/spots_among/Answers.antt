@@ -4,10 +4,10 @@ use Rattle.std.proofs.lemmas.Bool.{cases_Bool, ltb-true, ltb-false}
 use Rattle.std.proofs.lemmas.List.{get_or_default}
 use Rattle.fol_model.specs.declared.places.ChunkPos.{ChunkPos}
 use Rattle.fol_chunks.specs.Contents.{is_recorded}
-use Rattle.fol_store.specs.declared.places.Place.{Place}
+use Rattle.fol_bags.specs.declared.places.Place.{Place}
 use Rattle.fol_store.specs.Stock.{place}
-use Rattle.fol_store.proofs.Accepting.{bag-from_is}
-use Rattle.fol_store.proofs.Stepping.{recorded_index}
+use Rattle.fol_bags.proofs.PlaceSteps.{bag-from_is}
+use Rattle.fol_bags.proofs.Recorded.{recorded_index}
 use Rattle.fol_store.proofs.store.Store.spots_among.Goals as goal
 
 pub returns-clause-homes : goal.returns-clause-homes

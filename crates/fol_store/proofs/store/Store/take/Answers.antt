@@ -4,13 +4,13 @@ use Rattle.std.proofs.lemmas.Bool.{and_parts}
 use Rattle.fol_data.specs.declared.region_data.RegionData.{RegionData}
 use Rattle.fol_store.specs.contracts.store.Store.{the_view}
 use Rattle.fol_store.specs.Bag.{Bag, taken_out}
-use Rattle.fol_store.specs.Slots.{slot_in}
-use Rattle.fol_store.specs.Things.{Key, things, IsTimely}
+use Rattle.fol_bags.specs.Slots.{slot_in}
+use Rattle.fol_bags.specs.Things.{Key, things, IsTimely}
 use Rattle.fol_queues.specs.Waiting.{due_count}
 use Rattle.fol_store.specs.Stock.{slot, shown, next_of, bag_of, due_of}
-use Rattle.fol_store.proofs.Totals.{things_none}
-use Rattle.fol_store.proofs.BagSteps.{here_open, bag_slot, bags_shown}
-use Rattle.fol_store.proofs.Opening.{timely_empty}
+use Rattle.fol_bags.proofs.Empty.{things_none, timely_empty}
+use Rattle.fol_bags.proofs.OpenBags.{here_open}
+use Rattle.fol_store.proofs.BagSteps.{bag_slot, bags_shown}
 use Rattle.fol_store.proofs.Stepping.{listed_here}
 use Rattle.fol_store.proofs.Taking.{emptied, taken_sound, taken_contents, taken_tasks}
 use Rattle.fol_store.proofs.WholeBag.{body_contents, body_tasks}

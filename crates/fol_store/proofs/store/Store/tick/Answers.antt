@@ -1,10 +1,11 @@
 use Rattle.std.proofs.Common.{◌≡◌, true, refl, sym, ◌∙◌, ap}
 use Rattle.fol_store.specs.contracts.store.Store.{the_view}
-use Rattle.fol_store.specs.declared.slot.Slot.{Slot}
+use Rattle.fol_bags.specs.declared.slot.Slot.{Slot}
 use Rattle.fol_store.specs.Bag.{Bag}
 use Rattle.fol_store.specs.Stock.{slot, shown}
-use Rattle.fol_store.specs.Things.{IsTimely}
-use Rattle.fol_store.proofs.BagSteps.{here_open, bag_slot}
+use Rattle.fol_bags.specs.Things.{IsTimely}
+use Rattle.fol_bags.proofs.OpenBags.{here_open}
+use Rattle.fol_store.proofs.BagSteps.{bag_slot}
 use Rattle.fol_store.proofs.store.Store.tick.Goals as goal
 
 pub slot-requires : goal.slot-requires

@@ -4,13 +4,13 @@ use Rattle.fol_chunks.specs.Order.{chunk_cmp}
 use Rattle.fol_store.specs.Bag.{Bag}
 use Rattle.fol_store.specs.Relisted.{Narrowed}
 use Rattle.fol_model.specs.Job.{Job}
-use Rattle.fol_store.specs.declared.slot.Slot.{Slot}
-use Rattle.fol_store.specs.Clear.{HasNoTask}
-use Rattle.fol_store.specs.Slots.{slot_in}
+use Rattle.fol_bags.specs.declared.slot.Slot.{Slot}
+use Rattle.fol_bags.specs.Clear.{HasNoTask}
+use Rattle.fol_bags.specs.Slots.{slot_in}
 use Rattle.fol_store.specs.Stock.{bag_of, slot}
 use Rattle.fol_store.proofs.Totals.{same_jobs}
 use Rattle.fol_store.proofs.Arriving.{bags_same}
-use Rattle.fol_store.proofs.PlaceSteps.{on_ok, on_err}
+use Rattle.fol_bags.proofs.Answers.{on_ok, on_err}
 use Rattle.fol_store.proofs.store.Store.try_expel.Goals as goal
 
 pub expel_to-requires-clause-here : goal.expel_to-requires-clause-here

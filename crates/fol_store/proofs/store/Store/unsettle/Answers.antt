@@ -1,7 +1,7 @@
 use Rattle.std.proofs.Common.{◌≡◌, ◌-◌, true, false, length, refl, sym, ap, arith, vec_len}
 use Rattle.std.specs.Vec.{vec_capacity}
 use Rattle.fol_store.specs.contracts.store.Store.{the_view}
-use Rattle.fol_store.specs.declared.slot.Slot.{Slot}
+use Rattle.fol_bags.specs.declared.slot.Slot.{Slot}
 use Rattle.fol_store.specs.Bag.{Bag}
 use Rattle.fol_store.specs.Stock.{Stock, slot, bag_of}
 use Rattle.fol_store.proofs.BagSteps.{OneStep, with_bags, one_step, one_kept, bag_slot}

@@ -1,0 +1,12 @@
+pub mod Answers
+pub mod Recorded
+pub mod PlaceSteps
+pub mod Homes
+pub mod ThingSteps
+pub mod Empty
+pub mod NoTask
+pub mod Counting
+pub mod OpenBags
+pub mod Ordered
+pub mod OneMore
+pub mod Crossing

@@ -1,0 +1,86 @@
+-- Places after a step.
+use Rattle.std.proofs.Common.{◌≡◌, ℕ, true, ◌∙◌, ap, Some}
+use Rattle.std.proofs.Common.{◌≡◌, ℕ, true, false, refl, sym, ◌∙◌, ap, Option, Some, None}
+use Rattle.std.specs.Prelude.{nat_eq}
+use Rattle.std.proofs.lemmas.Bool.{eqb-true}
+use Rattle.std.proofs.Common.{◌≡◌, ℤ, ◌&&◌, Bool, true, false, List, refl, Option, Some}
+use Rattle.std.specs.Prelude.{if◌then◌else◌}
+use Rattle.std.specs.Option.{unwrap_or}
+use Rattle.std.specs.Ordering.{int_eq}
+use Rattle.std.proofs.Common.{◌≡◌, ℤ, List, refl, None}
+use Rattle.std.proofs.Common.{ℕ, ◌&&◌, Bool, Some}
+use Rattle.std.proofs.Common.{◌≡◌, ℕ, ◌&&◌, ◌||◌, Bool, true, false, refl, Some}
+use Rattle.std.proofs.Common.{◌≡◌, ℕ, true, refl, sym, ◌∙◌, ap, inl, inr, Some}
+use Rattle.std.proofs.lemmas.Bool.{cases_Bool}
+use Rattle.std.proofs.Common.{◌≡◌, ℕ, false, refl, sym, ◌∙◌, ap, inl, inr}
+use Rattle.fol_queues.proofs.Numbers.{nat_self}
+use Rattle.fol_model.specs.declared.places.ChunkPos.{ChunkPos}
+use Rattle.fol_model.specs.Geometry.{same_chunk}
+use Rattle.fol_keyed.proofs.Places.{same_chunk-true}
+use Rattle.fol_bags.specs.declared.places.Place.{Place}
+use Rattle.fol_bags.specs.Places.{is_bag, is_number, place_at, known_place, nowhere}
+
+-- the test for a bag
+pub is_bag-some : (p : Place) (u : ℕ) → p.bag ≡ Some u → is_bag u p ≡ true
+is_bag-some p u e = ap (is_number u) e ∙ nat_self u
+
+pub bag-from_is : (p : Place) (u : ℕ) → is_bag u p ≡ true → p.bag ≡ Some u
+bag-from_is p u h = go p.bag refl
+  where
+    go : (o : Option ℕ) → p.bag ≡ o → p.bag ≡ Some u
+    go None e = let f : false ≡ true = sym (ap (is_number u) e) ∙ h in cc
+    go (Some v) e = let f : nat_eq u v ≡ true = sym (ap (is_number u) e) ∙ h in let g : u ≡ v = eqb-true u v f in e ∙ ap (λ (n : ℕ). Some n) (sym g)
+
+-- the place that was set
+pub set_places : (old new : List ((ℤ × ℤ) × Place)) (c : ChunkPos) (p : Place)
+    → ((a b : ℤ) → known_place new a b ≡ (if (int_eq c.x a && int_eq c.z b) then Some p else known_place old a b))
+    → (q : ChunkPos) → place_at (record { rows = new }) q ≡ (if same_chunk c q then p else place_at (record { rows = old }) q)
+unfolding place_at same_chunk
+set_places old new c p h q =
+    rw (h q.x q.z) (pick (int_eq c.x q.x && int_eq c.z q.z) (known_place old q.x q.z))
+  where
+    pick : (b : Bool) (o : Option Place) → unwrap_or (if b then Some p else o) nowhere ≡ (if b then p else unwrap_or o nowhere)
+    pick true o = refl
+    pick false o = refl
+
+pub set_unknown : (old : List ((ℤ × ℤ) × Place)) (c : ChunkPos) → known_place old c.x c.z ≡ None → place_at (record { rows = old }) c ≡ nowhere
+unfolding place_at
+set_unknown old c h = rw h refl
+
+-- a place with another bag
+abbrev pub renamed : Bool → ℕ → ℕ → Place → Place
+renamed b «from» to p = if (b && is_bag «from» p) then record p { bag = Some to } else p
+
+pub renamed_twice : (b c : Bool) («from» to : ℕ) (p : Place) → renamed c «from» to (renamed b «from» to p) ≡ renamed (b || c) «from» to p
+renamed_twice false c «from» to p = refl
+renamed_twice true c «from» to p = split (is_bag «from» p) refl
+  where
+    again : (r : Place) → record r { bag = Some to } ≡ r → (b : Bool) → (if b then record r { bag = Some to } else r) ≡ r
+    again r same true = same
+    again r same false = refl
+
+    never : (c : Bool) → (if (c && false) then record p { bag = Some to } else p) ≡ p
+    never true = refl
+    never false = refl
+
+    split : (b : Bool) → is_bag «from» p ≡ b → renamed c «from» to (renamed true «from» to p) ≡ renamed true «from» to p
+    split true e = rw e (again (record p { bag = Some to }) refl (c && is_bag «from» (record p { bag = Some to })))
+    split false e = rw (e, e) (never c)
+
+-- a change at one place
+pub renamed_at : (places : ChunkPos → Place) (c q : ChunkPos) («from» to : ℕ) → is_bag «from» (places c) ≡ true
+    → (if same_chunk c q then record { spot = (places c).spot; bag = Some to } else places q) ≡ renamed (same_chunk c q) «from» to (places q)
+renamed_at places c q «from» to h =
+    elim (cases_Bool (same_chunk c q)) [
+      | inl e ↦ let s : c ≡ q = same_chunk-true c q e in let k : is_bag «from» (places q) ≡ true = ap (λ z. is_bag «from» (places z)) (sym s) ∙ h in
+          rw (e, k) (ap (λ z. let r : Place = record { spot = (places z).spot; bag = Some to } in r) s)
+      | inr e ↦ rw e refl
+    ]
+
+-- no change where the chunk has another bag
+pub renamed_not : (places : ChunkPos → Place) (c q : ChunkPos) («from» to : ℕ) → is_bag «from» (places c) ≡ false → places q ≡ renamed (same_chunk c q) «from» to (places q)
+renamed_not places c q «from» to h =
+    elim (cases_Bool (same_chunk c q)) [
+      | inl e ↦ let s : c ≡ q = same_chunk-true c q e in let k : is_bag «from» (places q) ≡ false = ap (λ z. is_bag «from» (places z)) (sym s) ∙ h in rw (e, k) refl
+      | inr e ↦ rw e refl
+    ]

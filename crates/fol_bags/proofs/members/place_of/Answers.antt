@@ -1,0 +1,12 @@
+use Rattle.std.proofs.Common.{rules}
+use Rattle.std.proofs.lemmas.Fn.{always_returns_same}
+use Rattle.fol_model.specs.declared.places.ChunkPos.{ChunkPos}
+use Rattle.fol_chunks.specs.Order.{chunk_cmp}
+use Rattle.fol_keyed.proofs.Places.{chunk_cmp_total, chunk_cmp_tells}
+use Rattle.fol_keyed.proofs.Sorted.{searched_by}
+use Rattle.fol_bags.proofs.members.place_of.Goals as goal
+
+pub returns : goal.returns
+returns c =
+    searched_by (λ (q : ChunkPos). q) chunk_cmp chunk_cmp_total chunk_cmp_tells _ c.args.c c.binary_search_by.result c.requires c.binary_search_by.ensures.bound
+    (c.binary_search_by.ensures.position (λ q. chunk_cmp q c.args.c) (always_returns_same _ _ _ (λ a r f k. search rules)))

@@ -1,0 +1,171 @@
+//! The bag of a region, as the store keeps it.
+
+ghost use Rattle.std.specs.Prelude.{◌≡◌, ◌≤◌, if◌then◌else◌, true, not, ◌||◌, ◌&&◌, [], ◌∷◌, ◌++◌, ◌⊎◌, length, false, IsTrue, OnOk};
+ghost use Rattle.std.specs.List.Sorted.{IsStrictlySortedBy};
+ghost use Rattle.fol_model.specs.declared.places.ChunkPos.{ChunkPos};
+ghost use Rattle.fol_model.specs.Geometry.{same_chunk};
+ghost use Rattle.fol_chunks.specs.Contents.{is_recorded};
+ghost use Rattle.fol_chunks.specs.Order.{chunk_cmp};
+ghost use Rattle.fol_bags.specs.Slots.{no_slot};
+ghost use Rattle.fol_bags.specs.Moves.{SameThings};
+ghost use Rattle.fol_bags.specs.Things.{Key, no_data, things, IsTimely};
+
+use crate::members;
+use crate::recalled::Recalled;
+use fol_data::RegionData;
+use fol_model::{ChunkPos, Sequence};
+use std::alloc::{AllocError, Global};
+
+/// A bag, or what is left of one.
+#[derive(Drop)]
+pub struct Slot {
+    /// What lies in it.
+    pub body: RegionData,
+    /// Whether its region is there, and no worker has the bag.
+    pub here: bool,
+    /// Whether a worker has the bag.
+    pub taken: bool,
+    /// Whether its chunks are the right ones still.
+    pub listed: bool,
+    /// Whether no task came on its chunks since they were listed.
+    pub calm: bool,
+    /// The chunks for which it was gathered, as contracts see them while a worker has the bag too.
+    pub chunks: Recalled,
+    /// These chunks, in order, unless a worker has the bag and them.
+    pub list: Sequence<ChunkPos>,
+    /// Chunks in whose spots something may lie; of a listed bag, all such ones.
+    pub touched: Sequence<ChunkPos>,
+    /// Chunks that may have come or left while a worker had the bag.
+    pub since: Sequence<ChunkPos>,
+}
+
+impl Slot {
+    /// That of a region that has just begun, with these counters: it holds nothing and has no chunk. Takes no memory.
+    pub fn opened(alloc: Global, tick: u64, owed: u32) -> Slot
+        ensures body { SameThings (record no_data { tick = tick; owed = owed }) result.body }
+        ensures tasks { result.body.queues.tasks ≡ [] }
+        ensures rest { result ≡ record no_slot {
+          body = result.body;
+          here = true;
+          listed = true;
+          calm = true;
+        } }
+    {
+        let list = Sequence::new(alloc);
+        Slot {
+            body: new_data(alloc, tick, owed),
+            here: true,
+            taken: false,
+            listed: true,
+            calm: true,
+            chunks: Recalled::of(&list),
+            list,
+            touched: Sequence::new(alloc),
+            since: Sequence::new(alloc),
+        }
+    }
+
+    /// Whether no region has it any more, and nothing lies in it.
+    pub fn is_over(&self) -> bool
+        requires { self.now.taken ≡ false → self.now.list ≡ self.now.chunks }
+        ensures things { IsTrue result → (k : Key) → things self.now.body k ≡ things no_data k }
+        ensures rest { IsTrue result → self.now ≡ record no_slot { body = self.now.body } }
+    {
+        self.is_shut() && self.has_no_chunk() && self.body.is_empty()
+    }
+
+    /// Whether it is neither here nor with a worker, and its chunks are no region's.
+    fn is_shut(&self) -> bool
+        ensures here { IsTrue result → self.now.here ≡ false }
+        ensures taken { IsTrue result → self.now.taken ≡ false }
+        ensures listed { IsTrue result → self.now.listed ≡ false }
+        ensures calm { IsTrue result → self.now.calm ≡ false }
+    {
+        !(self.here || self.taken || self.listed || self.calm)
+    }
+
+    /// Whether no list has a chunk.
+    fn has_no_chunk(&self) -> bool
+        ensures list { IsTrue result → self.now.list ≡ [] }
+        ensures touched { IsTrue result → self.now.touched ≡ [] }
+        ensures since { IsTrue result → self.now.since ≡ [] }
+    {
+        self.list.is_empty() && self.touched.is_empty() && self.since.is_empty()
+    }
+
+    /// Where nothing lies in it, the room for what lay there goes back.
+    pub fn compact(&mut self, alloc: Global)
+        ensures same { SameThings self.old.body self.new.body }
+        ensures timely { IsTimely self.old.body → IsTimely self.new.body }
+        ensures rest { self.new ≡ record self.old { body = self.new.body } }
+    {
+        if self.body.is_empty() {
+            self.body = new_data(alloc, self.body.tick, self.body.owed);
+        }
+    }
+
+    /// Gives it other chunks.
+    pub fn relist(&mut self, chunks: Vec<ChunkPos>)
+        ensures { self.new ≡ record self.old {
+          chunks = chunks.items;
+          list = chunks.items;
+        } }
+    {
+        self.list = Sequence::of(chunks);
+        self.chunks = Recalled::of(&self.list);
+    }
+
+    /// A chunk comes. Unless nothing lies on it, which is `quiet`, it is noted, and the bag is calm no more. If memory runs out, it may be
+    /// there and not noted, and no chunk is lost.
+    pub fn admit(&mut self, alloc: Global, c: ChunkPos, quiet: bool) -> Result<(), AllocError>
+        requires { IsStrictlySortedBy chunk_cmp self.old.list }
+        ensures order { OnOk result (IsStrictlySortedBy chunk_cmp self.new.list) }
+        ensures has { OnOk result ((q : ChunkPos)
+            → is_recorded self.new.list q ≡ (is_recorded self.old.list q || same_chunk c q)) }
+        ensures noted { OnOk result (self.new.touched
+            ≡ (if quiet then self.old.touched else self.old.touched ++ c ∷ [])) }
+        ensures kept { (q : ChunkPos) → is_recorded self.old.list q ≡ true
+            → is_recorded self.new.list q ≡ true }
+        ensures rest { self.new ≡ record self.old {
+          calm = (quiet && self.old.calm);
+          chunks = self.new.list;
+          list = self.new.list;
+          touched = self.new.touched;
+        } }
+    {
+        let result = members::widen(alloc, &mut self.list, c);
+        self.chunks = Recalled::of(&self.list);
+        self.calm = quiet && self.calm;
+        result?;
+        if quiet {
+            return Ok(());
+        }
+        self.touched.push(c)
+    }
+
+    /// A chunk leaves.
+    pub fn dismiss(&mut self, alloc: Global, c: ChunkPos)
+        requires { IsStrictlySortedBy chunk_cmp self.old.list }
+        ensures order { IsStrictlySortedBy chunk_cmp self.new.list }
+        ensures has { (q : ChunkPos) → is_recorded self.new.list q
+            ≡ (is_recorded self.old.list q && not (same_chunk c q)) }
+        ensures rest { self.new ≡ record self.old {
+          chunks = self.new.list;
+          list = self.new.list;
+        } }
+    {
+        members::narrow(alloc, &mut self.list, c);
+        self.chunks = Recalled::of(&self.list);
+    }
+}
+
+/// Data with these counters that holds nothing. Takes no memory.
+pub fn new_data(alloc: Global, tick: u64, owed: u32) -> RegionData
+    ensures things { SameThings (record no_data { tick = tick; owed = owed }) result }
+    ensures tasks { result.queues.tasks ≡ [] }
+{
+    let mut data = RegionData::new(alloc);
+    data.tick = tick;
+    data.owed = owed;
+    data
+}

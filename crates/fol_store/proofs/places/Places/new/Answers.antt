@@ -1,7 +1,0 @@
-use Rattle.std.proofs.Common.{refl}
-use Rattle.fol_store.specs.Places.{place_at, known_place}
-use Rattle.fol_store.proofs.places.Places.new.Goals as goal
-
-pub returns : goal.returns
-unfolding place_at known_place
-returns c = λ q. rw c.new.ensures.empty refl
