@@ -1,11 +1,11 @@
 -- The bags by region, and the spots by number.
-use Rattle.std.specs.Prelude.{false, []}
-use Rattle.std.specs.Prelude.{ℕ, List}
-use Rattle.std.specs.Prelude.{Option, Some, None}
+use Rattle.std.specs.Prelude.{◌≡◌, nat_eq, if◌then◌else◌, length, false, []}
+use Rattle.std.specs.Prelude.{◌≡◌, nat_eq, if◌then◌else◌, length, ℕ, List}
+use Rattle.std.specs.Prelude.{◌≡◌, nat_eq, if◌then◌else◌, length, Option, Some, None}
 use Rattle.std.specs.Global.{Box}
-use Rattle.std.specs.Prelude.{ℕ, List, slice_index_or}
-use Rattle.std.specs.Prelude.{Bool, ◌||◌}
-use Rattle.std.specs.Prelude.{Bool, not, ◌&&◌}
+use Rattle.std.specs.Prelude.{◌≡◌, nat_eq, if◌then◌else◌, length, ℕ, List, slice_index_or}
+use Rattle.std.specs.Prelude.{◌≡◌, nat_eq, if◌then◌else◌, length, Bool, ◌||◌}
+use Rattle.std.specs.Prelude.{◌≡◌, nat_eq, if◌then◌else◌, length, Bool, not, ◌&&◌}
 use Rattle.fol_data.specs.declared.region_data.RegionData.{RegionData}
 use Rattle.fol_bags.specs.declared.slot.Slot.{Slot}
 use Rattle.fol_bags.specs.Things.{no_data}
@@ -32,6 +32,12 @@ slot_in bags id = slice_index_or bags id no_slot
 -- a region has the bag, or a worker has it
 abbrev pub is_open : Slot → Bool
 is_open b = b.here || b.taken
+
+-- the bag of one id is this one now; every other bag stays, and so does how many more can be opened
+pub record SetsSlot (id : ℕ) (b : Slot) (old new : BagRows) : Type 0 where
+  pub slots : (u : ℕ) → slot_in new.items u ≡ (if nat_eq id u then b else slot_in old.items u)
+  pub len : length new.items ≡ length old.items
+  pub free : new.free ≡ old.free
 
 abbrev pub spot_in : List RegionData → ℕ → RegionData
 spot_in spots i = slice_index_or spots i no_data

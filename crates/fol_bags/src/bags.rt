@@ -2,7 +2,7 @@
 
 ghost use Rattle.std.specs.Prelude.{◌≡◌, ◌+◌, ◌<◌, ◌≤◌, true, false, ℕ, nat_eq, if◌then◌else◌, [], ◌∷◌, ◌++◌, length, vec_len, IfOk, OnOk, IfSome, IsTrue};
 ghost use Rattle.std.specs.Option.{is_none};
-ghost use Rattle.fol_bags.specs.Slots.{no_slot, slot_in, is_open};
+ghost use Rattle.fol_bags.specs.Slots.{no_slot, slot_in, is_open, SetsSlot};
 ghost use Rattle.fol_bags.specs.Moves.{SameThings};
 ghost use Rattle.fol_bags.specs.Things.{Key, no_data, things, IsTimely};
 
@@ -139,10 +139,7 @@ impl Bags {
     pub fn lift(&mut self, id: usize) -> Kept
         requires { id < length self.old.items }
         ensures kept { result ≡ slot_in self.old.items id }
-        ensures slots { (u : ℕ) → slot_in self.new.items u
-            ≡ (if nat_eq id u then no_slot else slot_in self.old.items u) }
-        ensures len { length self.new.items ≡ length self.old.items }
-        ensures free { self.new.free ≡ self.old.free }
+        ensures sets { SetsSlot id no_slot self.old self.new }
     {
         mem::replace(&mut self.kept[id], Kept::nothing())
     }
@@ -150,10 +147,7 @@ impl Bags {
     /// Puts a bag in place of the one that the id has.
     pub fn lay(&mut self, id: usize, kept: Kept)
         requires { id < length self.old.items }
-        ensures slots { (u : ℕ) → slot_in self.new.items u
-            ≡ (if nat_eq id u then kept else slot_in self.old.items u) }
-        ensures len { length self.new.items ≡ length self.old.items }
-        ensures free { self.new.free ≡ self.old.free }
+        ensures sets { SetsSlot id kept self.old self.new }
     {
         self.kept[id] = kept;
     }
@@ -169,12 +163,9 @@ impl Bags {
             → IsTimely (slot_in self.new.items id).body }
         ensures here { (slot_in self.old.items id).here ≡ true
             → (slot_in self.new.items id).body ≡ (slot_in self.old.items id).body }
-        ensures slots { (u : ℕ) → slot_in self.new.items u
-            ≡ (if nat_eq id u
-            then record (slot_in self.old.items id) { body = (slot_in self.new.items id).body }
-            else slot_in self.old.items u) }
-        ensures len { length self.new.items ≡ length self.old.items }
-        ensures free { self.new.free ≡ self.old.free }
+        ensures sets { SetsSlot id
+            (record (slot_in self.old.items id) { body = (slot_in self.new.items id).body })
+            self.old self.new }
     {
         let kept = &mut self.kept[id];
         kept.release();

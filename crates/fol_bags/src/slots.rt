@@ -2,7 +2,7 @@
 
 ghost use Rattle.std.specs.Prelude.{◌≡◌, ◌≢◌, IsTrue, IfOk, OnOk, OnErr, None, ◌+◌, ◌-◌, ◌<◌, ◌^◌, ◌≤◌, ◌&&◌, ◌||◌, not, ℕ, nat_eq, if◌then◌else◌, true, false, [], ◌∷◌, ◌++◌, length};
 ghost use Rattle.std.specs.Option.{is_none, ForSome};
-ghost use Rattle.fol_bags.specs.Slots.{no_slot, slot_in, stays_calm, is_open};
+ghost use Rattle.fol_bags.specs.Slots.{no_slot, slot_in, stays_calm, is_open, SetsSlot};
 ghost use Rattle.fol_bags.specs.Things.{Key, no_data, things, of_task, IsTimely};
 ghost use Rattle.fol_data.specs.Rests.{IsInTime, rests_of};
 ghost use Rattle.fol_bags.specs.Clear.{HasNoTask};
@@ -38,11 +38,9 @@ pub struct Listing {
 /// Says that a bag has to be gathered anew.
 pub fn unlist(bags: &mut Bags, id: usize)
     requires { is_open (slot_in bags.old.items id) ≡ true }
-    ensures slots { (u : ℕ) → slot_in bags.new.items u
-        ≡ (if nat_eq id u then record (slot_in bags.old.items id) { listed = false }
-        else slot_in bags.old.items u) }
-    ensures len { length bags.new.items ≡ length bags.old.items }
-    ensures free { bags.new.free ≡ bags.old.free }
+    ensures sets { SetsSlot id
+        (record (slot_in bags.old.items id) { listed = false })
+        bags.old bags.new }
 {
     let slot = bags.slot_mut(id);
     slot.listed = false;
@@ -51,13 +49,8 @@ pub fn unlist(bags: &mut Bags, id: usize)
 /// Sets how many ticks a region owes.
 pub fn set_owed(bags: &mut Bags, id: usize, owed: u32)
     requires { is_open (slot_in bags.old.items id) ≡ true }
-    ensures slots { (u : ℕ) → slot_in bags.new.items u
-        ≡ (if nat_eq id u
-        then record (slot_in bags.old.items id)
-        { body = record (slot_in bags.old.items id).body { owed = owed } }
-        else slot_in bags.old.items u) }
-    ensures len { length bags.new.items ≡ length bags.old.items }
-    ensures free { bags.new.free ≡ bags.old.free }
+    ensures sets { SetsSlot id (record (slot_in bags.old.items id)
+        { body = record (slot_in bags.old.items id).body { owed = owed } }) bags.old bags.new }
 {
     let slot = bags.slot_mut(id);
     slot.body.owed = owed;
@@ -70,11 +63,9 @@ pub fn close(alloc: Global, bags: &mut Bags, id: usize)
         ≡ things (slot_in bags.old.items id).body k }
     ensures timely { IsTimely (slot_in bags.old.items id).body
         → IsTimely (slot_in bags.new.items id).body }
-    ensures slots { (u : ℕ) → slot_in bags.new.items u
-        ≡ (if nat_eq id u then record no_slot { body = (slot_in bags.new.items id).body }
-        else slot_in bags.old.items u) }
-    ensures len { length bags.new.items ≡ length bags.old.items }
-    ensures free { bags.new.free ≡ bags.old.free }
+    ensures sets { SetsSlot id
+        (record no_slot { body = (slot_in bags.new.items id).body })
+        bags.old bags.new }
 {
     shut(alloc, bags, id);
     bags.release(id);
@@ -83,11 +74,9 @@ pub fn close(alloc: Global, bags: &mut Bags, id: usize)
 /// Closes a bag; what lies in it stays in it.
 fn shut(alloc: Global, bags: &mut Bags, id: usize)
     requires { is_open (slot_in bags.old.items id) ≡ true }
-    ensures slots { (u : ℕ) → slot_in bags.new.items u
-        ≡ (if nat_eq id u then record no_slot { body = (slot_in bags.old.items id).body }
-        else slot_in bags.old.items u) }
-    ensures len { length bags.new.items ≡ length bags.old.items }
-    ensures free { bags.new.free ≡ bags.old.free }
+    ensures sets { SetsSlot id
+        (record no_slot { body = (slot_in bags.old.items id).body })
+        bags.old bags.new }
 {
     let slot = bags.slot_mut(id);
     slot.here = false;
@@ -102,14 +91,11 @@ fn shut(alloc: Global, bags: &mut Bags, id: usize)
 /// Gives a bag other chunks.
 pub fn relist(bags: &mut Bags, id: usize, chunks: Vec<ChunkPos>)
     requires { is_open (slot_in bags.old.items id) ≡ true }
-    ensures slots { (u : ℕ) → slot_in bags.new.items u
-        ≡ (if nat_eq id u then record (slot_in bags.old.items id) {
-          listed = false;
-          chunks = chunks.items;
-          list = chunks.items;
-        } else slot_in bags.old.items u) }
-    ensures len { length bags.new.items ≡ length bags.old.items }
-    ensures free { bags.new.free ≡ bags.old.free }
+    ensures sets { SetsSlot id (record (slot_in bags.old.items id) {
+      listed = false;
+      chunks = chunks.items;
+      list = chunks.items;
+    }) bags.old bags.new }
 {
     let slot = bags.slot_mut(id);
     slot.listed = false;
@@ -119,14 +105,11 @@ pub fn relist(bags: &mut Bags, id: usize, chunks: Vec<ChunkPos>)
 /// Says that all that lies on the chunks of a bag lies in it.
 pub fn finish(alloc: Global, bags: &mut Bags, id: usize)
     requires { is_open (slot_in bags.old.items id) ≡ true }
-    ensures slots { (u : ℕ) → slot_in bags.new.items u
-        ≡ (if nat_eq id u then record (slot_in bags.old.items id) {
-          listed = true;
-          calm = true;
-          touched = [];
-        } else slot_in bags.old.items u) }
-    ensures len { length bags.new.items ≡ length bags.old.items }
-    ensures free { bags.new.free ≡ bags.old.free }
+    ensures sets { SetsSlot id (record (slot_in bags.old.items id) {
+      listed = true;
+      calm = true;
+      touched = [];
+    }) bags.old bags.new }
 {
     let slot = bags.slot_mut(id);
     slot.listed = true;
@@ -137,16 +120,13 @@ pub fn finish(alloc: Global, bags: &mut Bags, id: usize)
 /// Says that all that lies on these chunks lies in a bag or in their spots, and gives it the lists.
 pub fn list(bags: &mut Bags, id: usize, lists: Listing)
     requires { is_open (slot_in bags.old.items id) ≡ true }
-    ensures slots { (u : ℕ) → slot_in bags.new.items u
-        ≡ (if nat_eq id u then record (slot_in bags.old.items id) {
-          listed = true;
-          calm = false;
-          chunks = lists.chunks.items;
-          list = lists.chunks.items;
-          touched = lists.touched.items;
-        } else slot_in bags.old.items u) }
-    ensures len { length bags.new.items ≡ length bags.old.items }
-    ensures free { bags.new.free ≡ bags.old.free }
+    ensures sets { SetsSlot id (record (slot_in bags.old.items id) {
+      listed = true;
+      calm = false;
+      chunks = lists.chunks.items;
+      list = lists.chunks.items;
+      touched = lists.touched.items;
+    }) bags.old bags.new }
 {
     let Listing { chunks, touched } = lists;
     let slot = bags.slot_mut(id);
@@ -175,12 +155,9 @@ pub fn disturb(bags: &mut Bags, place: Place)
 /// A listed bag is calm no more.
 fn disturb_bag(bags: &mut Bags, id: usize)
     requires { id < length bags.old.items }
-    ensures slots { (u : ℕ) → slot_in bags.new.items u
-        ≡ (if nat_eq id u
-        then record (slot_in bags.old.items id) { calm = stays_calm (slot_in bags.old.items id) }
-        else slot_in bags.old.items u) }
-    ensures len { length bags.new.items ≡ length bags.old.items }
-    ensures free { bags.new.free ≡ bags.old.free }
+    ensures sets { SetsSlot id
+        (record (slot_in bags.old.items id) { calm = stays_calm (slot_in bags.old.items id) })
+        bags.old bags.new }
 {
     match bags.get_mut(id) {
         Some(slot) => slot.calm = slot.calm && !slot.listed,
@@ -214,12 +191,9 @@ pub fn make_room(bags: &mut Bags, id: usize) -> bool
     ensures room { IsTrue result → 1 ≤ (slot_in bags.new.items id).body.queues.spare }
     ensures same { SameThings (slot_in bags.old.items id).body (slot_in bags.new.items id).body }
     ensures timely { IsTimely (slot_in bags.new.items id).body }
-    ensures slots { (u : ℕ) → slot_in bags.new.items u
-        ≡ (if nat_eq id u
-        then record (slot_in bags.old.items id) { body = (slot_in bags.new.items id).body }
-        else slot_in bags.old.items u) }
-    ensures len { length bags.new.items ≡ length bags.old.items }
-    ensures free { bags.new.free ≡ bags.old.free }
+    ensures sets { SetsSlot id
+        (record (slot_in bags.old.items id) { body = (slot_in bags.new.items id).body })
+        bags.old bags.new }
 {
     match bags.get_mut(id) {
         Some(slot) => room_in(slot),
@@ -252,12 +226,9 @@ pub fn queue(bags: &mut Bags, id: usize, dated: Dated)
     ensures queued { Queues dated (slot_in bags.old.items id).body
         (slot_in bags.new.items id).body }
     ensures timely { IsTimely (slot_in bags.new.items id).body }
-    ensures slots { (u : ℕ) → slot_in bags.new.items u
-        ≡ (if nat_eq id u
-        then record (slot_in bags.old.items id) { body = (slot_in bags.new.items id).body }
-        else slot_in bags.old.items u) }
-    ensures len { length bags.new.items ≡ length bags.old.items }
-    ensures free { bags.new.free ≡ bags.old.free }
+    ensures sets { SetsSlot id
+        (record (slot_in bags.old.items id) { body = (slot_in bags.new.items id).body })
+        bags.old bags.new }
 {
     let slot = bags.slot_mut(id);
     waiting::queue(&mut slot.body, dated);
@@ -270,12 +241,9 @@ pub fn touch(alloc: Global, bags: &mut Bags, id: usize, c: ChunkPos) -> Result<(
         ≡ (slot_in bags.old.items id).touched ++ c ∷ []) }
     ensures err { OnErr result ((slot_in bags.new.items id).touched
         ≡ (slot_in bags.old.items id).touched) }
-    ensures slots { (u : ℕ) → slot_in bags.new.items u
-        ≡ (if nat_eq id u
-        then record (slot_in bags.old.items id) { touched = (slot_in bags.new.items id).touched }
-        else slot_in bags.old.items u) }
-    ensures len { length bags.new.items ≡ length bags.old.items }
-    ensures free { bags.new.free ≡ bags.old.free }
+    ensures sets { SetsSlot id
+        (record (slot_in bags.old.items id) { touched = (slot_in bags.new.items id).touched })
+        bags.old bags.new }
 {
     let slot = bags.slot_mut(id);
     let mut touched = mem::replace(&mut slot.touched, Sequence::new(alloc)).into_vec();
@@ -297,13 +265,10 @@ pub fn add(chunks: &mut Vec<ChunkPos>, c: ChunkPos) -> Result<(), AllocError>
 pub fn reopen(alloc: Global, bags: &mut Bags, id: usize) -> Vec<ChunkPos>
     requires { is_open (slot_in bags.old.items id) ≡ true }
     ensures touched { result.items ≡ (slot_in bags.old.items id).touched }
-    ensures slots { (u : ℕ) → slot_in bags.new.items u
-        ≡ (if nat_eq id u then record (slot_in bags.old.items id) {
-          listed = false;
-          touched = [];
-        } else slot_in bags.old.items u) }
-    ensures len { length bags.new.items ≡ length bags.old.items }
-    ensures free { bags.new.free ≡ bags.old.free }
+    ensures sets { SetsSlot id (record (slot_in bags.old.items id) {
+      listed = false;
+      touched = [];
+    }) bags.old bags.new }
 {
     let slot = bags.slot_mut(id);
     slot.listed = false;
@@ -318,13 +283,10 @@ pub fn note_change(bags: &mut Bags, id: usize, c: ChunkPos)
         ≡ (slot_in bags.old.items id).since ++ c ∷ []) }
     ensures unlisted { (slot_in bags.old.items id).listed ≡ false
         → (slot_in bags.new.items id).since ≡ (slot_in bags.old.items id).since }
-    ensures slots { (u : ℕ) → slot_in bags.new.items u
-        ≡ (if nat_eq id u then record (slot_in bags.old.items id) {
-          listed = (slot_in bags.new.items id).listed;
-          since = (slot_in bags.new.items id).since;
-        } else slot_in bags.old.items u) }
-    ensures len { length bags.new.items ≡ length bags.old.items }
-    ensures free { bags.new.free ≡ bags.old.free }
+    ensures sets { SetsSlot id (record (slot_in bags.old.items id) {
+      listed = (slot_in bags.new.items id).listed;
+      since = (slot_in bags.new.items id).since;
+    }) bags.old bags.new }
 {
     let slot = bags.slot_mut(id);
     if slot.listed {
@@ -339,12 +301,9 @@ pub fn next_change(alloc: Global, bags: &mut Bags, id: usize) -> Option<ChunkPos
         ≡ (slot_in bags.new.items id).since ++ last ∷ []) }
     ensures none { IsTrue (is_none result) → (slot_in bags.old.items id).since ≡ [] }
     ensures left { IsTrue (is_none result) → (slot_in bags.new.items id).since ≡ [] }
-    ensures slots { (u : ℕ) → slot_in bags.new.items u
-        ≡ (if nat_eq id u
-        then record (slot_in bags.old.items id) { since = (slot_in bags.new.items id).since }
-        else slot_in bags.old.items u) }
-    ensures len { length bags.new.items ≡ length bags.old.items }
-    ensures free { bags.new.free ≡ bags.old.free }
+    ensures sets { SetsSlot id
+        (record (slot_in bags.old.items id) { since = (slot_in bags.new.items id).since })
+        bags.old bags.new }
 {
     let slot = bags.slot_mut(id);
     let mut since = mem::replace(&mut slot.since, Sequence::new(alloc)).into_vec();
@@ -358,15 +317,12 @@ pub fn count_tick(bags: &mut Bags, id: usize)
     requires open { is_open (slot_in bags.old.items id) ≡ true }
     requires owes { 0 < (slot_in bags.old.items id).body.owed }
     requires early { (slot_in bags.old.items id).body.tick < 2 ^ 62 }
-    ensures slots { (u : ℕ) → slot_in bags.new.items u
-        ≡ (if nat_eq id u then record (slot_in bags.old.items id) {
-          body = record (slot_in bags.old.items id).body {
-            tick = (slot_in bags.old.items id).body.tick + 1;
-            owed = (slot_in bags.old.items id).body.owed - 1;
-          };
-        } else slot_in bags.old.items u) }
-    ensures len { length bags.new.items ≡ length bags.old.items }
-    ensures free { bags.new.free ≡ bags.old.free }
+    ensures sets { SetsSlot id (record (slot_in bags.old.items id) {
+      body = record (slot_in bags.old.items id).body {
+        tick = (slot_in bags.old.items id).body.tick + 1;
+        owed = (slot_in bags.old.items id).body.owed - 1;
+      };
+    }) bags.old bags.new }
 {
     let slot = bags.slot_mut(id);
     slot.body.tick += 1;
@@ -404,18 +360,13 @@ pub fn admit(
     ensures kept { (q : ChunkPos) → is_recorded (slot_in bags.old.items id).list q ≡ true
         → is_recorded (slot_in bags.new.items id).list q ≡ true }
     ensures unlisted { OnErr result ((slot_in bags.new.items id).listed ≡ false) }
-    ensures slots { (u : ℕ) → slot_in bags.new.items u
-        ≡ (if nat_eq id u
-        then record (slot_in bags.old.items id) {
-          listed = (slot_in bags.new.items id).listed;
-          calm = (quiet && (slot_in bags.old.items id).calm);
-          chunks = (slot_in bags.new.items id).list;
-          list = (slot_in bags.new.items id).list;
-          touched = (slot_in bags.new.items id).touched;
-        }
-        else slot_in bags.old.items u) }
-    ensures len { length bags.new.items ≡ length bags.old.items }
-    ensures free { bags.new.free ≡ bags.old.free }
+    ensures sets { SetsSlot id (record (slot_in bags.old.items id) {
+      listed = (slot_in bags.new.items id).listed;
+      calm = (quiet && (slot_in bags.old.items id).calm);
+      chunks = (slot_in bags.new.items id).list;
+      list = (slot_in bags.new.items id).list;
+      touched = (slot_in bags.new.items id).touched;
+    }) bags.old bags.new }
 {
     let slot = bags.slot_mut(id);
     let result = slot.admit(alloc, c, quiet);
@@ -430,14 +381,10 @@ pub fn dismiss(alloc: Global, bags: &mut Bags, id: usize, c: ChunkPos)
     ensures order { IsStrictlySortedBy chunk_cmp (slot_in bags.new.items id).list }
     ensures has { (q : ChunkPos) → is_recorded (slot_in bags.new.items id).list q
         ≡ (is_recorded (slot_in bags.old.items id).list q && not (same_chunk c q)) }
-    ensures slots { (u : ℕ) → slot_in bags.new.items u
-        ≡ (if nat_eq id u
-        then record (slot_in bags.old.items id) {
-          chunks = (slot_in bags.new.items id).list;
-          list = (slot_in bags.new.items id).list;
-        } else slot_in bags.old.items u) }
-    ensures len { length bags.new.items ≡ length bags.old.items }
-    ensures free { bags.new.free ≡ bags.old.free }
+    ensures sets { SetsSlot id (record (slot_in bags.old.items id) {
+      chunks = (slot_in bags.new.items id).list;
+      list = (slot_in bags.new.items id).list;
+    }) bags.old bags.new }
 {
     let slot = bags.slot_mut(id);
     slot.dismiss(alloc, c);
@@ -450,16 +397,12 @@ pub fn take_out(alloc: Global, bags: &mut Bags, id: usize) -> Taken
     ensures list { result.chunks.items ≡ (slot_in bags.old.items id).list }
     ensures left { SameThings no_data (slot_in bags.new.items id).body }
     ensures tasks { (slot_in bags.new.items id).body.queues.tasks ≡ [] }
-    ensures slots { (u : ℕ) → slot_in bags.new.items u
-        ≡ (if nat_eq id u
-        then record (slot_in bags.old.items id) {
-          body = (slot_in bags.new.items id).body;
-          here = false;
-          taken = true;
-          list = [];
-        } else slot_in bags.old.items u) }
-    ensures len { length bags.new.items ≡ length bags.old.items }
-    ensures free { bags.new.free ≡ bags.old.free }
+    ensures sets { SetsSlot id (record (slot_in bags.old.items id) {
+      body = (slot_in bags.new.items id).body;
+      here = false;
+      taken = true;
+      list = [];
+    }) bags.old bags.new }
 {
     let slot = bags.slot_mut(id);
     slot.here = false;
@@ -475,15 +418,12 @@ pub fn take_out(alloc: Global, bags: &mut Bags, id: usize) -> Taken
 /// Puts back what was taken out.
 pub fn put_in(bags: &mut Bags, id: usize, chunks: Vec<ChunkPos>, body: RegionData)
     requires { is_open (slot_in bags.old.items id) ≡ true }
-    ensures slots { (u : ℕ) → slot_in bags.new.items u
-        ≡ (if nat_eq id u then record (slot_in bags.old.items id) {
-          body = body;
-          here = true;
-          taken = false;
-          list = chunks.items;
-        } else slot_in bags.old.items u) }
-    ensures len { length bags.new.items ≡ length bags.old.items }
-    ensures free { bags.new.free ≡ bags.old.free }
+    ensures sets { SetsSlot id (record (slot_in bags.old.items id) {
+      body = body;
+      here = true;
+      taken = false;
+      list = chunks.items;
+    }) bags.old bags.new }
 {
     let slot = bags.slot_mut(id);
     slot.here = true;
@@ -600,12 +540,9 @@ fn pour_out(
       body = from.new.body;
       listed = false;
     } }
-    ensures slots { (u : ℕ) → slot_in bags.new.items u
-        ≡ (if nat_eq to u
-        then record (slot_in bags.old.items to) { body = (slot_in bags.new.items to).body }
-        else slot_in bags.old.items u) }
-    ensures len { length bags.new.items ≡ length bags.old.items }
-    ensures free { bags.new.free ≡ bags.old.free }
+    ensures sets { SetsSlot to
+        (record (slot_in bags.old.items to) { body = (slot_in bags.new.items to).body })
+        bags.old bags.new }
 {
     let result = shift_into(bags, to, chunks, &mut from.body);
     from.listed = false;
@@ -679,11 +616,9 @@ pub fn merge(
 fn dissolve(alloc: Global, bags: &mut Bags, id: usize) -> Vec<ChunkPos>
     requires { is_open (slot_in bags.old.items id) ≡ true }
     ensures list { result.items ≡ (slot_in bags.old.items id).list }
-    ensures slots { (u : ℕ) → slot_in bags.new.items u
-        ≡ (if nat_eq id u then record no_slot { body = (slot_in bags.old.items id).body }
-        else slot_in bags.old.items u) }
-    ensures len { length bags.new.items ≡ length bags.old.items }
-    ensures free { bags.new.free ≡ bags.old.free }
+    ensures sets { SetsSlot id
+        (record no_slot { body = (slot_in bags.old.items id).body })
+        bags.old bags.new }
 {
     let slot = bags.slot_mut(id);
     let list = mem::replace(&mut slot.list, Sequence::new(alloc));
@@ -779,12 +714,9 @@ pub fn shift_out(
     ensures err { OnErr result (SameThings (slot_in bags.old.items id).body
         (slot_in bags.new.items id).body) }
     ensures to_err { OnErr result (SameThings to.old to.new) }
-    ensures slots { (u : ℕ) → slot_in bags.new.items u
-        ≡ (if nat_eq id u
-        then record (slot_in bags.old.items id) { body = (slot_in bags.new.items id).body }
-        else slot_in bags.old.items u) }
-    ensures len { length bags.new.items ≡ length bags.old.items }
-    ensures free { bags.new.free ≡ bags.old.free }
+    ensures sets { SetsSlot id
+        (record (slot_in bags.old.items id) { body = (slot_in bags.new.items id).body })
+        bags.old bags.new }
 {
     let slot = bags.slot_mut(id);
     shift(&mut slot.body, chunks, to)
@@ -814,12 +746,9 @@ pub fn shift_contents_out(
     ensures err { OnErr result (SameThings (slot_in bags.old.items id).body
         (slot_in bags.new.items id).body) }
     ensures to_err { OnErr result (SameThings to.old to.new) }
-    ensures slots { (u : ℕ) → slot_in bags.new.items u
-        ≡ (if nat_eq id u
-        then record (slot_in bags.old.items id) { body = (slot_in bags.new.items id).body }
-        else slot_in bags.old.items u) }
-    ensures len { length bags.new.items ≡ length bags.old.items }
-    ensures free { bags.new.free ≡ bags.old.free }
+    ensures sets { SetsSlot id
+        (record (slot_in bags.old.items id) { body = (slot_in bags.new.items id).body })
+        bags.old bags.new }
 {
     let slot = bags.slot_mut(id);
     shift_contents(&mut slot.body, c, size, to)

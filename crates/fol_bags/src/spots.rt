@@ -3,7 +3,7 @@
 ghost use Rattle.std.specs.Prelude.{◌≡◌, ◌+◌, ◌<◌, ◌≤◌, ◌^◌, ℕ, None, Some, IsTrue, nat_eq, if◌then◌else◌, length, true, vec_len, OnOk, OnErr, [], ◌∷◌};
 ghost use Rattle.std.specs.List.Sorted.{IsStrictlySortedBy};
 ghost use Rattle.fol_chunks.specs.Order.{chunk_cmp};
-ghost use Rattle.fol_bags.specs.Slots.{slot_in, spot_in, is_open};
+ghost use Rattle.fol_bags.specs.Slots.{slot_in, spot_in, is_open, SetsSlot};
 ghost use Rattle.fol_bags.specs.Things.{Key, no_data, things, of_task, of_entity, IsTimely};
 ghost use Rattle.fol_chunks.specs.Contents.{flat_of, is_recorded, size_within};
 ghost use Rattle.fol_data.specs.Rests.{IsInTime, rests_of};
@@ -72,13 +72,10 @@ pub fn shift_to_bag(
         (slot_in bags.new.items id).body) }
     ensures spots { (n : ℕ) → spot_in spots.new.items n
         ≡ (if nat_eq i n then spot_in spots.new.items i else spot_in spots.old.items n) }
-    ensures slots { (u : ℕ) → slot_in bags.new.items u
-        ≡ (if nat_eq id u
-        then record (slot_in bags.old.items id) { body = (slot_in bags.new.items id).body }
-        else slot_in bags.old.items u) }
+    ensures sets { SetsSlot id
+        (record (slot_in bags.old.items id) { body = (slot_in bags.new.items id).body })
+        bags.old bags.new }
     ensures spots_len { vec_len spots.new ≡ vec_len spots.old }
-    ensures len { length bags.new.items ≡ length bags.old.items }
-    ensures free { bags.new.free ≡ bags.old.free }
 {
     let spot = &mut spots[i];
     slots::shift_into(bags, id, chunks, spot)
@@ -110,13 +107,10 @@ pub fn shift_from_bag(
         (spot_in spots.new.items i)) }
     ensures spots { (n : ℕ) → spot_in spots.new.items n
         ≡ (if nat_eq i n then spot_in spots.new.items i else spot_in spots.old.items n) }
-    ensures slots { (u : ℕ) → slot_in bags.new.items u
-        ≡ (if nat_eq id u
-        then record (slot_in bags.old.items id) { body = (slot_in bags.new.items id).body }
-        else slot_in bags.old.items u) }
+    ensures sets { SetsSlot id
+        (record (slot_in bags.old.items id) { body = (slot_in bags.new.items id).body })
+        bags.old bags.new }
     ensures spots_len { vec_len spots.new ≡ vec_len spots.old }
-    ensures len { length bags.new.items ≡ length bags.old.items }
-    ensures free { bags.new.free ≡ bags.old.free }
 {
     let spot = &mut spots[i];
     slots::shift_out(bags, id, chunks, spot)
@@ -152,13 +146,10 @@ pub fn shift_contents_from_bag(
         (spot_in spots.new.items i)) }
     ensures spots { (n : ℕ) → spot_in spots.new.items n
         ≡ (if nat_eq i n then spot_in spots.new.items i else spot_in spots.old.items n) }
-    ensures slots { (u : ℕ) → slot_in bags.new.items u
-        ≡ (if nat_eq id u
-        then record (slot_in bags.old.items id) { body = (slot_in bags.new.items id).body }
-        else slot_in bags.old.items u) }
+    ensures sets { SetsSlot id
+        (record (slot_in bags.old.items id) { body = (slot_in bags.new.items id).body })
+        bags.old bags.new }
     ensures spots_len { vec_len spots.new ≡ vec_len spots.old }
-    ensures len { length bags.new.items ≡ length bags.old.items }
-    ensures free { bags.new.free ≡ bags.old.free }
 {
     let spot = &mut spots[i];
     slots::shift_contents_out(bags, id, c, size, spot)

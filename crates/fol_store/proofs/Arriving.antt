@@ -26,7 +26,7 @@ use Rattle.fol_bags.specs.Things.{Key, of_block, of_entity, of_task, Thing, thin
 use Rattle.fol_store.specs.Stock.{Stock, Where, arriving, in_spot, in_bag, slot, spot, place, column, bag_of}
 use Rattle.fol_store.specs.Sound.{Allows, IsSound}
 use Rattle.fol_store.specs.Steps.{SameMeaning, IsNoted}
-use Rattle.fol_store.proofs.Columns.{Moves}
+use Rattle.fol_store.proofs.Columns.{Moves, or_none}
 use Rattle.fol_store.proofs.Totals.{where_cases}
 use Rattle.fol_bags.proofs.Empty.{things_none, timely_empty}
 use Rattle.fol_store.proofs.Resound.{SameColumns, same_found, same_bag, kept_self, moved_found, moved_sound, MovesSoundly}
@@ -234,15 +234,7 @@ module _ (s : Stock) (xs : List Dated) (d : Dated) (arrivals_are : s.arrivals �
     pub came_in : (old middle last : RegionData) → SameThings old middle → Queues d middle last → things old (of_task d.task.number) ≡ None
         → (k : Key) → things last k ≡ option_or (things old k) (option_filter (is_last k) (arrived s.arrivals k))
     came_in old middle last same came fresh (of_block b) = ap (λ (f : Flat). some_number (f.blocks b)) came.contents ∙ same.things (of_block b) ∙ sym (or_none (things old (of_block b)))
-      where
-        or_none : {X : Type 0} (o : Option X) → option_or o None ≡ o
-        or_none None = refl
-        or_none (Some y) = refl
     came_in old middle last same came fresh (of_entity id) = ap (λ (f : Flat). f.standing id) came.contents ∙ same.things (of_entity id) ∙ sym (or_none (things old (of_entity id)))
-      where
-        or_none : {X : Type 0} (o : Option X) → option_or o None ≡ o
-        or_none None = refl
-        or_none (Some y) = refl
     came_in old middle last same came fresh (of_task n) =
         elim (cases_Bool (nat_eq d.task.number n)) [
           | inl z ↦

@@ -17,7 +17,7 @@ use Rattle.fol_store.specs.Stock.{Stock, flat_of, jobs_of, next_of, bag_of, slot
 use Rattle.fol_store.specs.Sound.{IsSound, IsBag}
 use Rattle.fol_bags.specs.declared.slot.Slot.{Slot}
 use Rattle.fol_bags.specs.Things.{Key, things, IsTimely}
-use Rattle.fol_store.proofs.Resound.{Kept, SameColumns, same_bag, same_unique, same_found}
+use Rattle.fol_store.proofs.Resound.{Kept, SameColumns, kept_self, same_bag, same_unique, same_found}
 use Rattle.fol_store.proofs.Totals.{same_flat, same_jobs}
 use Rattle.fol_bags.proofs.OpenBags.{here_range}
 
@@ -62,7 +62,7 @@ resized s arrivals bags spare slots e f h =
         lies = λ k w x p. h.lies k w x (sym (same k w) ∙ p);
         spot_range = h.spot_range;
         bag_range = h.bag_range;
-        bags = λ id. same_bag s (with_room s s.arrivals s.bags spare slots) id (slot s id) (slot s id) (kept_same (slot s id)) same (λ c q. inl q) (λ o c q. q) (h.bags id);
+        bags = λ id. same_bag s (with_room s s.arrivals s.bags spare slots) id (slot s id) (slot s id) (kept_self (slot s id)) same (λ c q. inl q) (λ o c q. q) (h.bags id);
         spot_times = h.spot_times;
         bag_times = h.bag_times;
         arrival_times = h.arrival_times;
@@ -78,9 +78,6 @@ resized s arrivals bags spare slots e f h =
         same k arriving = refl
         same k (in_spot i) = refl
         same k (in_bag u) = refl
-
-        kept_same : (b : Slot) → Kept b b
-        kept_same b = record { here = refl; taken = refl; chunks = refl; list = refl; touched = refl; listed = λ o. o; calm = λ o. o }
 
 -- a bag that is closed keeps nothing
 pub closed_bag : (s : Stock) (id : ℕ) (b : Slot) → b.here ≡ false → b.taken ≡ false → b.listed ≡ false → b.list ≡ b.chunks → IsBag s id b
@@ -163,9 +160,6 @@ module _ (s : Stock) (bags : List Slot) (spare slots : ℕ) where
           | inl q ↦ let P : ℕ → Type 0 = λ v. IsTimely (slot t v).body in subst P q (let Q : Slot → Type 0 = λ b. IsTimely b.body in subst Q (sym slot_here) timely)
           | inr n ↦ let Q : Slot → Type 0 = λ b. IsTimely b.body in subst Q (sym (slot_other u n)) (h.bag_times u)
         ])
-      where
-        kept_self : (b : Slot) → Kept b b
-        kept_self b = record { here = refl; taken = refl; chunks = refl; list = refl; touched = refl; listed = λ o. o; calm = λ o. o }
 
     pub one_found : IsSound s → ((k : Key) → things d.body k ≡ things (slot s id).body k) → (k : Key) → found t k ≡ found s k
     one_found h same k = same_found s t (one_columns same) h.unique k

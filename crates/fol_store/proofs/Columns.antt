@@ -19,6 +19,10 @@ module _ {X : Type 0} where
   or_none_right None r h = h
   or_none_right (Some y) r h = cc
 
+  pub or_none : (o : Option X) → option_or o None ≡ o
+  or_none None = refl
+  or_none (Some y) = refl
+
   pub filter_some : (p : X → Bool) (o : Option X) (x : X) → option_filter p o ≡ Some x → (o ≡ Some x) × (p x ≡ true)
   filter_some p None x h = cc
   filter_some p (Some y) x h =

@@ -6,6 +6,6 @@ use Rattle.fol_bags.proofs.slots.close.Goals as goal
 
 pub release-requires-clause-list : goal.release-requires-clause-list
 release-requires-clause-list c =
-    let shut : slot_in c.shut.new.bags.items c.args.id ≡ record no_slot { body = (slot_in c.args.bags.now.items c.args.id).body } = c.shut.ensures.slots c.args.id ∙ rw (nat_self c.args.id) refl in
+    let shut : slot_in c.shut.new.bags.items c.args.id ≡ record no_slot { body = (slot_in c.args.bags.now.items c.args.id).body } = c.shut.ensures.sets.slots c.args.id ∙ rw (nat_self c.args.id) refl in
     let P : Slot → Type 0 = λ b. b.taken ≡ false → b.list ≡ b.chunks in
     subst P (sym shut) (λ o. refl)

@@ -37,7 +37,7 @@ admit-requires-clause-order c =
 
 pub unlist-requires : goal.unlist-requires
 unfolding bag_of
-unlist-requires c = first_open c.args.id _ _ _ (c.admit.ensures.slots c.args.id) (rw (← c.self.view_is) at c.requires.here)
+unlist-requires c = first_open c.args.id _ _ _ (c.admit.ensures.sets.slots c.args.id) (rw (← c.self.view_is) at c.requires.here)
 
 with_chunk : (c : goal.In-Ok-set) → Followed (the_view c.self.inside) (with_parts (the_view c.self.inside) c.self.inside.spots.items c.admit.new.bags.items c.set.new.self (vec_capacity c.self.inside.arrivals - vec_len c.self.inside.arrivals) c.admit.new.bags.free) c.args.id (wider (the_view c.self.inside) c.args.id c.args.c)
 unfolding bag_of
@@ -50,7 +50,7 @@ with_chunk c =
     let waiting : IsTrue c.none_waits-quiet.result → (the_view c.self.inside).arrivals ≡ [] = rw (← c.self.view_is) at c.none_waits-quiet.ensures.waiting in
     let bare : IsTrue c.none_waits-quiet.result → (i : ℕ) (k : Key) → c.args.place.spot ≡ Some i → things (spot (the_view c.self.inside) i) k ≡ None = rw (← c.self.view_is) at c.none_waits-quiet.ensures.bare in
     came (the_view c.self.inside) c.admit.new.bags.items c.set.new.self _ _ c.args.id c.args.c d.listed (c.none_waits-quiet.result && (slot (the_view c.self.inside) c.args.id).calm) d.list d.touched
-    c.admit.ensures.slots c.self.invariant (omega arith) (here_range c.self.inside.bags.items c.args.id here) here (omega arith) (omega (arith, c.admit.ensures.len, c.admit.ensures.free))
+    c.admit.ensures.sets.slots c.self.invariant (omega arith) (here_range c.self.inside.bags.items c.args.id here) here (omega arith) (omega (arith, c.admit.ensures.sets.len, c.admit.ensures.sets.free))
     listed c.args.place there c.requires.none c.in-Ok-set.ensures.ok c.in-Ok.ensures.order (λ q. c.in-Ok.ensures.has q ∙ ap (λ l. is_recorded l q || same_chunk c.args.c q) same) (expects (the_view c.self.inside) c.admit.new.bags.items c.set.new.self _ _ c.args.id c.args.c d.listed (c.none_waits-quiet.result && (slot (the_view c.self.inside) c.args.id).calm) d.list d.touched c.none_waits-quiet.result c.self.invariant refl c.in-Ok.ensures.noted waiting (λ t i k e. bare t i k (ap (λ (p : Place). p.spot) there ∙ e)))
 
 without_place : (c : goal.After-unlist) → Followed (the_view c.self.inside) (with_parts (the_view c.self.inside) c.self.inside.spots.items c.unlist.new.bags.items c.set.new.self (vec_capacity c.self.inside.arrivals - vec_len c.self.inside.arrivals) c.unlist.new.bags.free) c.args.id (wider (the_view c.self.inside) c.args.id c.args.c)
@@ -60,8 +60,8 @@ without_place c =
     let d : Slot = slot_in c.admit.new.bags.items c.args.id in
     let same : (slot (the_view c.self.inside) c.args.id).list ≡ (slot (the_view c.self.inside) c.args.id).chunks = listed_here c.args.id (the_view c.self.inside) c.self.invariant here in
     unlisted (the_view c.self.inside) c.unlist.new.bags.items c.set.new.self _ _ c.args.id c.args.c false (c.none_waits-quiet.result && (slot (the_view c.self.inside) c.args.id).calm) d.list d.touched
-    (set_twice c.args.id (slot (the_view c.self.inside)) (slot_in c.admit.new.bags.items) (slot_in c.unlist.new.bags.items) _ (λ (z : Slot). let y : Slot = record z { listed = false } in y) c.admit.ensures.slots c.unlist.ensures.slots)
-    c.self.invariant (omega arith) (here_range c.self.inside.bags.items c.args.id here) here (omega arith) (omega (arith, c.admit.ensures.len, c.admit.ensures.free, c.unlist.ensures.len, c.unlist.ensures.free))
+    (set_twice c.args.id (slot (the_view c.self.inside)) (slot_in c.admit.new.bags.items) (slot_in c.unlist.new.bags.items) _ (λ (z : Slot). let y : Slot = record z { listed = false } in y) c.admit.ensures.sets.slots c.unlist.ensures.sets.slots)
+    c.self.invariant (omega arith) (here_range c.self.inside.bags.items c.args.id here) here (omega arith) (omega (arith, c.admit.ensures.sets.len, c.admit.ensures.sets.free, c.unlist.ensures.sets.len, c.unlist.ensures.sets.free))
     refl c.in-Err-set.ensures.err (λ q r. c.admit.ensures.kept q (ap (λ l. is_recorded l q) same ∙ r))
 
 without_room : (c : goal.In-Err) → Followed (the_view c.self.inside) (with_parts (the_view c.self.inside) c.self.inside.spots.items c.admit.new.bags.items c.self.inside.places (vec_capacity c.self.inside.arrivals - vec_len c.self.inside.arrivals) c.admit.new.bags.free) c.args.id (wider (the_view c.self.inside) c.args.id c.args.c)
@@ -71,7 +71,7 @@ without_room c =
     let d : Slot = slot_in c.admit.new.bags.items c.args.id in
     let same : (slot (the_view c.self.inside) c.args.id).list ≡ (slot (the_view c.self.inside) c.args.id).chunks = listed_here c.args.id (the_view c.self.inside) c.self.invariant here in
     unlisted (the_view c.self.inside) c.admit.new.bags.items c.self.inside.places _ _ c.args.id c.args.c d.listed (c.none_waits-quiet.result && (slot (the_view c.self.inside) c.args.id).calm) d.list d.touched
-    c.admit.ensures.slots c.self.invariant (omega arith) (here_range c.self.inside.bags.items c.args.id here) here (omega arith) (omega (arith, c.admit.ensures.len, c.admit.ensures.free))
+    c.admit.ensures.sets.slots c.self.invariant (omega arith) (here_range c.self.inside.bags.items c.args.id here) here (omega arith) (omega (arith, c.admit.ensures.sets.len, c.admit.ensures.sets.free))
     c.in-Err.ensures.unlisted (λ q. refl) (λ q r. c.admit.ensures.kept q (ap (λ l. is_recorded l q) same ∙ r))
 
 pub invariant_of-self : goal.invariant_of-self

@@ -21,7 +21,7 @@ after c = with_bags (the_view c.self.inside) c.close.new.bags.items (vec_capacit
 step : (c : goal.After-close) → OneStep (the_view c.self.inside) (after c) c.args.id (no_bag)
 step c =
     let long : length c.close.new.bags.items ≡ length c.self.inside.bags.items = omega arith in
-    one_step (the_view c.self.inside) c.close.new.bags.items _ _ c.args.id (let d : Slot = record no_slot { body = (slot_in c.close.new.bags.items c.args.id).body } in d) c.close.ensures.slots (no_bag) c.self.invariant c.close.ensures.things long (c.close.ensures.timely (c.self.invariant.bag_times c.args.id)) (λ columns. closed_bag (after c) c.args.id _ refl refl refl refl) refl
+    one_step (the_view c.self.inside) c.close.new.bags.items _ _ c.args.id (let d : Slot = record no_slot { body = (slot_in c.close.new.bags.items c.args.id).body } in d) c.close.ensures.sets.slots (no_bag) c.self.invariant c.close.ensures.things long (c.close.ensures.timely (c.self.invariant.bag_times c.args.id)) (λ columns. closed_bag (after c) c.args.id _ refl refl refl refl) refl
 
 pub invariant_of-self : goal.invariant_of-self
 invariant_of-self c = (step c).sound

@@ -31,7 +31,7 @@ step c =
     let long : length c.queue.new.bags.items ≡ length c.self.inside.bags.items = omega arith in
     let in_time : All (IsInTime 0) c.pop.new.self.items = all_before (IsInTime 0) c.pop.new.self.items (c.in-Some.dated ∷ []) (subst (All (IsInTime 0)) c.in-Some.ensures.items c.self.invariant.arrival_times) in
     delivered (the_view c.self.inside) c.pop.new.self.items c.in-Some.dated c.queue.new.bags.items (vec_capacity c.pop.new.self - vec_len c.pop.new.self) c.queue.new.bags.free c.args.id r.body c.in-Some.ensures.items
-    c.queue.ensures.slots c.self.invariant c.queue.ensures.queued (home c) (takes c).here c.queue.ensures.timely long in_time (omega (arith, c.in-Some.ensures.len, c.in-Some.ensures.capacity)) (omega (arith, c.queue.ensures.free))
+    c.queue.ensures.sets.slots c.self.invariant c.queue.ensures.queued (home c) (takes c).here c.queue.ensures.timely long in_time (omega (arith, c.in-Some.ensures.len, c.in-Some.ensures.capacity)) (omega (arith, c.queue.ensures.sets.free))
 
 pub invariant_of-self : goal.invariant_of-self
 invariant_of-self c = (step c).sound
@@ -43,4 +43,4 @@ pub returns-clause-bags : goal.returns-clause-bags
 returns-clause-bags c =
     let r = slot_in c.queue.new.bags.items c.args.id in
     rw (← c.self.view_is) (delivered_bags (the_view c.self.inside) c.pop.new.self.items c.in-Some.dated c.queue.new.bags.items (vec_capacity c.pop.new.self - vec_len c.pop.new.self) c.queue.new.bags.free c.args.id r.body c.in-Some.ensures.items
-    c.queue.ensures.slots c.self.invariant c.queue.ensures.queued (home c) (takes c).here)
+    c.queue.ensures.sets.slots c.self.invariant c.queue.ensures.queued (home c) (takes c).here)

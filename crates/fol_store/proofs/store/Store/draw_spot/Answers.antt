@@ -39,7 +39,7 @@ pair c tick owed =
     let target : IsTarget c.args.id (bag_of (the_view c.self.inside) c.args.id).chunks (the_view c.self.inside) = rw (← c.self.view_is) at c.requires.target in
     record {
       each_spot = c.shift_to_bag.ensures.spots;
-      each_bag = c.shift_to_bag.ensures.slots;
+      each_bag = c.shift_to_bag.ensures.sets.slots;
       spots_long = omega arith;
       bags_long = omega arith;
       timely = c.shift_to_bag.ensures.to_timely;
@@ -47,7 +47,7 @@ pair c tick owed =
       tick = tick;
       owed = owed;
       more_spare = omega arith;
-      more_slots = omega (arith, c.shift_to_bag.ensures.len, c.shift_to_bag.ensures.free);
+      more_slots = omega (arith, c.shift_to_bag.ensures.sets.len, c.shift_to_bag.ensures.sets.free);
       at_spot = rw (← c.self.view_is) at c.requires.spot;
       at_bag = rw (← c.self.view_is) at c.requires.home;
       not_taken = here_not_taken c.args.id (the_view c.self.inside) c.self.invariant (target_here c.args.id (bag_of (the_view c.self.inside) c.args.id).chunks (the_view c.self.inside) target);

@@ -34,7 +34,7 @@ moved c =
     into_spot (the_view c.self.inside) c.shift_from_bag.new.spots.items c.shift_from_bag.new.bags.items c.unname.new.self _ _ c.args.i c.args.id c.args.c (slot_in c.shift_from_bag.new.bags.items c.args.id).body (spot_in c.shift_from_bag.new.spots.items c.args.i)
     (record {
       each_spot = c.shift_from_bag.ensures.spots;
-      each_bag = c.shift_from_bag.ensures.slots;
+      each_bag = c.shift_from_bag.ensures.sets.slots;
       spots_long = omega arith;
       bags_long = omega arith;
       timely = c.shift_from_bag.ensures.timely;
@@ -42,7 +42,7 @@ moved c =
       tick = c.in-Ok.ensures.loses.tick;
       owed = c.in-Ok.ensures.loses.owed;
       more_spare = omega arith;
-      more_slots = omega (arith, c.shift_from_bag.ensures.len, c.shift_from_bag.ensures.free);
+      more_slots = omega (arith, c.shift_from_bag.ensures.sets.len, c.shift_from_bag.ensures.sets.free);
       at_spot = rw (← c.self.view_is) at c.requires.spot;
       at_bag = rw (← c.self.view_is) at c.requires.home;
       not_taken = here_not_taken c.args.id (the_view c.self.inside) c.self.invariant here;
@@ -55,7 +55,7 @@ stayed c =
     from_spot (the_view c.self.inside) c.shift_from_bag.new.spots.items c.shift_from_bag.new.bags.items c.self.inside.places _ _ c.args.i c.args.id c.args.c (slot_in c.shift_from_bag.new.bags.items c.args.id).body (spot_in c.shift_from_bag.new.spots.items c.args.i)
     (record {
       each_spot = c.shift_from_bag.ensures.spots;
-      each_bag = c.shift_from_bag.ensures.slots;
+      each_bag = c.shift_from_bag.ensures.sets.slots;
       spots_long = omega arith;
       bags_long = omega arith;
       timely = c.shift_from_bag.ensures.timely;
@@ -63,7 +63,7 @@ stayed c =
       tick = c.in-Err.ensures.err.tick;
       owed = c.in-Err.ensures.err.owed;
       more_spare = omega arith;
-      more_slots = omega (arith, c.shift_from_bag.ensures.len, c.shift_from_bag.ensures.free);
+      more_slots = omega (arith, c.shift_from_bag.ensures.sets.len, c.shift_from_bag.ensures.sets.free);
       at_spot = rw (← c.self.view_is) at c.requires.spot;
       at_bag = rw (← c.self.view_is) at c.requires.home;
       not_taken = here_not_taken c.args.id (the_view c.self.inside) c.self.invariant here;

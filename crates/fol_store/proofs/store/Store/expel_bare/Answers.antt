@@ -35,10 +35,10 @@ left c =
     let here : (slot s c.args.id).here ≡ true = rw (← c.self.view_is) at c.requires.here in
     left_bare s c.dismiss.new.bags.items c.unname.new.self _ _ c.args.id c.args.c (slot_in c.dismiss.new.bags.items c.args.id).list
     (record {
-      each_bag = c.dismiss.ensures.slots;
-      long = c.dismiss.ensures.len;
+      each_bag = c.dismiss.ensures.sets.slots;
+      long = c.dismiss.ensures.sets.len;
       more_spare = omega arith;
-      more_slots = omega (arith, c.dismiss.ensures.len, c.dismiss.ensures.free);
+      more_slots = omega (arith, c.dismiss.ensures.sets.len, c.dismiss.ensures.sets.free);
       unnamed = record { homes = c.unname.ensures; at_bag = rw (← c.self.view_is) at c.requires.home };
       here = here;
       order = c.dismiss.ensures.order;
@@ -50,7 +50,7 @@ left c =
 left_calm : (c : goal.After-dismiss) → (slot_in c.dismiss.new.bags.items c.args.id).calm ≡ (slot (the_view c.self.inside) c.args.id).calm
 left_calm c =
     let d : Slot = slot_in c.dismiss.new.bags.items c.args.id in
-    let mine : d ≡ record (slot (the_view c.self.inside) c.args.id) { chunks = d.list; list = d.list } = c.dismiss.ensures.slots c.args.id ∙ rw (nat_self c.args.id) refl in
+    let mine : d ≡ record (slot (the_view c.self.inside) c.args.id) { chunks = d.list; list = d.list } = c.dismiss.ensures.sets.slots c.args.id ∙ rw (nat_self c.args.id) refl in
     ap (λ (b : Slot). b.calm) mine
 
 pub invariant_of-self : goal.invariant_of-self

@@ -36,13 +36,13 @@ shift_contents_from_bag-requires-clause-apart c = λ k x y p q.
 
 pub dismiss-requires-clause-open : goal.dismiss-requires-clause-open
 unfolding bag_of
-dismiss-requires-clause-open c = first_open c.args.id _ _ _ (c.shift_contents_from_bag.ensures.slots c.args.id) (rw (← c.self.view_is) at c.requires.here)
+dismiss-requires-clause-open c = first_open c.args.id _ _ _ (c.shift_contents_from_bag.ensures.sets.slots c.args.id) (rw (← c.self.view_is) at c.requires.here)
 
 pub dismiss-requires-clause-order : goal.dismiss-requires-clause-order
 unfolding bag_of
 dismiss-requires-clause-order c =
     let order : IsStrictlySortedBy chunk_cmp (slot (the_view c.self.inside) c.args.id).chunks = rw (← c.self.view_is) at c.requires.order in
-    let mine : slot_in c.shift_contents_from_bag.new.bags.items c.args.id ≡ record (slot (the_view c.self.inside) c.args.id) { body = (slot_in c.shift_contents_from_bag.new.bags.items c.args.id).body } = c.shift_contents_from_bag.ensures.slots c.args.id ∙ rw (nat_self c.args.id) refl in
+    let mine : slot_in c.shift_contents_from_bag.new.bags.items c.args.id ≡ record (slot (the_view c.self.inside) c.args.id) { body = (slot_in c.shift_contents_from_bag.new.bags.items c.args.id).body } = c.shift_contents_from_bag.ensures.sets.slots c.args.id ∙ rw (nat_self c.args.id) refl in
     let here : (slot (the_view c.self.inside) c.args.id).here ≡ true = rw (← c.self.view_is) at c.requires.here in
     let P : List ChunkPos → Type 0 = λ xs. IsStrictlySortedBy chunk_cmp xs in
     subst P (sym (ap (λ (z : Slot). z.list) mine ∙ listed_here c.args.id (the_view c.self.inside) c.self.invariant here)) order
@@ -54,17 +54,17 @@ moved c =
     let here : (slot s c.args.id).here ≡ true = rw (← c.self.view_is) at c.requires.here in
     let between : Slot = slot_in c.shift_contents_from_bag.new.bags.items c.args.id in
     let d : Slot = slot_in c.dismiss.new.bags.items c.args.id in
-    let mine : between ≡ record (slot s c.args.id) { body = between.body } = c.shift_contents_from_bag.ensures.slots c.args.id ∙ rw (nat_self c.args.id) refl in
+    let mine : between ≡ record (slot s c.args.id) { body = between.body } = c.shift_contents_from_bag.ensures.sets.slots c.args.id ∙ rw (nat_self c.args.id) refl in
     left_one s c.shift_contents_from_bag.new.spots.items c.dismiss.new.bags.items c.unname.new.self _ _ c.args.i c.args.id c.args.c between.body (spot_in c.shift_contents_from_bag.new.spots.items c.args.i) d.list
     (record {
       each_spot = c.shift_contents_from_bag.ensures.spots;
-      each_bag = set_twice c.args.id (slot s) (slot_in c.shift_contents_from_bag.new.bags.items) (slot_in c.dismiss.new.bags.items) _ (λ (z : Slot). let y : Slot = record z { chunks = d.list; list = d.list } in y) c.shift_contents_from_bag.ensures.slots c.dismiss.ensures.slots;
+      each_bag = set_twice c.args.id (slot s) (slot_in c.shift_contents_from_bag.new.bags.items) (slot_in c.dismiss.new.bags.items) _ (λ (z : Slot). let y : Slot = record z { chunks = d.list; list = d.list } in y) c.shift_contents_from_bag.ensures.sets.slots c.dismiss.ensures.sets.slots;
       spots_long = omega arith;
       bags_long = omega arith;
       timely = c.shift_contents_from_bag.ensures.timely;
       spot_timely = c.shift_contents_from_bag.ensures.to_timely;
       more_spare = omega arith;
-      more_slots = omega (arith, c.shift_contents_from_bag.ensures.len, c.shift_contents_from_bag.ensures.free, c.dismiss.ensures.len, c.dismiss.ensures.free);
+      more_slots = omega (arith, c.shift_contents_from_bag.ensures.sets.len, c.shift_contents_from_bag.ensures.sets.free, c.dismiss.ensures.sets.len, c.dismiss.ensures.sets.free);
       at_spot = rw (← c.self.view_is) at c.requires.spot;
       at_bag = rw (← c.self.view_is) at c.requires.home;
       homes = c.unname.ensures;
@@ -84,7 +84,7 @@ stayed c =
     from_spot (the_view c.self.inside) c.shift_contents_from_bag.new.spots.items c.shift_contents_from_bag.new.bags.items c.self.inside.places _ _ c.args.i c.args.id c.args.c (slot_in c.shift_contents_from_bag.new.bags.items c.args.id).body (spot_in c.shift_contents_from_bag.new.spots.items c.args.i)
     (record {
       each_spot = c.shift_contents_from_bag.ensures.spots;
-      each_bag = c.shift_contents_from_bag.ensures.slots;
+      each_bag = c.shift_contents_from_bag.ensures.sets.slots;
       spots_long = omega arith;
       bags_long = omega arith;
       timely = c.shift_contents_from_bag.ensures.timely;
@@ -92,7 +92,7 @@ stayed c =
       tick = c.in_err-shift_contents_from_bag.ensures.err.tick;
       owed = c.in_err-shift_contents_from_bag.ensures.err.owed;
       more_spare = omega arith;
-      more_slots = omega (arith, c.shift_contents_from_bag.ensures.len, c.shift_contents_from_bag.ensures.free);
+      more_slots = omega (arith, c.shift_contents_from_bag.ensures.sets.len, c.shift_contents_from_bag.ensures.sets.free);
       at_spot = rw (← c.self.view_is) at c.requires.spot;
       at_bag = rw (← c.self.view_is) at c.requires.home;
       not_taken = here_not_taken c.args.id (the_view c.self.inside) c.self.invariant here;
@@ -125,6 +125,6 @@ unfolding bag_of
 returns-clause-calm c =
     let between : Slot = slot_in c.shift_contents_from_bag.new.bags.items c.args.id in
     let d : Slot = slot_in c.dismiss.new.bags.items c.args.id in
-    let mine : between ≡ record (slot (the_view c.self.inside) c.args.id) { body = between.body } = c.shift_contents_from_bag.ensures.slots c.args.id ∙ rw (nat_self c.args.id) refl in
-    let last : d ≡ record between { chunks = d.list; list = d.list } = c.dismiss.ensures.slots c.args.id ∙ rw (nat_self c.args.id) refl in
+    let mine : between ≡ record (slot (the_view c.self.inside) c.args.id) { body = between.body } = c.shift_contents_from_bag.ensures.sets.slots c.args.id ∙ rw (nat_self c.args.id) refl in
+    let last : d ≡ record between { chunks = d.list; list = d.list } = c.dismiss.ensures.sets.slots c.args.id ∙ rw (nat_self c.args.id) refl in
     rw (← c.self.view_is) (ap (λ (z : Slot). z.calm) last ∙ ap (λ (z : Slot). z.calm) mine)

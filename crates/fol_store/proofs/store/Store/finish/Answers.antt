@@ -21,8 +21,8 @@ unfolding bag_of
 step c =
     let here : (slot (the_view c.self.inside) c.args.id).here ≡ true = rw (← c.self.view_is) at c.requires.here in
     let gathered : (q : ChunkPos) → is_recorded (slot (the_view c.self.inside) c.args.id).chunks q ≡ true → IsGathered (the_view c.self.inside) c.args.id q = rw (← c.self.view_is) at c.requires.gathered in
-    now_whole (the_view c.self.inside) c.finish.new.bags.items _ _ c.args.id [] c.finish.ensures.slots here
-    gathered (omega arith) (omega arith) (omega (arith, c.finish.ensures.len, c.finish.ensures.free)) c.self.invariant
+    now_whole (the_view c.self.inside) c.finish.new.bags.items _ _ c.args.id [] c.finish.ensures.sets.slots here
+    gathered (omega arith) (omega arith) (omega (arith, c.finish.ensures.sets.len, c.finish.ensures.sets.free)) c.self.invariant
 
 pub invariant_of-self : goal.invariant_of-self
 invariant_of-self c = (step c).sound

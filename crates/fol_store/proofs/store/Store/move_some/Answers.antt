@@ -43,12 +43,12 @@ moved c =
             (let b : Slot = record (slot s c.args.to) { body = (slot_in c.shift_bags.new.bags.items c.args.to).body } in b)
             (slot_in c.shift_bags.new.bags.items) (slot_in c.list.new.bags.items)
             (λ (x : Slot). let b : Slot = record x { listed = true; calm = false; chunks = c.args.lists.chunks.items; list = c.args.lists.chunks.items; touched = c.args.lists.touched.items } in b)
-            c.requires.differ c.shift_bags.ensures.slots c.list.ensures.slots;
+            c.requires.differ c.shift_bags.ensures.slots c.list.ensures.sets.slots;
         loses = rw c.deref.ensures.value at c.in-Ok.ensures.loses;
         gains = rw c.deref.ensures.value at c.in-Ok.ensures.gains;
         homes = λ q. c.rehome.ensures q ∙ ap (λ (l : List ChunkPos). rehomed l c.args.from c.args.to q (place s q)) c.deref-in-Ok.ensures.value;
         apart = c.requires.differ;
-        long = omega (arith, c.shift_bags.ensures.len, c.list.ensures.len);
+        long = omega (arith, c.shift_bags.ensures.len, c.list.ensures.sets.len);
         there = here_range c.self.inside.bags.items c.args.to p.id_here;
         timely = c.shift_bags.ensures.timely;
         to_timely = c.shift_bags.ensures.to_timely;
@@ -57,7 +57,7 @@ moved c =
       homes = rw (← c.self.view_is) at c.requires.homes;
       touched_are = rw (← c.self.view_is) at c.requires.touched;
       more_spare = omega arith;
-      more_slots = omega (arith, c.shift_bags.ensures.len, c.shift_bags.ensures.free, c.list.ensures.len, c.list.ensures.free);
+      more_slots = omega (arith, c.shift_bags.ensures.len, c.shift_bags.ensures.free, c.list.ensures.sets.len, c.list.ensures.sets.free);
     })
     c.self.invariant
 

@@ -28,8 +28,8 @@ popped_bag c = record (bag_of (the_view c.self.inside) c.args.id) { since = (slo
 step : (c : goal.After-next_change) → OneStep (the_view c.self.inside) (after c) c.args.id (popped_bag c)
 step c =
     let long : length c.next_change.new.bags.items ≡ length c.self.inside.bags.items = omega arith in
-    one_step (the_view c.self.inside) c.next_change.new.bags.items _ _ c.args.id (popped c) c.next_change.ensures.slots (popped_bag c) c.self.invariant (λ k. refl) long (c.self.invariant.bag_times c.args.id)
-    (λ columns. one_kept (the_view c.self.inside) c.next_change.new.bags.items _ _ c.args.id (popped c) c.next_change.ensures.slots c.self.invariant (record { here = refl; taken = refl; chunks = refl; list = refl; touched = refl; listed = λ o. o; calm = λ o. o }) columns)
+    one_step (the_view c.self.inside) c.next_change.new.bags.items _ _ c.args.id (popped c) c.next_change.ensures.sets.slots (popped_bag c) c.self.invariant (λ k. refl) long (c.self.invariant.bag_times c.args.id)
+    (λ columns. one_kept (the_view c.self.inside) c.next_change.new.bags.items _ _ c.args.id (popped c) c.next_change.ensures.sets.slots c.self.invariant (record { here = refl; taken = refl; chunks = refl; list = refl; touched = refl; listed = λ o. o; calm = λ o. o }) columns)
     (ap (λ (b : Bag). let q : Bag = record b { since = (slot_in c.next_change.new.bags.items c.args.id).since } in q) (sym (bag_slot (the_view c.self.inside) c.args.id)))
 
 pub invariant_of-self : goal.invariant_of-self

@@ -28,8 +28,8 @@ marked_bag c = record (bag_of (the_view c.self.inside) c.args.id) { listed = (sl
 step : (c : goal.After-note_change) → OneStep (the_view c.self.inside) (after c) c.args.id (marked_bag c)
 step c =
     let long : length c.note_change.new.bags.items ≡ length c.self.inside.bags.items = omega arith in
-    one_step (the_view c.self.inside) c.note_change.new.bags.items _ _ c.args.id (marked c) c.note_change.ensures.slots (marked_bag c) c.self.invariant (λ k. refl) long (c.self.invariant.bag_times c.args.id)
-    (λ columns. one_kept (the_view c.self.inside) c.note_change.new.bags.items _ _ c.args.id (marked c) c.note_change.ensures.slots c.self.invariant (record { here = refl; taken = refl; chunks = refl; list = refl; touched = refl; listed = λ o. (c.note_change.ensures.noted o).0; calm = λ o. o }) columns)
+    one_step (the_view c.self.inside) c.note_change.new.bags.items _ _ c.args.id (marked c) c.note_change.ensures.sets.slots (marked_bag c) c.self.invariant (λ k. refl) long (c.self.invariant.bag_times c.args.id)
+    (λ columns. one_kept (the_view c.self.inside) c.note_change.new.bags.items _ _ c.args.id (marked c) c.note_change.ensures.sets.slots c.self.invariant (record { here = refl; taken = refl; chunks = refl; list = refl; touched = refl; listed = λ o. (c.note_change.ensures.noted o).0; calm = λ o. o }) columns)
     (ap (λ (b : Bag). let q : Bag = record b { listed = (slot_in c.note_change.new.bags.items c.args.id).listed; since = (slot_in c.note_change.new.bags.items c.args.id).since } in q) (sym (bag_slot (the_view c.self.inside) c.args.id)))
 
 pub invariant_of-self : goal.invariant_of-self

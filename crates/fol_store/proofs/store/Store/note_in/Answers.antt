@@ -29,8 +29,8 @@ stirred c = sym c.is_stirred.ensures ∙ c.if-is_stirred.true
 
 step : (c : goal.After-touch) → Spotted (the_view c.self.inside) (with_bags (the_view c.self.inside) c.touch.new.bags.items (vec_capacity c.self.inside.arrivals - vec_len c.self.inside.arrivals) c.touch.new.bags.free)
 step c =
-    marked_step (the_view c.self.inside) c.touch.new.bags.items _ _ c.args.id (slot_in c.touch.new.bags.items c.args.id).touched c.touch.ensures.slots more
-    (λ l m. absurd (not_both l m (stirred c))) (omega arith) (omega arith) (omega (arith, c.touch.ensures.len, c.touch.ensures.free)) c.self.invariant
+    marked_step (the_view c.self.inside) c.touch.new.bags.items _ _ c.args.id (slot_in c.touch.new.bags.items c.args.id).touched c.touch.ensures.sets.slots more
+    (λ l m. absurd (not_both l m (stirred c))) (omega arith) (omega arith) (omega (arith, c.touch.ensures.sets.len, c.touch.ensures.sets.free)) c.self.invariant
   where
     not_both : (slot (the_view c.self.inside) c.args.id).listed ≡ true → (slot (the_view c.self.inside) c.args.id).calm ≡ true → ((slot (the_view c.self.inside) c.args.id).listed && not (slot (the_view c.self.inside) c.args.id).calm) ≡ true → ⊥
     not_both l m h = let z : false ≡ true = rw (l, m) at h in cc
@@ -58,7 +58,7 @@ pub returns-then-is_stirred-clause-noted : goal.returns-then-is_stirred-clause-n
 returns-then-is_stirred-clause-noted c =
     let home : (place (the_view c.self.inside) c.args.c).bag ≡ Some c.args.id = rw (← c.self.view_is) at c.requires in
     on_ok c.touch.result _ _ c.touch.ensures.noted
-    (λ e. marked_is (the_view c.self.inside) c.touch.new.bags.items (vec_capacity c.self.inside.arrivals - vec_len c.self.inside.arrivals) c.touch.new.bags.free c.args.id (slot_in c.touch.new.bags.items c.args.id).touched c.touch.ensures.slots c.args.c home (rw e (recorded_last (slot (the_view c.self.inside) c.args.id).touched c.args.c)))
+    (λ e. marked_is (the_view c.self.inside) c.touch.new.bags.items (vec_capacity c.self.inside.arrivals - vec_len c.self.inside.arrivals) c.touch.new.bags.free c.args.id (slot_in c.touch.new.bags.items c.args.id).touched c.touch.ensures.sets.slots c.args.c home (rw e (recorded_last (slot (the_view c.self.inside) c.args.id).touched c.args.c)))
 
 pub returns-else-is_stirred-clause-noted : goal.returns-else-is_stirred-clause-noted
 returns-else-is_stirred-clause-noted c =

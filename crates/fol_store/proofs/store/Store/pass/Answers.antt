@@ -60,12 +60,12 @@ early c =
 pub invariant_of-self : goal.invariant_of-self
 invariant_of-self c =
     let long : length c.count_tick.new.bags.items ≡ length c.self.inside.bags.items = omega arith in
-    passed_sound (the_view c.self.inside) c.count_tick.new.bags.items _ _ c.args.id c.count_tick.ensures.slots c.self.invariant long
+    passed_sound (the_view c.self.inside) c.count_tick.new.bags.items _ _ c.args.id c.count_tick.ensures.sets.slots c.self.invariant long
     (passed_timely (the_view c.self.inside) c.count_tick.new.bags.items 0 0 c.args.id (none_due c) c.self.invariant (early c))
 
 pub returns-clause-bags : goal.returns-clause-bags
 returns-clause-bags c =
-    rw (← c.self.view_is) (bags_shown (the_view c.self.inside) c.count_tick.new.bags.items (vec_capacity c.self.inside.arrivals - vec_len c.self.inside.arrivals) c.count_tick.new.bags.free c.args.id (passed (the_view c.self.inside) c.count_tick.new.bags.items 0 0 c.args.id) (next_tick (bag_of (the_view c.self.inside) c.args.id)) c.count_tick.ensures.slots (shown_next (here c)))
+    rw (← c.self.view_is) (bags_shown (the_view c.self.inside) c.count_tick.new.bags.items (vec_capacity c.self.inside.arrivals - vec_len c.self.inside.arrivals) c.count_tick.new.bags.free c.args.id (passed (the_view c.self.inside) c.count_tick.new.bags.items 0 0 c.args.id) (next_tick (bag_of (the_view c.self.inside) c.args.id)) c.count_tick.ensures.sets.slots (shown_next (here c)))
   where
     next_tick : Bag → Bag
     next_tick b = record b { tick = b.tick + 1; owed = b.owed - 1 }
@@ -75,12 +75,12 @@ returns-clause-bags c =
 
 pub returns-clause-contents : goal.returns-clause-contents
 returns-clause-contents c =
-    rw (← c.self.view_is) (passed_contents (the_view c.self.inside) c.count_tick.new.bags.items (vec_capacity c.self.inside.arrivals - vec_len c.self.inside.arrivals) c.count_tick.new.bags.free c.args.id c.count_tick.ensures.slots c.self.invariant (listed c) (calm c))
+    rw (← c.self.view_is) (passed_contents (the_view c.self.inside) c.count_tick.new.bags.items (vec_capacity c.self.inside.arrivals - vec_len c.self.inside.arrivals) c.count_tick.new.bags.free c.args.id c.count_tick.ensures.sets.slots c.self.invariant (listed c) (calm c))
 
 pub returns-clause-tasks : goal.returns-clause-tasks
 unfolding bag_of
 returns-clause-tasks c =
-    rw (← c.self.view_is) (passed_tasks (the_view c.self.inside) c.count_tick.new.bags.items (vec_capacity c.self.inside.arrivals - vec_len c.self.inside.arrivals) c.count_tick.new.bags.free c.args.id c.count_tick.ensures.slots c.self.invariant (listed c) (calm c))
+    rw (← c.self.view_is) (passed_tasks (the_view c.self.inside) c.count_tick.new.bags.items (vec_capacity c.self.inside.arrivals - vec_len c.self.inside.arrivals) c.count_tick.new.bags.free c.args.id c.count_tick.ensures.sets.slots c.self.invariant (listed c) (calm c))
 
 pub returns-clause-later : goal.returns-clause-later
 unfolding bag_of

@@ -36,22 +36,22 @@ pub invariant_of-self : goal.invariant_of-self
 invariant_of-self c =
     let long : length c.queue.new.bags.items ≡ length c.self.inside.bags.items = omega arith in
     let r = slot_in c.queue.new.bags.items c.args.id in
-    queued_sound (the_view c.self.inside) c.queue.new.bags.items _ _ c.args.id r.body c.queue.ensures.slots c.self.invariant (come c) c.queue.ensures.queued (takes c).home (takes c).here (none c) c.queue.ensures.timely long
+    queued_sound (the_view c.self.inside) c.queue.new.bags.items _ _ c.args.id r.body c.queue.ensures.sets.slots c.self.invariant (come c) c.queue.ensures.queued (takes c).home (takes c).here (none c) c.queue.ensures.timely long
 
 pub returns-clause-tasks : goal.returns-clause-tasks
 returns-clause-tasks c =
     let r = slot_in c.queue.new.bags.items c.args.id in
-    rw (← c.self.view_is) (queued_tasks (the_view c.self.inside) c.queue.new.bags.items (vec_capacity c.self.inside.arrivals - vec_len c.self.inside.arrivals) c.queue.new.bags.free c.args.id r.body c.queue.ensures.slots c.self.invariant (come c) c.queue.ensures.queued (takes c).home (takes c).here (none c))
+    rw (← c.self.view_is) (queued_tasks (the_view c.self.inside) c.queue.new.bags.items (vec_capacity c.self.inside.arrivals - vec_len c.self.inside.arrivals) c.queue.new.bags.free c.args.id r.body c.queue.ensures.sets.slots c.self.invariant (come c) c.queue.ensures.queued (takes c).home (takes c).here (none c))
 
 pub returns-clause-contents : goal.returns-clause-contents
 returns-clause-contents c =
     let r = slot_in c.queue.new.bags.items c.args.id in
-    rw (← c.self.view_is) (queued_contents (the_view c.self.inside) c.queue.new.bags.items (vec_capacity c.self.inside.arrivals - vec_len c.self.inside.arrivals) c.queue.new.bags.free c.args.id r.body c.queue.ensures.slots c.self.invariant (come c) c.queue.ensures.queued (takes c).home (takes c).here (none c))
+    rw (← c.self.view_is) (queued_contents (the_view c.self.inside) c.queue.new.bags.items (vec_capacity c.self.inside.arrivals - vec_len c.self.inside.arrivals) c.queue.new.bags.free c.args.id r.body c.queue.ensures.sets.slots c.self.invariant (come c) c.queue.ensures.queued (takes c).home (takes c).here (none c))
 
 pub returns-clause-bags : goal.returns-clause-bags
 returns-clause-bags c =
     let r = slot_in c.queue.new.bags.items c.args.id in
-    rw (← c.self.view_is) (queued_bags (the_view c.self.inside) c.queue.new.bags.items (vec_capacity c.self.inside.arrivals - vec_len c.self.inside.arrivals) c.queue.new.bags.free c.args.id r.body c.queue.ensures.slots c.self.invariant (come c) c.queue.ensures.queued (takes c).home (takes c).here (none c))
+    rw (← c.self.view_is) (queued_bags (the_view c.self.inside) c.queue.new.bags.items (vec_capacity c.self.inside.arrivals - vec_len c.self.inside.arrivals) c.queue.new.bags.free c.args.id r.body c.queue.ensures.sets.slots c.self.invariant (come c) c.queue.ensures.queued (takes c).home (takes c).here (none c))
 
 pub returns-clause-next : goal.returns-clause-next
 unfolding next_of

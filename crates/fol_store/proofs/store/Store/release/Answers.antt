@@ -11,9 +11,9 @@ release-requires-clause-list c = (c.self.invariant.bags c.args.id).list
 
 step : (c : goal.After-release) → Released (the_view c.self.inside) (with_bags (the_view c.self.inside) c.release.new.self.items (vec_capacity c.self.inside.arrivals - vec_len c.self.inside.arrivals) c.release.new.self.free)
 step c =
-    let long : length c.release.new.self.items ≡ length c.self.inside.bags.items = c.release.ensures.len in
-    released (the_view c.self.inside) c.release.new.self.items _ _ c.args.id (slot_in c.release.new.self.items c.args.id).body c.release.ensures.slots c.release.ensures.things c.release.ensures.here
-    (c.release.ensures.timely (c.self.invariant.bag_times c.args.id)) long (omega arith) (omega (arith, c.release.ensures.free)) c.self.invariant
+    let long : length c.release.new.self.items ≡ length c.self.inside.bags.items = c.release.ensures.sets.len in
+    released (the_view c.self.inside) c.release.new.self.items _ _ c.args.id (slot_in c.release.new.self.items c.args.id).body c.release.ensures.sets.slots c.release.ensures.things c.release.ensures.here
+    (c.release.ensures.timely (c.self.invariant.bag_times c.args.id)) long (omega arith) (omega (arith, c.release.ensures.sets.free)) c.self.invariant
 
 pub invariant_of-self : goal.invariant_of-self
 invariant_of-self c = (step c).sound

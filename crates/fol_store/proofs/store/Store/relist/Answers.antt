@@ -18,8 +18,8 @@ unfolding bag_of
 step c =
     let here : (slot (the_view c.self.inside) c.args.id).here ≡ true = rw (← c.self.view_is) at c.requires.here in
     let not_listed : (slot (the_view c.self.inside) c.args.id).listed ≡ false = rw (← c.self.view_is) at c.requires.not_listed in
-    relisted (the_view c.self.inside) c.relist.new.bags.items _ _ c.args.id c.args.listed.items c.relist.ensures.slots here not_listed
-    (rw (← c.self.view_is, ← c.requires.listed) at c.requires.gone) (omega arith) (omega arith) (omega (arith, c.relist.ensures.len, c.relist.ensures.free)) c.self.invariant
+    relisted (the_view c.self.inside) c.relist.new.bags.items _ _ c.args.id c.args.listed.items c.relist.ensures.sets.slots here not_listed
+    (rw (← c.self.view_is, ← c.requires.listed) at c.requires.gone) (omega arith) (omega arith) (omega (arith, c.relist.ensures.sets.len, c.relist.ensures.sets.free)) c.self.invariant
 
 pub invariant_of-self : goal.invariant_of-self
 invariant_of-self c = (step c).sound

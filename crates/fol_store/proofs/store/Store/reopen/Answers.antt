@@ -28,7 +28,7 @@ abbrev after : goal.After-reopen → Stock
 after c = with_bags (the_view c.self.inside) c.reopen.new.bags.items (vec_capacity c.self.inside.arrivals - vec_len c.self.inside.arrivals) c.reopen.new.bags.free
 
 step : (c : goal.After-reopen) → Settled (the_view c.self.inside) (after c) c.args.id (let b : Bag = record (bag_of (the_view c.self.inside) c.args.id) { listed = false } in b)
-step c = reopened_step (the_view c.self.inside) c.reopen.new.bags.items _ _ c.args.id c.reopen.ensures.slots (here c) (listed c) c.self.invariant (omega arith) (omega arith) (omega (arith, c.reopen.ensures.len, c.reopen.ensures.free))
+step c = reopened_step (the_view c.self.inside) c.reopen.new.bags.items _ _ c.args.id c.reopen.ensures.sets.slots (here c) (listed c) c.self.invariant (omega arith) (omega arith) (omega (arith, c.reopen.ensures.sets.len, c.reopen.ensures.sets.free))
 
 pub invariant_of-self : goal.invariant_of-self
 invariant_of-self c = (step c).sound
@@ -44,5 +44,5 @@ unfolding bag_of
 returns-clause-reopened c =
     let none : (the_view c.self.inside).arrivals ≡ [] = rw (← c.self.view_is) at c.requires.empty in
     let chunks : (slot (after c) c.args.id).chunks ≡ (slot (the_view c.self.inside) c.args.id).chunks =
-    ap (λ (b : Slot). b.chunks) (slot_here (the_view c.self.inside) c.reopen.new.bags.items (vec_capacity c.self.inside.arrivals - vec_len c.self.inside.arrivals) c.reopen.new.bags.free c.args.id _ c.reopen.ensures.slots) in
-    rw (c.reopen.ensures.touched, chunks) (reopened_is (the_view c.self.inside) c.reopen.new.bags.items _ _ c.args.id c.reopen.ensures.slots (here c) (listed c) c.self.invariant none)
+    ap (λ (b : Slot). b.chunks) (slot_here (the_view c.self.inside) c.reopen.new.bags.items (vec_capacity c.self.inside.arrivals - vec_len c.self.inside.arrivals) c.reopen.new.bags.free c.args.id _ c.reopen.ensures.sets.slots) in
+    rw (c.reopen.ensures.touched, chunks) (reopened_is (the_view c.self.inside) c.reopen.new.bags.items _ _ c.args.id c.reopen.ensures.sets.slots (here c) (listed c) c.self.invariant none)

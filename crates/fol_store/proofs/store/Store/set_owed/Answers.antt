@@ -21,7 +21,7 @@ step : (c : goal.After-set_owed) → OneStep (the_view c.self.inside) (after c) 
 step c =
     let h : (slot (the_view c.self.inside) c.args.id).here ≡ true = sym (ap (λ (b : Bag). b.here) (bag_slot (the_view c.self.inside) c.args.id)) ∙ (rw (← c.self.view_is) at c.requires.here) in
     let long : length c.set_owed.new.bags.items ≡ length c.self.inside.bags.items = omega arith in
-    one_step (the_view c.self.inside) c.set_owed.new.bags.items _ _ c.args.id (let d : Slot = record (slot (the_view c.self.inside) c.args.id) { body = record (slot (the_view c.self.inside) c.args.id).body { owed = c.args.owed } } in d) c.set_owed.ensures.slots (let b : Bag = record (bag_of (the_view c.self.inside) c.args.id) { owed = c.args.owed } in b) c.self.invariant (λ k. refl) long (record { tick = (c.self.invariant.bag_times c.args.id).tick; in_time = (c.self.invariant.bag_times c.args.id).in_time }) (λ columns. one_kept (the_view c.self.inside) c.set_owed.new.bags.items _ _ c.args.id (let d : Slot = record (slot (the_view c.self.inside) c.args.id) { body = record (slot (the_view c.self.inside) c.args.id).body { owed = c.args.owed } } in d) c.set_owed.ensures.slots c.self.invariant (record { here = refl; taken = refl; chunks = refl; list = refl; touched = refl; listed = λ o. o; calm = λ o. o }) columns) (shown_owed h)
+    one_step (the_view c.self.inside) c.set_owed.new.bags.items _ _ c.args.id (let d : Slot = record (slot (the_view c.self.inside) c.args.id) { body = record (slot (the_view c.self.inside) c.args.id).body { owed = c.args.owed } } in d) c.set_owed.ensures.sets.slots (let b : Bag = record (bag_of (the_view c.self.inside) c.args.id) { owed = c.args.owed } in b) c.self.invariant (λ k. refl) long (record { tick = (c.self.invariant.bag_times c.args.id).tick; in_time = (c.self.invariant.bag_times c.args.id).in_time }) (λ columns. one_kept (the_view c.self.inside) c.set_owed.new.bags.items _ _ c.args.id (let d : Slot = record (slot (the_view c.self.inside) c.args.id) { body = record (slot (the_view c.self.inside) c.args.id).body { owed = c.args.owed } } in d) c.set_owed.ensures.sets.slots c.self.invariant (record { here = refl; taken = refl; chunks = refl; list = refl; touched = refl; listed = λ o. o; calm = λ o. o }) columns) (shown_owed h)
   where
     shown_owed : (slot (the_view c.self.inside) c.args.id).here ≡ true → shown (let d : Slot = record (slot (the_view c.self.inside) c.args.id) { body = record (slot (the_view c.self.inside) c.args.id).body { owed = c.args.owed } } in d) ≡ (let b : Bag = record (bag_of (the_view c.self.inside) c.args.id) { owed = c.args.owed } in b)
     shown_owed e = rw (bag_slot (the_view c.self.inside) c.args.id, e) refl

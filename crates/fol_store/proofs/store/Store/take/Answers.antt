@@ -45,7 +45,7 @@ pub invariant_of-self : goal.invariant_of-self
 invariant_of-self c =
     let long : length c.take_out.new.bags.items ≡ length c.self.inside.bags.items = omega arith in
     let small : (rest c).tick ≤ 2 ^ 62 = rw c.take_out.ensures.left.tick (lit≤ tt) in
-    taken_sound (the_view c.self.inside) c.take_out.new.bags.items _ _ c.args.id (rest c) c.take_out.ensures.slots (empty c) c.self.invariant (listed c) (calm c) long (timely_empty (rest c) small c.take_out.ensures.tasks)
+    taken_sound (the_view c.self.inside) c.take_out.new.bags.items _ _ c.args.id (rest c) c.take_out.ensures.sets.slots (empty c) c.self.invariant (listed c) (calm c) long (timely_empty (rest c) small c.take_out.ensures.tasks)
 
 pub returns-clause-chunks : goal.returns-clause-chunks
 returns-clause-chunks c =
@@ -87,16 +87,16 @@ returns-clause-moved_tasks c =
 pub returns-clause-contents : goal.returns-clause-contents
 unfolding bag_of
 returns-clause-contents c =
-    rw (← c.self.view_is) (taken_contents (the_view c.self.inside) c.take_out.new.bags.items (vec_capacity c.self.inside.arrivals - vec_len c.self.inside.arrivals) c.take_out.new.bags.free c.args.id (rest c) c.take_out.ensures.slots (empty c) c.self.invariant (listed c) (calm c))
+    rw (← c.self.view_is) (taken_contents (the_view c.self.inside) c.take_out.new.bags.items (vec_capacity c.self.inside.arrivals - vec_len c.self.inside.arrivals) c.take_out.new.bags.free c.args.id (rest c) c.take_out.ensures.sets.slots (empty c) c.self.invariant (listed c) (calm c))
 
 pub returns-clause-tasks : goal.returns-clause-tasks
 unfolding bag_of
 returns-clause-tasks c =
-    rw (← c.self.view_is) (taken_tasks (the_view c.self.inside) c.take_out.new.bags.items (vec_capacity c.self.inside.arrivals - vec_len c.self.inside.arrivals) c.take_out.new.bags.free c.args.id (rest c) c.take_out.ensures.slots (empty c) c.self.invariant (listed c) (calm c))
+    rw (← c.self.view_is) (taken_tasks (the_view c.self.inside) c.take_out.new.bags.items (vec_capacity c.self.inside.arrivals - vec_len c.self.inside.arrivals) c.take_out.new.bags.free c.args.id (rest c) c.take_out.ensures.sets.slots (empty c) c.self.invariant (listed c) (calm c))
 
 pub returns-clause-bags : goal.returns-clause-bags
 returns-clause-bags c =
-    rw (← c.self.view_is) (bags_shown (the_view c.self.inside) c.take_out.new.bags.items (vec_capacity c.self.inside.arrivals - vec_len c.self.inside.arrivals) c.take_out.new.bags.free c.args.id (emptied (the_view c.self.inside) c.take_out.new.bags.items 0 0 c.args.id (rest c)) (taken_out (bag_of (the_view c.self.inside) c.args.id)) c.take_out.ensures.slots (ap taken_out (sym (bag_slot (the_view c.self.inside) c.args.id))))
+    rw (← c.self.view_is) (bags_shown (the_view c.self.inside) c.take_out.new.bags.items (vec_capacity c.self.inside.arrivals - vec_len c.self.inside.arrivals) c.take_out.new.bags.free c.args.id (emptied (the_view c.self.inside) c.take_out.new.bags.items 0 0 c.args.id (rest c)) (taken_out (bag_of (the_view c.self.inside) c.args.id)) c.take_out.ensures.sets.slots (ap taken_out (sym (bag_slot (the_view c.self.inside) c.args.id))))
 
 pub returns-clause-next : goal.returns-clause-next
 unfolding next_of

@@ -19,7 +19,7 @@ after c = with_bags (the_view c.self.inside) c.unlist.new.bags.items (vec_capaci
 step : (c : goal.After-unlist) → OneStep (the_view c.self.inside) (after c) c.args.id (let b : Bag = record (bag_of (the_view c.self.inside) c.args.id) { listed = false } in b)
 step c =
     let long : length c.unlist.new.bags.items ≡ length c.self.inside.bags.items = omega arith in
-    one_step (the_view c.self.inside) c.unlist.new.bags.items _ _ c.args.id (let d : Slot = record (slot (the_view c.self.inside) c.args.id) { listed = false } in d) c.unlist.ensures.slots (let b : Bag = record (bag_of (the_view c.self.inside) c.args.id) { listed = false } in b) c.self.invariant (λ k. refl) long (c.self.invariant.bag_times c.args.id) (λ columns. one_kept (the_view c.self.inside) c.unlist.new.bags.items _ _ c.args.id (let d : Slot = record (slot (the_view c.self.inside) c.args.id) { listed = false } in d) c.unlist.ensures.slots c.self.invariant (record { here = refl; taken = refl; chunks = refl; list = refl; touched = refl; listed = λ o. (let z : true ≡ false = sym o in cc); calm = λ o. o }) columns) (ap (λ (b : Bag). let q : Bag = record b { listed = false } in q) (sym (bag_slot (the_view c.self.inside) c.args.id)))
+    one_step (the_view c.self.inside) c.unlist.new.bags.items _ _ c.args.id (let d : Slot = record (slot (the_view c.self.inside) c.args.id) { listed = false } in d) c.unlist.ensures.sets.slots (let b : Bag = record (bag_of (the_view c.self.inside) c.args.id) { listed = false } in b) c.self.invariant (λ k. refl) long (c.self.invariant.bag_times c.args.id) (λ columns. one_kept (the_view c.self.inside) c.unlist.new.bags.items _ _ c.args.id (let d : Slot = record (slot (the_view c.self.inside) c.args.id) { listed = false } in d) c.unlist.ensures.sets.slots c.self.invariant (record { here = refl; taken = refl; chunks = refl; list = refl; touched = refl; listed = λ o. (let z : true ≡ false = sym o in cc); calm = λ o. o }) columns) (ap (λ (b : Bag). let q : Bag = record b { listed = false } in q) (sym (bag_slot (the_view c.self.inside) c.args.id)))
 
 pub invariant_of-self : goal.invariant_of-self
 invariant_of-self c = (step c).sound
