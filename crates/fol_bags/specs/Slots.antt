@@ -39,8 +39,18 @@ pub record SetsSlot (id : ℕ) (b : Slot) (old new : BagRows) : Type 0 where
   pub len : length new.items ≡ length old.items
   pub free : new.free ≡ old.free
 
+-- the same of two ids that differ
+pub record SetsTwo (id : ℕ) (b : Slot) (other : ℕ) (d : Slot) (old new : BagRows) : Type 0 where
+  pub slots : (u : ℕ) → slot_in new.items u ≡ (if nat_eq id u then b else (if nat_eq other u then d else slot_in old.items u))
+  pub len : length new.items ≡ length old.items
+  pub free : new.free ≡ old.free
+
 abbrev pub spot_in : List RegionData → ℕ → RegionData
 spot_in spots i = slice_index_or spots i no_data
+
+-- every other spot stays
+abbrev pub ChangesSpot : ℕ → List RegionData → List RegionData → Type 0
+ChangesSpot i old new = (n : ℕ) → spot_in new n ≡ (if nat_eq i n then spot_in new i else spot_in old n)
 
 -- whether the bag is calm after a task came on one of its chunks
 abbrev pub stays_calm : Slot → Bool

@@ -2,7 +2,7 @@
 
 ghost use Rattle.std.specs.Prelude.{◌≡◌, ◌≢◌, IsTrue, IfOk, OnOk, OnErr, None, ◌+◌, ◌-◌, ◌<◌, ◌^◌, ◌≤◌, ◌&&◌, ◌||◌, not, ℕ, nat_eq, if◌then◌else◌, true, false, [], ◌∷◌, ◌++◌, length};
 ghost use Rattle.std.specs.Option.{is_none, ForSome};
-ghost use Rattle.fol_bags.specs.Slots.{no_slot, slot_in, stays_calm, is_open, SetsSlot};
+ghost use Rattle.fol_bags.specs.Slots.{no_slot, slot_in, stays_calm, is_open, SetsSlot, SetsTwo};
 ghost use Rattle.fol_bags.specs.Things.{Key, no_data, things, of_task, IsTimely};
 ghost use Rattle.fol_data.specs.Rests.{IsInTime, rests_of};
 ghost use Rattle.fol_bags.specs.Clear.{HasNoTask};
@@ -457,17 +457,13 @@ pub fn shift_bags(
         (slot_in bags.new.items from).body) }
     ensures to_err { OnErr result (SameThings (slot_in bags.old.items to).body
         (slot_in bags.new.items to).body) }
-    ensures slots { (u : ℕ) → slot_in bags.new.items u
-        ≡ (if nat_eq from u
-        then record (slot_in bags.old.items from) {
+    ensures sets { SetsTwo
+        from (record (slot_in bags.old.items from) {
           body = (slot_in bags.new.items from).body;
           listed = false;
-        }
-        else (if nat_eq to u
-        then record (slot_in bags.old.items to) { body = (slot_in bags.new.items to).body }
-        else slot_in bags.old.items u)) }
-    ensures len { length bags.new.items ≡ length bags.old.items }
-    ensures free { bags.new.free ≡ bags.old.free }
+        })
+        to (record (slot_in bags.old.items to) { body = (slot_in bags.new.items to).body })
+        bags.old bags.new }
 {
     let mut kept = bags.lift(from);
     let result = pour(alloc, &mut kept, chunks, bags, to);
@@ -501,12 +497,9 @@ fn pour(
       body = from.new.body;
       listed = false;
     } }
-    ensures slots { (u : ℕ) → slot_in bags.new.items u
-        ≡ (if nat_eq to u
-        then record (slot_in bags.old.items to) { body = (slot_in bags.new.items to).body }
-        else slot_in bags.old.items u) }
-    ensures len { length bags.new.items ≡ length bags.old.items }
-    ensures free { bags.new.free ≡ bags.old.free }
+    ensures sets { SetsSlot to
+        (record (slot_in bags.old.items to) { body = (slot_in bags.new.items to).body })
+        bags.old bags.new }
 {
     match from.get_mut() {
         Some(slot) => pour_out(alloc, slot, chunks, bags, to),
@@ -631,17 +624,13 @@ pub fn swap_bodies(bags: &mut Bags, from: usize, to: usize)
     requires from_open { is_open (slot_in bags.old.items from) ≡ true }
     requires to_open { is_open (slot_in bags.old.items to) ≡ true }
     requires others { from ≢ to }
-    ensures slots { (u : ℕ) → slot_in bags.new.items u
-        ≡ (if nat_eq from u
-        then record (slot_in bags.old.items from) {
+    ensures sets { SetsTwo
+        from (record (slot_in bags.old.items from) {
           body = (slot_in bags.old.items to).body;
           listed = false;
-        }
-        else (if nat_eq to u
-        then record (slot_in bags.old.items to) { body = (slot_in bags.old.items from).body }
-        else slot_in bags.old.items u)) }
-    ensures len { length bags.new.items ≡ length bags.old.items }
-    ensures free { bags.new.free ≡ bags.old.free }
+        })
+        to (record (slot_in bags.old.items to) { body = (slot_in bags.old.items from).body })
+        bags.old bags.new }
 {
     let mut kept = bags.lift(from);
     match kept.get_mut() {
@@ -683,12 +672,9 @@ pub fn shift_into(
     ensures err { OnErr result (SameThings from.old from.new) }
     ensures to_err { OnErr result (SameThings (slot_in bags.old.items id).body
         (slot_in bags.new.items id).body) }
-    ensures slots { (u : ℕ) → slot_in bags.new.items u
-        ≡ (if nat_eq id u
-        then record (slot_in bags.old.items id) { body = (slot_in bags.new.items id).body }
-        else slot_in bags.old.items u) }
-    ensures len { length bags.new.items ≡ length bags.old.items }
-    ensures free { bags.new.free ≡ bags.old.free }
+    ensures sets { SetsSlot id
+        (record (slot_in bags.old.items id) { body = (slot_in bags.new.items id).body })
+        bags.old bags.new }
 {
     let slot = bags.slot_mut(id);
     shift(from, chunks, &mut slot.body)

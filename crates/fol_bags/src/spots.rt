@@ -3,7 +3,7 @@
 ghost use Rattle.std.specs.Prelude.{◌≡◌, ◌+◌, ◌<◌, ◌≤◌, ◌^◌, ℕ, None, Some, IsTrue, nat_eq, if◌then◌else◌, length, true, vec_len, OnOk, OnErr, [], ◌∷◌};
 ghost use Rattle.std.specs.List.Sorted.{IsStrictlySortedBy};
 ghost use Rattle.fol_chunks.specs.Order.{chunk_cmp};
-ghost use Rattle.fol_bags.specs.Slots.{slot_in, spot_in, is_open, SetsSlot};
+ghost use Rattle.fol_bags.specs.Slots.{slot_in, spot_in, is_open, SetsSlot, ChangesSpot};
 ghost use Rattle.fol_bags.specs.Things.{Key, no_data, things, of_task, of_entity, IsTimely};
 ghost use Rattle.fol_chunks.specs.Contents.{flat_of, is_recorded, size_within};
 ghost use Rattle.fol_data.specs.Rests.{IsInTime, rests_of};
@@ -70,8 +70,7 @@ pub fn shift_to_bag(
         (spot_in spots.new.items i)) }
     ensures to_err { OnErr result (SameThings (slot_in bags.old.items id).body
         (slot_in bags.new.items id).body) }
-    ensures spots { (n : ℕ) → spot_in spots.new.items n
-        ≡ (if nat_eq i n then spot_in spots.new.items i else spot_in spots.old.items n) }
+    ensures spots { ChangesSpot i spots.old.items spots.new.items }
     ensures sets { SetsSlot id
         (record (slot_in bags.old.items id) { body = (slot_in bags.new.items id).body })
         bags.old bags.new }
@@ -105,8 +104,7 @@ pub fn shift_from_bag(
         (slot_in bags.new.items id).body) }
     ensures to_err { OnErr result (SameThings (spot_in spots.old.items i)
         (spot_in spots.new.items i)) }
-    ensures spots { (n : ℕ) → spot_in spots.new.items n
-        ≡ (if nat_eq i n then spot_in spots.new.items i else spot_in spots.old.items n) }
+    ensures spots { ChangesSpot i spots.old.items spots.new.items }
     ensures sets { SetsSlot id
         (record (slot_in bags.old.items id) { body = (slot_in bags.new.items id).body })
         bags.old bags.new }
@@ -144,8 +142,7 @@ pub fn shift_contents_from_bag(
         (slot_in bags.new.items id).body) }
     ensures to_err { OnErr result (SameThings (spot_in spots.old.items i)
         (spot_in spots.new.items i)) }
-    ensures spots { (n : ℕ) → spot_in spots.new.items n
-        ≡ (if nat_eq i n then spot_in spots.new.items i else spot_in spots.old.items n) }
+    ensures spots { ChangesSpot i spots.old.items spots.new.items }
     ensures sets { SetsSlot id
         (record (slot_in bags.old.items id) { body = (slot_in bags.new.items id).body })
         bags.old bags.new }
@@ -162,8 +159,7 @@ pub fn make_room(spots: &mut Vec<RegionData>, i: usize) -> Result<(), AllocError
     ensures same { SameThings (spot_in spots.old.items i) (spot_in spots.new.items i) }
     ensures timely { IsTimely (spot_in spots.new.items i) }
     ensures room { OnOk result (1 ≤ (spot_in spots.new.items i).queues.spare) }
-    ensures spots { (n : ℕ) → spot_in spots.new.items n
-        ≡ (if nat_eq i n then spot_in spots.new.items i else spot_in spots.old.items n) }
+    ensures spots { ChangesSpot i spots.old.items spots.new.items }
     ensures len { vec_len spots.new ≡ vec_len spots.old }
 {
     let spot = &mut spots[i];
@@ -179,8 +175,7 @@ pub fn queue(spots: &mut Vec<RegionData>, i: usize, dated: Dated)
     requires in_time { IsInTime 0 dated }
     ensures queued { Queues dated (spot_in spots.old.items i) (spot_in spots.new.items i) }
     ensures timely { IsTimely (spot_in spots.new.items i) }
-    ensures spots { (n : ℕ) → spot_in spots.new.items n
-        ≡ (if nat_eq i n then spot_in spots.new.items i else spot_in spots.old.items n) }
+    ensures spots { ChangesSpot i spots.old.items spots.new.items }
     ensures len { vec_len spots.new ≡ vec_len spots.old }
 {
     let spot = &mut spots[i];
@@ -201,8 +196,7 @@ pub fn lay_block(
     ensures err { OnErr result (SameThings (spot_in spots.old.items i)
         (spot_in spots.new.items i)) }
     ensures timely { IsTimely (spot_in spots.new.items i) }
-    ensures spots { (n : ℕ) → spot_in spots.new.items n
-        ≡ (if nat_eq i n then spot_in spots.new.items i else spot_in spots.old.items n) }
+    ensures spots { ChangesSpot i spots.old.items spots.new.items }
     ensures len { vec_len spots.new ≡ vec_len spots.old }
 {
     let spot = &mut spots[i];
@@ -249,8 +243,7 @@ pub fn lay_entity(spots: &mut Vec<RegionData>, i: usize, e: Entity) -> Result<()
     ensures err { OnErr result (SameThings (spot_in spots.old.items i)
         (spot_in spots.new.items i)) }
     ensures timely { IsTimely (spot_in spots.new.items i) }
-    ensures spots { (n : ℕ) → spot_in spots.new.items n
-        ≡ (if nat_eq i n then spot_in spots.new.items i else spot_in spots.old.items n) }
+    ensures spots { ChangesSpot i spots.old.items spots.new.items }
     ensures len { vec_len spots.new ≡ vec_len spots.old }
 {
     let spot = &mut spots[i];

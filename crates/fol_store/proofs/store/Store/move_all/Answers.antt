@@ -24,7 +24,7 @@ swap_bodies-requires-clause-to_open c =
 pub list-requires : goal.list-requires
 list-requires c =
     let p = a_pair _ c.args.self.now c.args.from c.args.to c.self.view_is c.requires.here c.requires.unlisted c.requires.fresh c.requires.differ in
-    second_open c.args.from c.args.to _ _ _ _ c.requires.differ (c.swap_bodies.ensures.slots c.args.to) p.id_here
+    second_open c.args.from c.args.to _ _ _ _ c.requires.differ (c.swap_bodies.ensures.sets.slots c.args.to) p.id_here
 
 moved : (c : goal.After-list) → Handed c.args.to c.args.lists.chunks.items (the_view c.self.inside) (with_parts (the_view c.self.inside) c.self.inside.spots.items c.list.new.bags.items c.rehome.new.self (vec_capacity c.self.inside.arrivals - vec_len c.self.inside.arrivals) c.list.new.bags.free)
 moved c =
@@ -39,12 +39,12 @@ moved c =
         each = shift_and_list s c.args.from c.args.to (let b : Slot = record (slot s c.args.from) { body = (slot s c.args.to).body; listed = false } in b) (let b : Slot = record (slot s c.args.to) { body = (slot s c.args.from).body } in b)
             (slot_in c.swap_bodies.new.bags.items) (slot_in c.list.new.bags.items)
             (λ (x : Slot). let b : Slot = record x { listed = true; calm = false; chunks = c.args.lists.chunks.items; list = c.args.lists.chunks.items; touched = c.args.lists.touched.items } in b)
-            c.requires.differ c.swap_bodies.ensures.slots c.list.ensures.sets.slots;
+            c.requires.differ c.swap_bodies.ensures.sets.slots c.list.ensures.sets.slots;
         loses = swap_loses s c.args.from c.args.to c.args.lists.chunks.items c.self.invariant p n all;
         gains = swap_gains s c.args.from c.args.to c.args.lists.chunks.items c.self.invariant p n all;
         homes = λ q. c.rehome.ensures q ∙ ap (λ (l : List ChunkPos). rehomed l c.args.from c.args.to q (place s q)) c.deref.ensures.value;
         apart = c.requires.differ;
-        long = omega (arith, c.swap_bodies.ensures.len, c.list.ensures.sets.len);
+        long = omega (arith, c.swap_bodies.ensures.sets.len, c.list.ensures.sets.len);
         there = here_range c.self.inside.bags.items c.args.to p.id_here;
         timely = c.self.invariant.bag_times c.args.to;
         to_timely = c.self.invariant.bag_times c.args.from;
@@ -53,7 +53,7 @@ moved c =
       homes = rw (← c.self.view_is) at c.requires.homes;
       touched_are = rw (← c.self.view_is) at c.requires.touched;
       more_spare = omega arith;
-      more_slots = omega (arith, c.swap_bodies.ensures.len, c.swap_bodies.ensures.free, c.list.ensures.sets.len, c.list.ensures.sets.free);
+      more_slots = omega (arith, c.swap_bodies.ensures.sets.len, c.swap_bodies.ensures.sets.free, c.list.ensures.sets.len, c.list.ensures.sets.free);
     })
     c.self.invariant
 

@@ -29,7 +29,7 @@ shift_bags-requires-clause-apart c = λ k x y p q.
 pub list-requires : goal.list-requires
 list-requires c =
     let p = a_pair _ c.args.self.now c.args.from c.args.to c.self.view_is c.requires.here c.requires.unlisted c.requires.fresh c.requires.differ in
-    second_open c.args.from c.args.to _ _ _ _ c.requires.differ (c.shift_bags.ensures.slots c.args.to) p.id_here
+    second_open c.args.from c.args.to _ _ _ _ c.requires.differ (c.shift_bags.ensures.sets.slots c.args.to) p.id_here
 
 moved : (c : goal.After-list) → Handed c.args.to c.args.lists.chunks.items (the_view c.self.inside) (with_parts (the_view c.self.inside) c.self.inside.spots.items c.list.new.bags.items c.rehome.new.self (vec_capacity c.self.inside.arrivals - vec_len c.self.inside.arrivals) c.list.new.bags.free)
 moved c =
@@ -43,12 +43,12 @@ moved c =
             (let b : Slot = record (slot s c.args.to) { body = (slot_in c.shift_bags.new.bags.items c.args.to).body } in b)
             (slot_in c.shift_bags.new.bags.items) (slot_in c.list.new.bags.items)
             (λ (x : Slot). let b : Slot = record x { listed = true; calm = false; chunks = c.args.lists.chunks.items; list = c.args.lists.chunks.items; touched = c.args.lists.touched.items } in b)
-            c.requires.differ c.shift_bags.ensures.slots c.list.ensures.sets.slots;
+            c.requires.differ c.shift_bags.ensures.sets.slots c.list.ensures.sets.slots;
         loses = rw c.deref.ensures.value at c.in-Ok.ensures.loses;
         gains = rw c.deref.ensures.value at c.in-Ok.ensures.gains;
         homes = λ q. c.rehome.ensures q ∙ ap (λ (l : List ChunkPos). rehomed l c.args.from c.args.to q (place s q)) c.deref-in-Ok.ensures.value;
         apart = c.requires.differ;
-        long = omega (arith, c.shift_bags.ensures.len, c.list.ensures.sets.len);
+        long = omega (arith, c.shift_bags.ensures.sets.len, c.list.ensures.sets.len);
         there = here_range c.self.inside.bags.items c.args.to p.id_here;
         timely = c.shift_bags.ensures.timely;
         to_timely = c.shift_bags.ensures.to_timely;
@@ -57,7 +57,7 @@ moved c =
       homes = rw (← c.self.view_is) at c.requires.homes;
       touched_are = rw (← c.self.view_is) at c.requires.touched;
       more_spare = omega arith;
-      more_slots = omega (arith, c.shift_bags.ensures.len, c.shift_bags.ensures.free, c.list.ensures.sets.len, c.list.ensures.sets.free);
+      more_slots = omega (arith, c.shift_bags.ensures.sets.len, c.shift_bags.ensures.sets.free, c.list.ensures.sets.len, c.list.ensures.sets.free);
     })
     c.self.invariant
 
@@ -69,19 +69,19 @@ stayed c =
     (slot_in c.shift_bags.new.bags.items c.args.from).body (slot_in c.shift_bags.new.bags.items c.args.to).body
     (record {
       pours = record {
-        each = c.shift_bags.ensures.slots;
+        each = c.shift_bags.ensures.sets.slots;
         loses = loses_none _ _ c.in-Err.ensures.err;
         gains = gains_none _ _ _ c.in-Err.ensures.to_err;
         homes = λ q. refl;
         apart = c.requires.differ;
-        long = omega (arith, c.shift_bags.ensures.len);
+        long = omega (arith, c.shift_bags.ensures.sets.len);
         there = here_range c.self.inside.bags.items c.args.to p.id_here;
         timely = c.shift_bags.ensures.timely;
         to_timely = c.shift_bags.ensures.to_timely;
       };
       pair = p;
       more_spare = omega arith;
-      more_slots = omega (arith, c.shift_bags.ensures.len, c.shift_bags.ensures.free);
+      more_slots = omega (arith, c.shift_bags.ensures.sets.len, c.shift_bags.ensures.sets.free);
     })
     c.self.invariant
 

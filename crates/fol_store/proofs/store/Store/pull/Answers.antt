@@ -29,7 +29,7 @@ moved c =
     drawn_bag (the_view c.self.inside) c.shift_bags.new.bags.items c.rehome.new.self _ _ c.args.from c.args.id c.args.chunks.now (slot_in c.shift_bags.new.bags.items c.args.from).body (slot_in c.shift_bags.new.bags.items c.args.id).body
     (record {
       pours = record {
-        each = c.shift_bags.ensures.slots;
+        each = c.shift_bags.ensures.sets.slots;
         loses = c.in-Ok.ensures.loses;
         gains = c.in-Ok.ensures.gains;
         homes = c.rehome.ensures;
@@ -44,7 +44,7 @@ moved c =
       listed = target_listed c.args.id c.args.chunks.now (the_view c.self.inside) target;
       not_taken = source_not_taken c.args.id c.args.from c.args.chunks.now (the_view c.self.inside) target c.self.invariant c.args.c c.requires.listed named;
       more_spare = omega arith;
-      more_slots = omega (arith, c.shift_bags.ensures.len, c.shift_bags.ensures.free);
+      more_slots = omega (arith, c.shift_bags.ensures.sets.len, c.shift_bags.ensures.sets.free);
     })
     c.self.invariant c.args.chunks.now c.args.c c.requires.listed named
 
@@ -56,7 +56,7 @@ stayed c =
     drawn_bag (the_view c.self.inside) c.shift_bags.new.bags.items c.self.inside.places _ _ c.args.from c.args.id [] (slot_in c.shift_bags.new.bags.items c.args.from).body (slot_in c.shift_bags.new.bags.items c.args.id).body
     (record {
       pours = record {
-        each = c.shift_bags.ensures.slots;
+        each = c.shift_bags.ensures.sets.slots;
         loses = loses_none _ _ c.in-Err.ensures.err;
         gains = gains_none _ _ _ c.in-Err.ensures.to_err;
         homes = λ q. refl;
@@ -71,7 +71,7 @@ stayed c =
       listed = λ q z. (let f : false ≡ true = z in cc);
       not_taken = source_not_taken c.args.id c.args.from c.args.chunks.now (the_view c.self.inside) target c.self.invariant c.args.c c.requires.listed named;
       more_spare = omega arith;
-      more_slots = omega (arith, c.shift_bags.ensures.len, c.shift_bags.ensures.free);
+      more_slots = omega (arith, c.shift_bags.ensures.sets.len, c.shift_bags.ensures.sets.free);
     })
     c.self.invariant c.args.chunks.now c.args.c c.requires.listed named
 
