@@ -572,31 +572,26 @@ pub fn merge(
         (slot_in bags.new.items from).body) }
     ensures into_err { OnErr result (SameThings (slot_in bags.old.items into).body
         (slot_in bags.new.items into).body) }
-    ensures slots { OnOk result ((u : ℕ)
-        → slot_in bags.new.items u ≡ (if nat_eq from u
-        then record no_slot { body = (slot_in bags.new.items from).body }
-        else (if nat_eq into u
-        then record (slot_in bags.old.items into) {
+    ensures sets { OnOk result (SetsTwo
+        from (record no_slot { body = (slot_in bags.new.items from).body })
+        into (record (slot_in bags.old.items into) {
           body = (slot_in bags.new.items into).body;
           listed = true;
           calm = true;
           chunks = chunks.items;
           list = chunks.items;
           touched = [];
-        }
-        else slot_in bags.old.items u))) }
-    ensures slots_err { OnErr result ((u : ℕ)
-        → slot_in bags.new.items u ≡ (if nat_eq from u
-        then record no_slot { body = (slot_in bags.new.items from).body }
-        else (if nat_eq into u
-        then record (slot_in bags.old.items into) {
+        })
+        bags.old bags.new) }
+    ensures sets_err { OnErr result (SetsTwo
+        from (record no_slot { body = (slot_in bags.new.items from).body })
+        into (record (slot_in bags.old.items into) {
           body = (slot_in bags.new.items into).body;
           listed = false;
           chunks = chunks.items;
           list = chunks.items;
-        } else slot_in bags.old.items u))) }
-    ensures len { length bags.new.items ≡ length bags.old.items }
-    ensures free { bags.new.free ≡ bags.old.free }
+        })
+        bags.old bags.new) }
 {
     let moved = dissolve(alloc, bags, from);
     relist(bags, into, chunks);

@@ -44,12 +44,12 @@ moved c =
     (slot_in c.merge.new.bags.items c.args.from).body (slot_in c.merge.new.bags.items c.args.into).body true true c.args.chunks.items []
     (record {
       pours = record {
-        each = c.in-Ok.ensures.slots;
+        each = c.in-Ok.ensures.sets.slots;
         loses = c.in-Ok.ensures.loses;
         gains = c.in-Ok.ensures.gains;
         homes = λ q. c.rehome.ensures q ∙ ap (λ (l : List ChunkPos). rehomed l c.args.from c.args.into q (place (the_view c.self.inside) q)) (c.deref.ensures.value ∙ c.in-Ok.ensures.moved);
         apart = c.requires.differ;
-        long = omega arith;
+        long = omega (arith, c.in-Ok.ensures.sets.len);
         there = here_range c.self.inside.bags.items c.args.into k.id_here;
         timely = c.merge.ensures.timely;
         to_timely = c.merge.ensures.into_timely;
@@ -59,7 +59,7 @@ moved c =
       all = λ o. all;
       none_noted = λ o. refl;
       more_spare = omega arith;
-      more_slots = omega (arith, c.merge.ensures.len, c.merge.ensures.free);
+      more_slots = omega (arith, c.in-Ok.ensures.sets.len, c.in-Ok.ensures.sets.free);
     })
     c.self.invariant
 
@@ -70,12 +70,12 @@ stayed c =
     (slot_in c.merge.new.bags.items c.args.from).body (slot_in c.merge.new.bags.items c.args.into).body false (slot (the_view c.self.inside) c.args.into).calm c.args.chunks.items (slot (the_view c.self.inside) c.args.into).touched
     (record {
       pours = record {
-        each = c.in-Err.ensures.slots_err;
+        each = c.in-Err.ensures.sets_err.slots;
         loses = loses_none _ _ c.in-Err.ensures.err;
         gains = gains_none _ _ _ c.in-Err.ensures.into_err;
         homes = λ q. refl;
         apart = c.requires.differ;
-        long = omega arith;
+        long = omega (arith, c.in-Err.ensures.sets_err.len);
         there = here_range c.self.inside.bags.items c.args.into k.id_here;
         timely = c.merge.ensures.timely;
         to_timely = c.merge.ensures.into_timely;
@@ -85,7 +85,7 @@ stayed c =
       all = λ o. (let z : false ≡ true = o in cc);
       none_noted = λ o. (let z : false ≡ true = o in cc);
       more_spare = omega arith;
-      more_slots = omega (arith, c.merge.ensures.len, c.merge.ensures.free);
+      more_slots = omega (arith, c.in-Err.ensures.sets_err.len, c.in-Err.ensures.sets_err.free);
     })
     c.self.invariant
 
