@@ -17,7 +17,7 @@ use Rattle.fol_model.specs.World.{block_in, standing_in}
 use Rattle.fol_keyed.proofs.Places.{same_chunk-true}
 use Rattle.fol_model.specs.Geometry.{same_chunk, chunk_of}
 use Rattle.fol_model.specs.Job.{is_on}
-use Rattle.fol_chunks.specs.Contents.{is_recorded, size_within, nothing}
+use Rattle.fol_chunks.specs.Contents.{is_recorded, size_within}
 use Rattle.fol_data.specs.Rests.{rests_of}
 use Rattle.fol_data.specs.declared.region_data.RegionData.{RegionData}
 use Rattle.fol_bags.specs.Things.{some_number, Key, of_block, of_entity, of_task, Thing, things, chunk_at}
