@@ -1,6 +1,6 @@
 -- Where no region ticks the store has all that the world has.
-use Rattle.std.proofs.Common.{◌≡◌, ◌≢◌, ℕ, refl, sym, ◌∙◌, true, false, inl, inr, List, not}
-use Rattle.std.specs.Prelude.{nat_eq, map, filter, Option, Some, None}
+use Rattle.std.proofs.Common.{◌≡◌, ◌≢◌, ℕ, refl, sym, ◌∙◌, true, false, inl, inr, not}
+use Rattle.std.specs.Prelude.{nat_eq, map, Option, Some, None}
 use Rattle.std.specs.List.{AllByRecursion, find, list_any}
 use Rattle.std.proofs.Math.Path.{fun_ext}
 use Rattle.std.proofs.lemmas.Bool.{cases_Bool, eqb-false, true≢false}
@@ -19,16 +19,12 @@ use Rattle.fol_laws.proofs.SoundState.{SoundWorld}
 use Rattle.fol_store.specs.Stock.{Stock, flat_of, jobs_of, bag_of}
 use Rattle.fol_core.specs.Hands.{at_rest, in_hands, owner_of, rests, went}
 use Rattle.fol_core.specs.Bags.{StoredIn}
-use Rattle.fol_core.specs.Closings.{HasRow, row_in, ticks_in}
+use Rattle.fol_core.specs.Closings.{HasRow, live_in, row_in, ticks_in}
 use Rattle.fol_core.proofs.Flats.{outside_none}
 use Rattle.fol_core.proofs.HandSteps.{ticker_off}
 use Rattle.fol_core.proofs.KeyedRows.{map_passing, none_passes, passing}
 use Rattle.fol_core.proofs.LeastFound.{holds_of, kept_number}
 use Rattle.fol_core.proofs.UnsettledBags.{not_dead}
-
--- the regions that are not Dead
-abbrev pub live_in : GridState → List ℕ
-live_in g = filter (λ r. not (is_dead (g.state r))) (numbers_below g.next)
 
 pub dead_not : (s : State) → not (is_dead s) ≡ true → s ≢ Dead
 dead_not s h e = let k : false ≡ true = rw e at h in absurd (cc)

@@ -1,6 +1,6 @@
 -- The rows of a closing are those of the world, where no region ticks.
-use Rattle.std.proofs.Common.{◌≡◌, ℕ, sym, ◌∙◌, ap, false, List, not}
-use Rattle.std.specs.Prelude.{All, filter, map, Some, None}
+use Rattle.std.proofs.Common.{◌≡◌, ℕ, refl, sym, ◌∙◌, ap, false, List, not}
+use Rattle.std.specs.Prelude.{All, filter, map, Some, None, Result, Ok, Err, IfOk}
 use Rattle.std.specs.List.{find}
 use Rattle.std.proofs.lemmas.List.Elements.{All-from_recursion}
 use Rattle.fol_model.specs.declared.openings.BlockAt.{BlockAt}
@@ -9,6 +9,8 @@ use Rattle.fol_model.specs.declared.entities.Entity.{Entity}
 use Rattle.fol_model.specs.declared.events.Entry.{Entry}
 use Rattle.fol_model.specs.declared.closings.Closing.{Closing}
 use Rattle.fol_model.specs.declared.closings.EntityRow.{EntityRow}
+use Rattle.fol_model.specs.declared.closings.OwnerRow.{OwnerRow}
+use Rattle.fol_model.specs.declared.closings.RegionRow.{RegionRow}
 use Rattle.fol_model.specs.declared.closings.TaskRow.{TaskRow}
 use Rattle.fol_model.specs.ActionStep.{Flat}
 use Rattle.fol_model.specs.Counting.{some_below}
@@ -24,13 +26,14 @@ use Rattle.fol_laws.proofs.WholeRuns.{Good, good_start}
 use Rattle.fol_regions.specs.Table.{grid_state}
 use Rattle.fol_store.specs.Stock.{bag_of, flat_of, jobs_of}
 use Rattle.fol_core.specs.declared.tables.Tables.{Tables}
-use Rattle.fol_core.specs.declared.answers.CloseFault.TheVariants.{Ticking}
+use Rattle.fol_core.specs.declared.answers.CloseFault.{CloseFault}
+use Rattle.fol_core.specs.declared.answers.CloseFault.TheVariants.{NoMemory, Ticking}
 use Rattle.fol_core.specs.Answers.{Faults, is_ticking_in}
-use Rattle.fol_core.specs.Closings.{ArePlaces, AreRows, AreThings, HasRow, owners_in, row_in, ticks_in}
+use Rattle.fol_core.specs.Closings.{FindsTicking, ArePlaces, AreRows, AreThings, HasRow, live_in, owners_in, row_in, ticks_in}
 use Rattle.fol_core.specs.Hands.{since}
 use Rattle.fol_core.specs.Stands.{Stands}
 use Rattle.fol_core.proofs.BlockRuns.{BlocksWithin, blocks_within, first_within}
-use Rattle.fol_core.proofs.CalmStore.{all_flat, all_jobs, calm, have_rows, live_in, rows_of_bags, ticking_lives}
+use Rattle.fol_core.proofs.CalmStore.{all_flat, all_jobs, calm, have_rows, rows_of_bags, ticking_lives}
 use Rattle.fol_core.proofs.EntityRows.{are_places, entity_rows_are, few_ids}
 use Rattle.fol_core.proofs.OwnerRows.{owners_stand}
 use Rattle.fol_core.proofs.LeastFound.{first_below, first_found, first_none, first_some}
@@ -104,3 +107,15 @@ module _ (o : Opening) (h : List Entry) (t : Tables) (s : Stands o h t) (live : 
         entities = entities_right c.blocks c.entities c.tasks are;
         blocks = blocks_right c.blocks c.entities c.tasks are;
       }
+
+      -- where they could be made
+      pub closed_if : (r : Result Closing CloseFault) (regions : List RegionRow) (owners : List OwnerRow) → regions ≡ map (row_in (grid_state t.regions) (bag_of t.store)) live → owners ≡ owners_in (grid_state t.regions)
+          → IfOk r (λ c. c.opening ≡ o) → IfOk r (λ c. c.history ≡ h) → IfOk r (λ c. c.regions ≡ regions) → IfOk r (λ c. c.owners ≡ owners) → IfOk r (λ c. AreThings t.store c.blocks c.entities c.tasks)
+          → IfOk r (λ c. Outputs o h c)
+      closed_if (Ok c) regions owners each owned opening history region owner are = closed c opening history (region ∙ each) (owner ∙ owned) are
+      closed_if (Err e) regions owners each owned opening history region owner are = tt
+
+-- what was found where a region ticks is the fault of the world
+pub found_fault : (o : Opening) (h : List Entry) (t : Tables) (s : Stands o h t) (f : CloseFault) → FindsTicking (grid_state t.regions) f → Faults (world o h) f
+found_fault o h t s (Ticking r) e = ticking_fault o h t s (live_in (grid_state t.regions)) refl r e
+found_fault o h t s NoMemory e = tt

@@ -1,5 +1,5 @@
 -- A gathering leaves what the tables stand for.
-use Rattle.std.proofs.Common.{◌≡◌, ℕ, refl, sym, ◌∙◌, ap, subst, true, false, inl, inr, List, filter}
+use Rattle.std.proofs.Common.{◌≡◌, ◌≢◌, ℕ, refl, sym, ◌∙◌, ap, subst, true, false, inl, inr, List, filter}
 use Rattle.std.specs.Prelude.{nat_lt, Result, Ok, Err, OnOk, OnErr}
 use Rattle.std.proofs.lemmas.Bool.{and_parts, cases_eq, true≢false, false_from_ne_true}
 use Rattle.fol_model.specs.declared.regions.State.{State}
@@ -17,12 +17,14 @@ use Rattle.fol_model.specs.Run.{world}
 use Rattle.fol_laws.proofs.AddTarget.{is_ticking-true}
 use Rattle.fol_laws.proofs.UnseenEnds.{recorded_owner}
 use Rattle.fol_chunks.specs.Contents.{is_recorded}
+use Rattle.fol_regions.specs.Answers.{IsGiven}
 use Rattle.fol_regions.specs.Table.{grid_state}
 use Rattle.fol_store.specs.Bag.{Bag}
 use Rattle.fol_store.specs.Gathered.{AreFree, OthersSpared, Spared, Touched}
 use Rattle.fol_store.specs.Stock.{Stock, bag_of, next_of}
 use Rattle.fol_core.specs.declared.tables.Tables.{Tables}
 use Rattle.fol_core.specs.Agenda.{IsAgenda, owes}
+use Rattle.fol_core.specs.Answers.{is_owing}
 use Rattle.fol_core.specs.Bags.{IsBagOf}
 use Rattle.fol_core.specs.Begun.{Gathered}
 use Rattle.fol_core.specs.Same.{SameThings}
@@ -30,7 +32,7 @@ use Rattle.fol_core.specs.Stands.{Stands}
 use Rattle.fol_core.proofs.ChunkLists.{kept_passes, owned}
 use Rattle.fol_core.proofs.KeptUp.{keeps_exact, keeps_like}
 use Rattle.fol_core.proofs.Longer.{good_of}
-use Rattle.fol_core.proofs.UnsettledBags.{rests_home}
+use Rattle.fol_core.proofs.UnsettledBags.{ready_rests, rests_home}
 
 pub is_ready-true : (s : State) → is_ready s ≡ true → s ≡ Ready
 is_ready-true Ready h = refl
@@ -98,6 +100,10 @@ gathered_agenda xs g f h e a = record {
   top = λ ys r s. let x = e r in rw x (a.top ys r s);
 }
 
+-- a region that owes a tick owes it still
+pub gathered_owes : (g : GridState) (f k : ℕ → Bag) (id : ℕ) → ((r : ℕ) → Gathered g r (f r) (k r)) → owes g f id ≡ true → owes g k id ≡ true
+gathered_owes g f k id bags x = let e = (bags id).owes in rw e x
+
 module _ (o : Opening) (h : List Entry) (t : Tables) (s : Stands o h t) where
   pub gathered_stands : (k : Stock) → SameThings t.store k → next_of k ≡ next_of t.store → ((r : ℕ) → Gathered (grid_state t.regions) r (bag_of t.store r) (bag_of k r)) → Stands o h (record t { store = k })
   gathered_stands k things next bags = record {
@@ -121,6 +127,21 @@ module _ (o : Opening) (h : List Entry) (t : Tables) (s : Stands o h t) where
 
   pub ready_now : (id : ℕ) → owes (grid_state t.regions) (bag_of t.store) id ≡ true → (world o h).grid.state id ≡ Ready
   ready_now id x = let y : owes (world o h).grid (bag_of t.store) id ≡ true = rw s.fits.regions at x in is_ready-true ((world o h).grid.state id) (and_parts (is_ready ((world o h).grid.state id)) (nat_lt 0 (bag_of t.store id).owed) y).0
+
+  -- a region that owes a tick in the world owes it by its bag
+  pub owing_bag : (id : ℕ) → is_owing (world o h) id ≡ true → owes (grid_state t.regions) (bag_of t.store) id ≡ true
+  owing_bag id x =
+      let p = and_parts (is_ready ((world o h).grid.state id)) (nat_lt 0 ((world o h).owed id)) x in
+      let k = (s.fits.stored.bags id).owes (ready_rests ((world o h).grid.state id) p.0) in
+      let g = s.fits.regions in
+      rw (g, k) x
+
+  pub owing_given : (id : ℕ) → owes (grid_state t.regions) (bag_of t.store) id ≡ true → IsGiven (grid_state t.regions) id
+  owing_given id x =
+      let ready = ready_now id x in
+      let lives : (world o h).grid.state id ≢ Dead = λ d. let e : Ready ≡ Dead = sym ready ∙ d in absurd (cc) in
+      let rules = (good_of o h t s).sound.rules in
+      rw s.fits.regions (record { above = rules.given id lives; below = rules.below_next id lives })
 
   pub ready_here : (id : ℕ) → owes (grid_state t.regions) (bag_of t.store) id ≡ true → (bag_of t.store id).here ≡ true
   ready_here id x = let e = ready_now id x in (s.fits.stored.bags id).here ∙ rw e refl

@@ -27,10 +27,10 @@ use Rattle.fol_model.specs.declared.openings.Opening.{Opening}
 use Rattle.fol_model.specs.Outputs.{owner_rows}
 use Rattle.fol_model.specs.Run.{world}
 use Rattle.fol_regions.specs.Table.{grid_state}
-use Rattle.fol_core.specs.Closings.{owner_row, owners_in, owners_of}
+use Rattle.fol_core.specs.Closings.{live_in, owner_row, owners_in, owners_of}
 use Rattle.fol_core.specs.Stands.{Stands}
 use Rattle.fol_core.specs.declared.tables.Tables.{Tables}
-use Rattle.fol_core.proofs.CalmStore.{dead_not, in_live, live_in}
+use Rattle.fol_core.proofs.CalmStore.{dead_not, in_live}
 use Rattle.fol_core.proofs.KeyedRows.{map_flat, map_passing, passing}
 
 -- a number is not among those that rise above it

@@ -31,7 +31,8 @@ use Rattle.fol_core.specs.Answers.{close_result, is_busy, is_owing}
 use Rattle.fol_core.specs.Same.{SameThings}
 use Rattle.fol_core.specs.Stands.{Stands}
 use Rattle.fol_core.proofs.CalmRuns.{calm_run}
-use Rattle.fol_core.proofs.CalmStore.{dead_not, in_live, live_in}
+use Rattle.fol_core.specs.Closings.{live_in}
+use Rattle.fol_core.proofs.CalmStore.{dead_not, in_live}
 use Rattle.fol_core.proofs.KeyedRows.{none_passes, passing}
 use Rattle.fol_core.proofs.LeastFound.{first_below, first_found, first_none, first_some, holds_of}
 use Rattle.fol_core.proofs.Longer.{good_of, stands_more}

@@ -1,6 +1,6 @@
 -- What the rows of a closing are made of.
-use Rattle.std.specs.Prelude.{ℕ, ◌≡◌, ◌<◌, true, Bool, nat_eq, List, [], ◌∷◌, ◌++◌, map, filter, flat_map, Option, Some, None}
-use Rattle.std.specs.List.{AllByRecursion, list_any}
+use Rattle.std.specs.Prelude.{ℕ, ◌≡◌, ◌<◌, true, Bool, not, nat_eq, List, [], ◌∷◌, ◌++◌, map, filter, flat_map, Option, Some, None}
+use Rattle.std.specs.List.{AllByRecursion, find, list_any}
 use Rattle.std.specs.List.Sorted.{IsStrictlySortedBy}
 use Rattle.std.specs.Map.{update_all}
 use Rattle.std.specs.BTreeMap.{BTreeMap, get}
@@ -18,13 +18,15 @@ use Rattle.fol_model.specs.declared.closings.OwnerRow.{OwnerRow}
 use Rattle.fol_model.specs.declared.closings.TaskRow.{TaskRow}
 use Rattle.fol_model.specs.declared.closings.EntityRow.{EntityRow}
 use Rattle.fol_model.specs.Universe.{all_sections, numbers_below}
-use Rattle.fol_model.specs.GridState.{GridState, is_present, is_ticking, size}
+use Rattle.fol_model.specs.GridState.{GridState, is_dead, is_present, is_ticking, size}
 use Rattle.fol_model.specs.Outputs.{chunk_count}
 use Rattle.fol_model.specs.World.{block_in, standing_in}
 use Rattle.fol_chunks.specs.Rows.{by_id, by_place}
 use Rattle.fol_store.specs.Bag.{Bag}
 use Rattle.fol_store.specs.Stock.{Stock, flat_of, jobs_of}
 use Rattle.fol_store.specs.TaskRows.{by_number, rows_of}
+use Rattle.fol_core.specs.declared.answers.CloseFault.{CloseFault}
+use Rattle.fol_core.specs.declared.answers.CloseFault.TheVariants as faults
 
 -- the entries were put into the map in turn
 abbrev pub PutsAll : {K X : Type 0} → (K → K → Ordering) → BTreeMap K X → BTreeMap K X → List (K × X) → Type 0
@@ -32,6 +34,15 @@ PutsAll {K} c old new es = (q : K) → get c new q ≡ update_all (eq_by_cmp c) 
 
 abbrev pub ticks_in : GridState → ℕ → Bool
 ticks_in g r = is_ticking (g.state r)
+
+-- the regions that are not Dead, rising
+abbrev pub live_in : GridState → List ℕ
+live_in g = filter (λ r. not (is_dead (g.state r))) (numbers_below g.next)
+
+-- a region ticks, and this is the first such one; out of memory needs no cause
+abbrev pub FindsTicking : GridState → CloseFault → Type 0
+FindsTicking g (faults.Ticking r) = find (ticks_in g) (live_in g) ≡ Some r
+FindsTicking g faults.NoMemory = Unit {0}
 
 -- the row of a region whose bag is in the store
 abbrev pub row_in : GridState → (ℕ → Bag) → ℕ → RegionRow

@@ -18,3 +18,4 @@ pub mod AtEnd
 pub mod MayEnd
 pub mod Closings
 pub mod Quiet
+pub mod First

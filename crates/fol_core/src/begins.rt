@@ -1,6 +1,6 @@
 //! Begins of ticks.
 
-ghost use Rattle.std.specs.Prelude.{◌≡◌, ◌+◌, ◌-◌, ◌≤◌, ℕ, not, true, false, [], filter, OnOk, vec_capacity, IsSome, IfOk, IfSome};
+ghost use Rattle.std.specs.Prelude.{◌≡◌, ◌+◌, ◌-◌, ◌≤◌, ℕ, not, true, false, [], filter, OnOk, OnErr, vec_capacity, IsSome, IfOk, IfSome};
 ghost use Rattle.fol_model.specs.Universe.{all_chunks};
 ghost use Rattle.fol_model.specs.Begin.{begin};
 ghost use Rattle.fol_model.specs.FlatTick.{Rising};
@@ -14,17 +14,17 @@ ghost use Rattle.fol_store.specs.Bag.{is_whole, taken_out};
 ghost use Rattle.fol_store.specs.Gathered.{AreFree};
 ghost use Rattle.fol_store.specs.Stock.{bag_of, due_of, flat_of, jobs_of, next_of};
 ghost use Rattle.fol_core.specs.Agenda.{Covers, HaveBags, IsAgenda, owes as owes_tick};
-ghost use Rattle.fol_core.specs.Answers.{Begins, IsGiven};
+ghost use Rattle.fol_core.specs.Answers.{Begins, BeginsNext, IsGiven};
 ghost use Rattle.fol_core.specs.Room.{DueRoom};
 ghost use Rattle.fol_core.specs.Begun.{Gathered, due_task, left_job};
 ghost use Rattle.fol_core.specs.Meaning.{IsReadyToBegin, Stays, world_of};
 ghost use Rattle.fol_core.specs.Same.{SameThings};
 
-use crate::BeginAnswer;
 use crate::agenda::{owes, tidy_without};
 use crate::bags::list_chunks;
 use crate::machine::{Core, Room, record};
 use crate::tables::{Tables, grow_history};
+use crate::{BeginAnswer, Next};
 use fol_data::{RegionData, Tick};
 use fol_model::{ChunkPos, Event, Sequence, State, Task, TickLog};
 use fol_regions::Regions;
@@ -74,23 +74,71 @@ impl Core {
         }
         let begun = self.history.as_slice().len() as u64;
         let room = due_room(self.room.take());
-        let Begun { chunks, due, body } = hand_out(&mut self.tables, id, room);
+        let taken = hand_out(&mut self.tables, id, room);
         let event = Event::Begin { worker, region: id };
         record(&mut self.history, &mut self.tables.course, by, event);
-        BeginAnswer::Got(Tick {
-            worker,
-            region: id,
-            begun,
-            chunks: Sequence::of(chunks),
-            due: Sequence::of(due),
-            body,
-            log: TickLog {
-                ran: Sequence::new(self.alloc),
-                wishes: Sequence::new(self.alloc),
-            },
-            next: 0,
-            moved: false,
-        })
+        BeginAnswer::Got(tick_of(self.alloc, worker, id, begun, taken))
+    }
+
+    /// Begins a tick of a Ready region that owes one, by a worker that records it, and puts it in place of `tick`. It is `first` where
+    /// that is such a region, and else which one is free. Over exactly where Finish or Stop stands in the history, else Idle exactly
+    /// where no Ready region owes a tick. Only Begun is recorded. If memory runs out, nothing has changed, but the readiness for a
+    /// Begin may be lost.
+    pub fn begin_next(
+        &mut self,
+        alloc: Global,
+        worker: u32,
+        first: u64,
+        tick: &mut Tick,
+    ) -> Result<Next, AllocError>
+        ensures begun { IfOk result (λ a. BeginsNext self.old self.new worker a tick.new) }
+        ensures refused { OnErr result (Stays self.old self.new) }
+    {
+        if self.tables.course.is_over() {
+            return Ok(Next::Over);
+        }
+        let Some(id) = self.next_owing(first) else {
+            return Ok(Next::Idle);
+        };
+        self.room = None;
+        grow_history(&mut self.history, &self.tables.course)?;
+        let room = owed_list(alloc, &self.tables.regions, &mut self.tables.store, id)?;
+        let begun = self.history.as_slice().len() as u64;
+        let taken = hand_out(&mut self.tables, id, room);
+        let event = Event::Begin { worker, region: id };
+        record(&mut self.history, &mut self.tables.course, worker, event);
+        *tick = tick_of(self.alloc, worker, id, begun, taken);
+        Ok(Next::Begun)
+    }
+}
+
+/// The tick of a Begin that took this out of the store.
+fn tick_of(alloc: Global, worker: u32, region: u64, begun: u64, taken: Begun) -> Tick
+    ensures worker { result.worker ≡ worker }
+    ensures region { result.region ≡ region }
+    ensures begun { result.begun ≡ begun }
+    ensures chunks { result.chunks ≡ taken.chunks.items }
+    ensures due { result.due ≡ taken.due.items }
+    ensures body { result.body ≡ taken.body }
+    ensures ran { result.log.ran ≡ [] }
+    ensures wishes { result.log.wishes ≡ [] }
+    ensures next { result.next ≡ 0 }
+    ensures moved { result.moved ≡ false }
+{
+    let Begun { chunks, due, body } = taken;
+    Tick {
+        worker,
+        region,
+        begun,
+        chunks: Sequence::of(chunks),
+        due: Sequence::of(due),
+        body,
+        log: TickLog {
+            ran: Sequence::new(alloc),
+            wishes: Sequence::new(alloc),
+        },
+        next: 0,
+        moved: false,
     }
 }
 
@@ -114,9 +162,31 @@ fn due_list(
     ensures room { IfOk result (λ due.
         DueRoom due store.new (owes_tick (grid_state regions.now) (bag_of store.old) id) id) }
 {
-    if !owes(regions, store, id) {
-        return Ok(Vec::new(alloc));
+    if owes(regions, store, id) {
+        owed_list(alloc, regions, store, id)
+    } else {
+        Ok(Vec::new(alloc))
     }
+}
+
+/// An empty list with room for the tasks that are due in the next tick of a region that owes one. Its bag is whole then.
+fn owed_list(
+    alloc: Global,
+    regions: &Regions,
+    store: &mut Store,
+    id: u64,
+) -> Result<Vec<Task>, AllocError>
+    requires given { IsGivenIn (grid_state regions.now) id }
+    requires here { (bag_of store.old id).here ≡ true }
+    requires at_home { (bag_of store.old id).taken ≡ false }
+    requires free { AreFree (bag_of store.old)
+        (filter (is_chunk_of (grid_state regions.now) id) all_chunks) }
+    ensures bags { (r : ℕ)
+        → Gathered (grid_state regions.now) r (bag_of store.old r) (bag_of store.new r) }
+    ensures things { SameThings store.old store.new }
+    ensures next { next_of store.new ≡ next_of store.old }
+    ensures room { IfOk result (λ due. DueRoom due store.new true id) }
+{
     settle(alloc, regions, store, id)?;
     let mut due = Vec::new(alloc);
     due.reserve(store.count_due(id) as usize)?;

@@ -1,19 +1,18 @@
 //! The rows of the world after a history.
 
-ghost use Rattle.std.specs.Prelude.{ℕ, ◌≡◌, ◌<◌, [], ◌∷◌, not, false, map, flat_map, filter, find, All, IfOk, OnOk, IfErr, Option};
+ghost use Rattle.std.specs.Prelude.{ℕ, ◌≡◌, ◌<◌, [], ◌∷◌, false, map, flat_map, find, All, IfOk, OnOk, IfErr, Option};
 ghost use Rattle.std.specs.BTreeMap.{IsOrdered};
 ghost use Rattle.std.specs.Ordering.{nat_cmp};
 ghost use Rattle.fol_model.specs.declared.entities.Place.{Place};
 ghost use Rattle.fol_model.specs.Counting.{some_below};
-ghost use Rattle.fol_model.specs.GridState.{is_dead};
-ghost use Rattle.fol_model.specs.Universe.{numbers_below};
 ghost use Rattle.fol_model.specs.Outputs.{Outputs};
 ghost use Rattle.fol_regions.specs.Table.{grid_state};
 ghost use Rattle.fol_store.specs.Stock.{bag_of};
 ghost use Rattle.fol_core.specs.Meaning.{world_of};
 ghost use Rattle.fol_core.specs.Answers.{Faults, is_ticking_in};
 ghost use Rattle.fol_core.specs.Stands.{Stands};
-ghost use Rattle.fol_core.specs.Closings.{ArePlaces, AreThings, HasRow, PutsAll, arrival_entries, owners_in, place_row, places_in, row_in, standing_entry, ticks_in};
+ghost use Rattle.fol_core.specs.declared.answers.CloseFault.TheVariants as faults;
+ghost use Rattle.fol_core.specs.Closings.{ArePlaces, AreThings, FindsTicking, HasRow, PutsAll, arrival_entries, live_in, owners_in, place_row, places_in, row_in, standing_entry, ticks_in};
 
 use crate::CloseFault;
 use crate::machine::Core;
@@ -62,17 +61,31 @@ impl Core {
             room: _,
             alloc: _,
         } = self;
-        let live = match tables.regions.live(alloc) {
-            Ok(live) => live,
-            Err(_) => return Err(CloseFault::NoMemory),
-        };
-        if let Some(id) = first_ticking(&tables.regions, live.as_slice()) {
-            return Err(CloseFault::Ticking(id));
+        match calm_regions(alloc, &tables.regions) {
+            Ok(live) => closing_of(alloc, opening, history, tables, live.as_slice()),
+            Err(fault) => {
+                drop(tables);
+                drop(history);
+                drop(opening);
+                Err(fault)
+            }
         }
-        match closing_of(alloc, opening, history, tables, live.as_slice()) {
-            Ok(closing) => Ok(closing),
-            Err(_) => Err(CloseFault::NoMemory),
-        }
+    }
+}
+
+/// The regions that are not Dead, rising. Ticking where one of them ticks, with the first such one.
+fn calm_regions(alloc: Global, regions: &Regions) -> Result<Vec<u64>, CloseFault>
+    ensures live { IfOk result (λ v. v.items ≡ live_in (grid_state regions.now)) }
+    ensures calm { IfOk result (λ v.
+        find (ticks_in (grid_state regions.now)) v.items ≡ Option.None) }
+    ensures fault { IfErr result (FindsTicking (grid_state regions.now)) }
+{
+    match regions.live(alloc) {
+        Ok(live) => match first_ticking(regions, live.as_slice()) {
+            Some(id) => Err(CloseFault::Ticking(id)),
+            None => Ok(live),
+        },
+        Err(_) => Err(CloseFault::NoMemory),
     }
 }
 
@@ -83,16 +96,50 @@ fn closing_of(
     history: Vec<Entry>,
     tables: Tables,
     live: &[u64],
-) -> Result<Closing, AllocError>
+) -> Result<Closing, CloseFault>
     requires stands { Stands opening history.items tables }
-    requires live { live.now ≡ filter (λ r. not (is_dead ((grid_state tables.regions).state r)))
-        (numbers_below (grid_state tables.regions).next) }
+    requires live { live.now ≡ live_in (grid_state tables.regions) }
     requires calm { find (ticks_in (grid_state tables.regions)) live.now ≡ Option.None }
-    ensures { IfOk result (λ c. Outputs opening history.items c) }
+    ensures ok { IfOk result (λ c. Outputs opening history.items c) }
+    ensures fault { IfErr result (λ f. f ≡ faults.NoMemory) }
 {
-    let grid = grid_rows(alloc, &tables.regions, &tables.store, live)?;
-    let things = thing_rows(alloc, store_of(tables))?;
-    Ok(put_together(opening, history, grid, things))
+    // A proof learns where a field is read that the opening is within its limits.
+    let _version = opening.version;
+    match grid_rows(alloc, &tables.regions, &tables.store, live) {
+        Ok(grid) => with_things(alloc, opening, history, grid, store_of(tables)),
+        Err(_) => {
+            drop(tables);
+            drop(history);
+            drop(opening);
+            Err(CloseFault::NoMemory)
+        }
+    }
+}
+
+/// The closing of these rows and of what lies in a store.
+fn with_things(
+    alloc: Global,
+    opening: Opening,
+    history: Vec<Entry>,
+    grid: GridRows,
+    store: Store,
+) -> Result<Closing, CloseFault>
+    ensures opening { IfOk result (λ c. c.opening ≡ opening) }
+    ensures history { IfOk result (λ c. c.history ≡ history.items) }
+    ensures regions { IfOk result (λ c. c.regions ≡ grid.regions.items) }
+    ensures owners { IfOk result (λ c. c.owners ≡ grid.owners.items) }
+    ensures things { IfOk result (λ c. AreThings store c.blocks c.entities c.tasks) }
+    ensures fault { IfErr result (λ f. f ≡ faults.NoMemory) }
+{
+    match thing_rows(alloc, store) {
+        Ok(things) => Ok(put_together(opening, history, grid, things)),
+        Err(_) => {
+            drop(grid);
+            drop(history);
+            drop(opening);
+            Err(CloseFault::NoMemory)
+        }
+    }
 }
 
 /// The rows of the regions and of their sections.
@@ -103,8 +150,7 @@ fn grid_rows(
     live: &[u64],
 ) -> Result<GridRows, AllocError>
     requires have { All (HasRow (grid_state regions.now) (bag_of store.now)) live.now }
-    requires live { live.now ≡ filter (λ r. not (is_dead ((grid_state regions.now).state r)))
-        (numbers_below (grid_state regions.now).next) }
+    requires live { live.now ≡ live_in (grid_state regions.now) }
     ensures regions { IfOk result (λ rows. rows.regions.items
         ≡ map (row_in (grid_state regions.now) (bag_of store.now)) live.now) }
     ensures owners { IfOk result (λ rows. rows.owners.items ≡ owners_in (grid_state regions.now)) }

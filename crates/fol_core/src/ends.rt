@@ -42,45 +42,44 @@ use fol_regions::{MergePair, Regions, Removed};
 use fol_store::Store;
 use std::alloc::Global;
 use std::collections::VecDeque;
+use std::mem;
 
-/// Ends a finished tick: its holds are dropped, its wishes accepted, and its region released. Returns the event.
+/// Ends a finished tick: its holds are dropped, its wishes accepted, and its region released. Takes what it needs of the tick, and returns
+/// the event.
 pub(crate) fn end_tick(
     alloc: Global,
     tables: &mut Tables,
-    tick: Tick,
+    tick: &mut Tick,
     mut accepts: Vec<Accept>,
 ) -> Event
-    requires may { MayEnd tables.old tick }
+    requires may { MayEnd tables.old tick.old }
     requires empty { accepts.items ≡ [] }
-    requires room { length tick.log.wishes ≤ vec_capacity accepts }
+    requires room { length tick.old.log.wishes ≤ vec_capacity accepts }
     ensures event { (o : Opening) (h : List Entry) (m : Option ℕ) → Stands o h tables.old
-        → IsOut (record { opening = o; history = h; room = m }) tick
-        → result ≡ end_event (world o h) tick.worker tick.region tick.log.ran }
+        → IsOut (record { opening = o; history = h; room = m }) tick.old
+        → result ≡ end_event (world o h) tick.old.worker tick.old.region tick.old.log.ran }
     ensures ended { (o : Opening) (h : List Entry) (m : Option ℕ) → Stands o h tables.old
-        → IsOut (record { opening = o; history = h; room = m }) tick
-        → Fits tables.new (ended (world o h) tick.region tick.log.ran) (since o h) }
+        → IsOut (record { opening = o; history = h; room = m }) tick.old
+        → Fits tables.new (ended (world o h) tick.old.region tick.old.log.ran) (since o h) }
     ensures course { tables.new.course.size ≡ tables.old.course.size }
 {
-    let Tick {
-        worker,
-        region,
-        chunks,
-        due,
-        mut body,
-        log,
-        ..
-    } = tick;
-    drop_due(tables, region, due.as_slice());
+    let worker = tick.worker;
+    let region = tick.region;
+    let chunks = mem::replace(&mut tick.chunks, Sequence::new(alloc));
+    let mut body = mem::replace(&mut tick.body, RegionData::new(alloc));
+    let ran = mem::replace(&mut tick.log.ran, Sequence::new(alloc));
+    let wishes = mem::replace(&mut tick.log.wishes, Sequence::new(alloc));
+    drop_due(tables, region, tick.due.as_slice());
     body.tick += 1;
     let counter = body.tick;
-    let wishes = VecDeque::from_vec(log.wishes.into_vec());
+    let wishes = VecDeque::from_vec(wishes.into_vec());
     accept_all(tables, &mut body.chunks, wishes, &mut accepts);
     end_region(alloc, tables, region, chunks.into_vec(), body);
     Event::End {
         worker,
         region,
         tick: counter,
-        ran: log.ran,
+        ran,
         accepts: Sequence::of(accepts),
     }
 }

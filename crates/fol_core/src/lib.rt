@@ -8,7 +8,8 @@
 //! 1. `Core::start` makes a core of an opening.
 //! 2. `Core::load` and `Core::post` ask for a loaded chunk and for a task.
 //! 3. `Core::open_phase` lets each region owe so many ticks; `Core::reserve` and then `Core::begin` give the tick of one.
-//! 4. `Core::release` takes a tick back that `fol_tick::run_tick` has run.
+//! 4. `Core::release` takes a tick back that `fol_tick::run_tick` has run. `Core::end` does the same where the tick stands, and
+//!    `Core::begin_next` then puts the next one there.
 //! 5. `Core::close_phase` and `Core::finish` end a phase and the history, and `Core::closing` gives all that stands at the end.
 #![tactic(auto)]
 
@@ -31,6 +32,6 @@ mod releases;
 mod tables;
 mod wishes;
 
-pub use answers::{BeginAnswer, Close, CloseFault, Finish, Phase, Posting};
+pub use answers::{BeginAnswer, Close, CloseFault, Finish, Next, Phase, Posting};
 pub use fol_data::Tick;
 pub use machine::Core;

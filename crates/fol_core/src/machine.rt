@@ -4,10 +4,13 @@ ghost use Rattle.std.specs.Prelude.{ℕ, ◌≡◌, ◌+◌, ◌≤◌, ◌<◌,
 ghost use Rattle.fol_model.specs.Run.{Run};
 ghost use Rattle.fol_core.specs.Meaning.{Records, Stays, world_of};
 ghost use Rattle.fol_core.specs.Answers.{is_owing, some_id, state_result};
+ghost use Rattle.fol_core.specs.First.{AreFirst, untouched};
+ghost use Rattle.fol_model.specs.GridState.{empty};
+ghost use Rattle.fol_regions.specs.Table.{grid_state};
 
 use crate::agenda::owes;
 use crate::tables::{Course, Tables};
-use fol_model::{Entry, Event, Opening, SectionPos, State, Task};
+use fol_model::{Entry, Event, Grid, Opening, SectionPos, State, Task};
 use fol_regions::Regions;
 use fol_store::Store;
 use std::alloc::{AllocError, Global};
@@ -63,24 +66,21 @@ impl Core {
         ensures opening { IfOk result (λ core. core.opening ≡ opening) }
         ensures empty { IfOk result (λ core. core.history ≡ []) }
     {
-        let grid = opening.grid;
         let mut history = Vec::new(alloc);
-        history.reserve(1)?;
-        let tables = Tables {
-            grid,
-            regions: Regions::new(alloc, grid)?,
-            store: Store::new(alloc, &opening)?,
-            tickets: HashMap::new(alloc),
-            agenda: Vec::new(alloc),
-            course: UNTOUCHED,
-        };
-        Ok(Core {
-            opening,
-            history,
-            tables,
-            room: None,
-            alloc,
-        })
+        match first_tables(alloc, &opening, &mut history) {
+            Ok(tables) => Ok(Core {
+                opening,
+                history,
+                tables,
+                room: None,
+                alloc,
+            }),
+            Err(_) => {
+                drop(history);
+                drop(opening);
+                Err(AllocError)
+            }
+        }
     }
 
     /// The ticks of all phases so far.
@@ -123,6 +123,46 @@ impl Core {
         ensures { result ≡ state_result (world_of self.now) id }
     {
         self.tables.regions.state(id)
+    }
+}
+
+/// The tables before any event. Takes the memory for a Stop, too.
+fn first_tables(
+    alloc: Global,
+    opening: &Opening,
+    history: &mut Vec<Entry>,
+) -> Result<Tables, AllocError>
+    ensures entries { history.new.items ≡ history.old.items }
+    ensures room { OnOk result (vec_len history.new < vec_capacity history.new) }
+    ensures first { IfOk result (AreFirst opening.now) }
+{
+    history.reserve(1)?;
+    let store = Store::new(alloc, opening)?;
+    with_regions(alloc, opening.grid, store)
+}
+
+/// The tables before any event, with what lies in the store.
+fn with_regions(alloc: Global, grid: Grid, store: Store) -> Result<Tables, AllocError>
+    ensures grid { IfOk result (λ t. t.grid ≡ grid) }
+    ensures regions { IfOk result (λ t. grid_state t.regions ≡ empty grid) }
+    ensures store { IfOk result (λ t. t.store ≡ store) }
+    ensures tickets { IfOk result (λ t. t.tickets.entries ≡ []) }
+    ensures agenda { IfOk result (λ t. t.agenda.items ≡ []) }
+    ensures course { IfOk result (λ t. t.course ≡ untouched) }
+{
+    match Regions::new(alloc, grid) {
+        Ok(regions) => Ok(Tables {
+            grid,
+            regions,
+            store,
+            tickets: HashMap::new(alloc),
+            agenda: Vec::new(alloc),
+            course: UNTOUCHED,
+        }),
+        Err(_) => {
+            drop(store);
+            Err(AllocError)
+        }
     }
 }
 

@@ -32,9 +32,26 @@ impl Core {
         ensures refused { OnErr result (Stays self.old self.new) }
     {
         let mut tick = tick;
-        self.room = None;
-        match grow_to_end(alloc, &mut self.tables, &mut self.history, &mut tick) {
+        match self.end(alloc, &mut tick) {
+            Ok(length) => Ok(length),
             Err(_) => Err(tick),
+        }
+    }
+
+    /// Ends a tick that was given out and that is finished, as `release` does, but in its place: where that is recorded, nothing is left
+    /// in the tick that is worth keeping. If memory runs out, the tick is the same, and nothing has changed, but the readiness for a
+    /// Begin may be lost.
+    pub fn end(&mut self, alloc: Global, tick: &mut Tick) -> Result<u64, AllocError>
+        requires out { IsOut self.old tick.old }
+        ensures length { IfOk result (λ n. n ≡ length self.new.history) }
+        ensures recorded { OnOk result (Records self.old self.new tick.old.worker
+            (end_event (world_of self.old) tick.old.worker tick.old.region tick.old.log.ran)) }
+        ensures same { OnErr result (SameTick tick.old tick.new) }
+        ensures refused { OnErr result (Stays self.old self.new) }
+    {
+        self.room = None;
+        match grow_to_end(alloc, &mut self.tables, &mut self.history, tick) {
+            Err(_) => Err(AllocError),
             Ok(accepts) => {
                 let asked = tick.log.wishes.len() as u64;
                 let worker = tick.worker;

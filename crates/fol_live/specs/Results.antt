@@ -1,5 +1,6 @@
 -- What each call answers in a world, and what it records, where the core has no word for it.
-use Rattle.std.specs.Prelude.{ℕ, ◌≡◌, ◌+◌, ◌<◌, true, false, ◌||◌, nat_eq, nat_lt, if◌then◌else◌, length, IfOk, OnErr}
+use Rattle.std.specs.Prelude.{ℕ, ◌≡◌, ◌+◌, ◌<◌, true, false, ◌||◌, nat_eq, nat_lt, if◌then◌else◌, length, Result, Ok, Err, IfOk, OnErr}
+use Rattle.std.specs.declared.alloc.AllocError.{AllocError}
 use Rattle.fol_model.specs.declared.events.Event.TheVariants as events
 use Rattle.fol_model.specs.World.{World}
 use Rattle.fol_core.specs.Meaning.{Meaning, Records, Stays, world_of}
@@ -11,6 +12,9 @@ use Rattle.fol_live.specs.declared.answers.LivePhase.TheVariants as phases
 use Rattle.fol_live.specs.declared.answers.LiveBegin.{LiveBegin}
 use Rattle.fol_live.specs.declared.answers.LiveBegin.TheVariants as begins
 use Rattle.fol_live.specs.declared.answers.NextTick.{NextTick}
+use Rattle.fol_live.specs.declared.answers.Renewal.{Renewal}
+use Rattle.fol_core.specs.declared.answers.Next.{Next}
+use Rattle.fol_core.specs.declared.answers.Next.TheVariants as nexts
 use Rattle.fol_live.specs.Kept.{Keeps}
 
 -- any number of ticks may be asked for
@@ -40,3 +44,23 @@ pub record EndsAndBegins (old new : Meaning) (tick : Tick) (next : NextTick) : T
   pub recorded : Records old ended tick.worker (end_event (world_of old) tick.worker tick.region tick.log.ran)
   pub begun : IfOk next.begun (λ a. LiveBegins ended new tick.worker a)
   pub refused : OnErr next.begun (Stays ended new)
+
+-- ---- ticks in place
+
+-- what asking for the next tick came to, where this is the tick that stands there now
+abbrev pub live_begin : Tick → Next → LiveBegin
+live_begin tick nexts.Begun = begins.Got tick
+live_begin tick nexts.Idle = begins.Idle
+live_begin tick nexts.Over = begins.Over
+
+abbrev pub begun_in : Tick → Result Next AllocError → Result LiveBegin AllocError
+begun_in tick (Ok next) = Ok (live_begin tick next)
+begun_in tick (Err e) = Err e
+
+abbrev pub next_in : Tick → Renewal → NextTick
+next_in tick renewal = record { length = renewal.length; begun = begun_in tick renewal.begun }
+
+-- out of memory leaves the tick there
+abbrev pub renewed : Tick → Result Renewal AllocError → Result NextTick Tick
+renewed tick (Ok renewal) = Ok (next_in tick renewal)
+renewed tick (Err e) = Err tick

@@ -1,6 +1,6 @@
 //! What the calls of a shared world return, where a core's own answers don't say it.
 
-use fol_core::Tick;
+use fol_core::{Next, Tick};
 use fol_model::OwnerRow;
 use std::alloc::AllocError;
 
@@ -43,6 +43,16 @@ pub(crate) struct Passed {
     pub(crate) region: u64,
     /// How many.
     pub(crate) ticks: u32,
+}
+
+/// What ending a tick and beginning the next one in its place came to, where the End was recorded.
+#[derive(Drop)]
+pub struct Renewal {
+    /// The length of the history with the End.
+    pub length: u64,
+
+    /// What asking for the next tick came to, right behind the End.
+    pub begun: Result<Next, AllocError>,
 }
 
 /// Which region owns each present section, after so much of the history.

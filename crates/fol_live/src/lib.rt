@@ -7,7 +7,8 @@
 //! 1. `Live::start` makes a world of an opening, and deals numbered seats.
 //! 2. `Live::load` and `Live::post` ask for a loaded chunk and for a task.
 //! 3. `Live::open_phase` lets each region owe so many ticks, and `Live::begin` gives a worker one of them.
-//! 4. `LiveHost::of` makes the seat the host of its tick, for `fol_tick::run_tick`, and `Live::release` gives the tick back.
+//! 4. `LiveHost::of` makes the seat the host of its tick, for `fol_tick::run_tick`, and `Live::release` gives the tick back;
+//!    `Live::renew` also begins the next one, where the tick stands.
 //! 5. `Live::close_phase` and `Live::finish` end a phase and the history, and `Live::close` takes all seats back for the closing.
 //!
 //! Contracts see of a seat its number, the opening of the world, how much of the one history it has seen, and the entries that are its own;
@@ -23,8 +24,8 @@ mod seat;
 mod tests;
 mod world;
 
-pub use answers::{LiveBegin, LivePhase, NextTick, Owners};
-pub use fol_core::{Close, CloseFault, Finish, Posting};
+pub use answers::{LiveBegin, LivePhase, NextTick, Owners, Renewal};
+pub use fol_core::{Close, CloseFault, Finish, Next, Posting};
 pub use host::LiveHost;
 pub use laws::{
     begun_tick_is_held, held_tick_may_run, no_event_is_own, one_event_is_own, passed_ticks_are_own,

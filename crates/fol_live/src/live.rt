@@ -8,13 +8,14 @@ ghost use Rattle.fol_core.specs.Ticks.{IsOut};
 ghost use Rattle.fol_lock.specs.Lock.{seat_count};
 ghost use Rattle.fol_live.specs.Calls.{Begins, Closes, Finishes, ListsOwners, Loads, Opens, PassesOver, Posts, Releases, ReleasesAndBegins, Stops, Unloads};
 ghost use Rattle.fol_live.specs.Lives.{live_id};
+ghost use Rattle.fol_live.specs.Results.{next_in, renewed};
 ghost use Rattle.fol_live.specs.Seat.{meaning_of};
 ghost use Rattle.fol_live.specs.Seats.{AreAllSeats, AreNewSeats, ClosesAll, ClosingFault};
 
-use crate::answers::{LiveBegin, LivePhase, NextTick, Owners, Passed};
+use crate::answers::{LiveBegin, LivePhase, NextTick, Owners, Passed, Renewal};
 use crate::seat::Seat;
 use crate::world::World;
-use fol_core::{Close, CloseFault, Finish, Posting, Tick};
+use fol_core::{Close, CloseFault, Finish, Next, Posting, Tick};
 use fol_lock::{Lock, LockAndSeats};
 use fol_model::{Action, ChunkPos, Closing, Loaded, Opening, OwnerRow, Unloaded};
 use std::alloc::{AllocError, Global};
@@ -304,13 +305,60 @@ impl Live {
         requires out { IsOut (meaning_of seat.old) tick }
         ensures { ReleasesAndBegins seat.old seat.new tick result }
     {
+        let mut tick = tick;
+        match self.renew(rt, alloc, seat, &mut tick) {
+            Ok(renewal) => Ok(next_tick(renewal, tick)),
+            Err(_) => Err(tick),
+        }
+    }
+
+    /// `release_and_begin` in place: the next tick takes the place of the one that ended. Where memory was not found for the End, the
+    /// tick is the same.
+    pub fn renew<R: Wait>(
+        &self,
+        rt: &R,
+        alloc: Global,
+        seat: &mut Seat,
+        tick: &mut Tick,
+    ) -> Result<Renewal, AllocError>
+        requires own { seat.old.lock ≡ live_id self.now }
+        requires worker { seat.old.number ≢ 0 }
+        requires mine { tick.old.worker ≡ seat.old.number }
+        requires out { IsOut (meaning_of seat.old) tick.old }
+        ensures { ReleasesAndBegins seat.old seat.new tick.old (renewed tick.new result) }
+    {
         let region = tick.region;
         let mut turn = self.lock.take(rt, &mut seat.seat);
-        let answer = turn.state().release_and_begin(alloc, tick);
+        let answer = turn.state().renew(alloc, tick);
         seat.front = turn.state_ref().front();
         seat.region = region;
         self.lock.give(&mut seat.seat, turn);
         answer
+    }
+}
+
+/// What a renewal tells, with the tick that it left.
+fn next_tick(renewal: Renewal, tick: Tick) -> NextTick
+    ensures { result ≡ next_in tick renewal }
+{
+    let length = renewal.length;
+    match renewal.begun {
+        Ok(Next::Begun) => NextTick {
+            length,
+            begun: Ok(LiveBegin::Got(tick)),
+        },
+        Ok(Next::Idle) => NextTick {
+            length,
+            begun: Ok(LiveBegin::Idle),
+        },
+        Ok(Next::Over) => NextTick {
+            length,
+            begun: Ok(LiveBegin::Over),
+        },
+        Err(_) => NextTick {
+            length,
+            begun: Err(AllocError),
+        },
     }
 }
 

@@ -8,11 +8,11 @@ ghost use Rattle.fol_core.specs.Answers.{CloseRecords, FinishRecords, LoadRecord
 ghost use Rattle.fol_core.specs.Meaning.{Records, Stays, world_of};
 ghost use Rattle.fol_core.specs.Quiet.{Passes};
 ghost use Rattle.fol_core.specs.Ticks.{IsOut, SameTick};
-ghost use Rattle.fol_live.specs.Results.{EndsAndBegins, LiveBegins, LivePhaseRecords, live_phase_result};
+ghost use Rattle.fol_live.specs.Results.{EndsAndBegins, LiveBegins, LivePhaseRecords, begun_in, live_phase_result, renewed};
 ghost use Rattle.fol_live.specs.Kept.{Keeps};
 
-use crate::answers::{LiveBegin, LivePhase, NextTick, Passed};
-use fol_core::{BeginAnswer, Close, Core, Finish, Phase, Posting, Tick};
+use crate::answers::{LiveBegin, LivePhase, Passed, Renewal};
+use fol_core::{BeginAnswer, Close, Core, Finish, Next, Phase, Posting, Tick};
 use fol_lock::Kept;
 use fol_model::{Action, ChunkPos, Entry, Loaded, Opening, OwnerRow, Unloaded};
 use std::alloc::{AllocError, Global};
@@ -270,24 +270,64 @@ impl World {
         answer
     }
 
-    /// `release`, and behind it `begin` by the tick's worker, of the same region first.
-    pub(crate) fn release_and_begin(&mut self, alloc: Global, tick: Tick) -> Result<NextTick, Tick>
-        requires out { Keeps self.old.opening self.old.history → IsOut self.old tick }
-        requires worker { tick.worker ≢ 0 }
+    /// `Core::end` of a tick that is out in a world that keeps what every world keeps.
+    fn end(&mut self, alloc: Global, tick: &mut Tick) -> Result<u64, AllocError>
+        requires out { Keeps self.old.opening self.old.history → IsOut self.old tick.old }
         ensures before { Keeps self.old.opening self.old.history }
         ensures after { Keeps self.new.opening self.new.history }
-        ensures next { IfOk result (λ next. EndsAndBegins self.old self.new tick next) }
-        ensures back { IfErr result (λ t. SameTick tick t) }
+        ensures length { IfOk result (λ n. n ≡ length self.new.history) }
+        ensures recorded { OnOk result (Records self.old self.new tick.old.worker
+            (end_event (world_of self.old) tick.old.worker tick.old.region tick.old.log.ran)) }
+        ensures same { OnErr result (SameTick tick.old tick.new) }
         ensures refused { OnErr result (Stays self.old self.new) }
+    {
+        let core: &mut Core = &mut self.core;
+        let answer = core.end(alloc, tick);
+        let _entries = core.history();
+        answer
+    }
+
+    /// `begin` in place of a tick that ended.
+    fn begin_next(
+        &mut self,
+        alloc: Global,
+        by: u32,
+        first: u64,
+        tick: &mut Tick,
+    ) -> Result<Next, AllocError>
+        requires worker { by ≢ 0 }
+        ensures before { Keeps self.old.opening self.old.history }
+        ensures after { Keeps self.new.opening self.new.history }
+        ensures recorded { IfOk (begun_in tick.new result) (λ a.
+            LiveBegins self.old self.new by a) }
+        ensures refused { OnErr (begun_in tick.new result) (Stays self.old self.new) }
+    {
+        let core: &mut Core = &mut self.core;
+        let _entries = core.history();
+        let answer = core.begin_next(alloc, by, first, tick);
+        let _entries = core.history();
+        answer
+    }
+
+    /// `release`, and behind it `begin` by the tick's worker, of the same region first, both in place.
+    pub(crate) fn renew(&mut self, alloc: Global, tick: &mut Tick) -> Result<Renewal, AllocError>
+        requires out { Keeps self.old.opening self.old.history → IsOut self.old tick.old }
+        requires worker { tick.old.worker ≢ 0 }
+        ensures before { Keeps self.old.opening self.old.history }
+        ensures after { Keeps self.new.opening self.new.history }
+        ensures next { IfOk (renewed tick.new result) (λ next.
+            EndsAndBegins self.old self.new tick.old next) }
+        ensures back { IfErr (renewed tick.new result) (λ t. SameTick tick.old t) }
+        ensures refused { OnErr (renewed tick.new result) (Stays self.old self.new) }
     {
         let worker = tick.worker;
         let region = tick.region;
-        match self.release(alloc, tick) {
-            Ok(length) => Ok(NextTick {
+        match self.end(alloc, tick) {
+            Ok(length) => Ok(Renewal {
                 length,
-                begun: self.begin(alloc, worker, region),
+                begun: self.begin_next(alloc, worker, region, tick),
             }),
-            Err(tick) => Err(tick),
+            Err(_) => Err(AllocError),
         }
     }
 

@@ -1,13 +1,13 @@
 //! The ticks of a worker.
 
-ghost use Rattle.std.specs.Prelude.{◌≡◌, IfOk, OnErr, OnOk};
+ghost use Rattle.std.specs.Prelude.{◌≡◌, IfNone, IfSome, OnErr, OnOk};
 ghost use Rattle.fol_live.specs.Lives.{live_id};
 ghost use Rattle.fol_pool.specs.Works.{HasRun, Holds, IsStuck, SameSeat, Works};
 
 use crate::patience::Patience;
 use fol_core::Tick;
 use fol_io::Gate;
-use fol_live::{Live, LiveBegin, LiveHost, NextTick, Seat};
+use fol_live::{Live, LiveBegin, LiveHost, Next, Renewal, Seat};
 use fol_tick::run_tick;
 use std::alloc::{AllocError, Global};
 use std::sync::Wait;
@@ -129,9 +129,8 @@ fn run_on<R: Wait, G: Gate + Sync>(
             let rest = end(rt, alloc, live, &mut seat, tick, None);
             return (seat, rest);
         }
-        match renew(rt, alloc, live, &mut seat, tick) {
-            Ok(next) => tick = next,
-            Err(rest) => return (seat, Some(rest)),
+        if let Some(rest) = renew(rt, alloc, live, &mut seat, &mut tick) {
+            return (seat, Some(rest));
         }
     }
     unreachable!()
@@ -140,6 +139,45 @@ fn run_on<R: Wait, G: Gate + Sync>(
 /// Whether nothing happens in a tick of which nothing has run: no task is due, and no entity has a speed.
 fn is_quiet(tick: &Tick) -> bool {
     tick.due.is_empty() && tick.body.chunks.is_still()
+}
+
+/// Ends a tick that has run, and begins the next one in its place. Where there is none, it tells why, and the world was stopped if memory
+/// was not found.
+fn renew<R: Wait>(
+    rt: &R,
+    alloc: Global,
+    live: &Live,
+    seat: &mut Seat,
+    tick: &mut Tick,
+) -> Option<Rest>
+    requires own { seat.old.lock ≡ live_id live.now }
+    requires ran { HasRun seat.old tick.old }
+    ensures same { SameSeat seat.old seat.new }
+    ensures holds { IfNone result (Holds seat.new tick.new) }
+    ensures works { IfSome result (λ rest. Works seat.new) }
+{
+    match live.renew(rt, alloc, seat, tick) {
+        Ok(renewal) => match begun_next(renewal) {
+            Ok(Next::Begun) => None,
+            Ok(Next::Idle) => Some(Rest::Idle),
+            Ok(Next::Over) => Some(Rest::Over),
+            Err(_) => {
+                live.stop(rt, seat);
+                Some(Rest::Over)
+            }
+        },
+        Err(_) => {
+            live.stop(rt, seat);
+            Some(Rest::Over)
+        }
+    }
+}
+
+/// What came of asking for the next tick.
+fn begun_next(renewal: Renewal) -> Result<Next, AllocError>
+    ensures { result ≡ renewal.begun }
+{
+    renewal.begun
 }
 
 /// Runs a tick that was begun, but does not end it.
@@ -159,41 +197,6 @@ fn run<R: Wait>(
     let mut host = LiveHost::of(rt, live, seat);
     let ran = run_tick(alloc, tick, &mut host);
     (host.into_seat(), ran)
-}
-
-/// Ends a tick that has run, and begins the next one. Where there is none, it tells why.
-fn renew<R: Wait>(
-    rt: &R,
-    alloc: Global,
-    live: &Live,
-    seat: &mut Seat,
-    tick: Tick,
-) -> Result<Tick, Rest>
-    requires own { seat.old.lock ≡ live_id live.now }
-    requires ran { HasRun seat.old tick }
-    ensures same { SameSeat seat.old seat.new }
-    ensures holds { IfOk result (λ next. Holds seat.new next) }
-    ensures works { OnErr result (Works seat.new) }
-{
-    match live.release_and_begin(rt, alloc, seat, tick) {
-        Ok(next) => match begun_next(next) {
-            Ok(LiveBegin::Got(begun)) => Ok(begun),
-            Ok(LiveBegin::Idle) => Err(Rest::Idle),
-            Ok(LiveBegin::Over) => Err(Rest::Over),
-            Err(_) => {
-                live.stop(rt, seat);
-                Err(Rest::Over)
-            }
-        },
-        Err(tick) => Err(give_up(rt, live, seat, tick)),
-    }
-}
-
-/// What came of asking for the next tick.
-fn begun_next(next: NextTick) -> Result<LiveBegin, AllocError>
-    ensures { result ≡ next.begun }
-{
-    next.begun
 }
 
 /// Ends a tick that has run, and begins no other. Returns what is given, unless memory was not found and the world was stopped.

@@ -6,8 +6,8 @@ use Rattle.fol_model.specs.GridState.{is_dead}
 use Rattle.fol_model.specs.Universe.{section_cmp}
 use Rattle.fol_model.specs.declared.closings.OwnerRow.{OwnerRow}
 use Rattle.fol_regions.specs.Table.{grid_state}
-use Rattle.fol_core.specs.Closings.{owners_of}
-use Rattle.fol_core.proofs.CalmStore.{dead_not, live_in}
+use Rattle.fol_core.specs.Closings.{live_in, owners_of}
+use Rattle.fol_core.proofs.CalmStore.{dead_not}
 use Rattle.fol_core.proofs.KeyedRows.{passing}
 use Rattle.fol_core.proofs.OwnerRows.{owners_are}
 use Rattle.fol_core.proofs.owners.list_owners.Goals as goal
