@@ -1,8 +1,10 @@
 //! A store of a world with one region, whose bag goes out, comes back, follows chunks, is united and falls apart.
 
-ghost use Rattle.std.specs.Prelude.{◌≡◌, ◌≤◌, true, IfOk, None};
+ghost use Rattle.std.specs.Prelude.{◌≡◌, ◌≢◌, ◌≤◌, true, IfOk, None};
+ghost use Rattle.fol_model.specs.declared.places.ChunkPos.{ChunkPos};
 ghost use Rattle.fol_model.specs.ActionStep.{at_id};
 ghost use Rattle.fol_store.specs.Bag.{is_whole, new_bag, no_bag};
+ghost use Rattle.fol_store.specs.Clear.{HasNoTask};
 ghost use Rattle.fol_store.specs.Relisted.{IsInOrder};
 ghost use Rattle.fol_store.specs.Stock.{bag_of, jobs_of, next_of};
 
@@ -67,7 +69,8 @@ fn opening(alloc: Global) -> Result<Opening, AllocError> {
 }
 
 fn task(number: u64, chunk: ChunkPos) -> Task
-    ensures { result.number ≡ number }
+    ensures number { result.number ≡ number }
+    ensures chunk { result.chunk ≡ chunk }
 {
     Task {
         number,
@@ -192,6 +195,7 @@ fn turn_while(store: &mut Store, id: u64, more: ChunkPos, less: ChunkPos)
     requires order { IsInOrder (bag_of store.old id) }
     ensures here { (bag_of store.new id).here ≡ true }
     ensures order { IsInOrder (bag_of store.new id) }
+    ensures tasks { jobs_of store.new ≡ jobs_of store.old }
 {
     let taken = store.take(id);
     store.gain(id, more);
@@ -199,12 +203,14 @@ fn turn_while(store: &mut Store, id: u64, more: ChunkPos, less: ChunkPos)
     store.put(id, taken.chunks, taken.body);
 }
 
-/// Has a bag whose region has that chunk alone follow one of the chunks that came or left; gives this one.
+/// Has a bag whose region has that chunk alone, on which all tasks are, follow one of the chunks that came or left; gives this one.
 fn follow(store: &mut Store, id: u64, only: ChunkPos) -> Option<ChunkPos>
     requires here { (bag_of store.old id).here ≡ true }
     requires order { IsInOrder (bag_of store.old id) }
+    requires only { (c : ChunkPos) → c ≢ only → HasNoTask c (jobs_of store.old) }
     ensures here { (bag_of store.new id).here ≡ true }
     ensures order { IsInOrder (bag_of store.new id) }
+    ensures tasks { jobs_of store.new ≡ jobs_of store.old }
 {
     let c = store.next_change(id)?;
     if c == only {
@@ -215,14 +221,14 @@ fn follow(store: &mut Store, id: u64, only: ChunkPos) -> Option<ChunkPos>
     Some(c)
 }
 
-/// The bag of region 1 turns with the first chunk and a task on it, while the second comes and the first leaves; whether it
-/// follows these two, and then has what lies on the second.
+/// The bag of region 1 turns with the first chunk, while the second comes, with a task on it, and the first leaves; whether it follows
+/// these two, and then has what lies on the second.
 fn follows(store: &mut Store) -> Result<bool, AllocError>
     requires tasks { jobs_of store.old ≡ λ n. None }
     requires bags { bag_of store.old ≡ at_id (λ id. no_bag) 1 (new_bag 40 2) }
     requires spare { 1 ≤ store.old.spare }
 {
-    store.accept(task(2, CHUNKS[0]), 5);
+    store.accept(task(2, CHUNKS[1]), 5);
     store.gather(1, &CHUNKS[..1])?;
     turn_while(store, 1, CHUNKS[1], CHUNKS[0]);
     let first = follow(store, 1, CHUNKS[1]);
@@ -237,7 +243,7 @@ fn follows(store: &mut Store) -> Result<bool, AllocError>
 fn follows_the_chunks_of_a_region(rt: HostRuntime) -> Result<(), Fail> {
     let mut store = world(rt.alloc())?;
     let is_followed = follows(&mut store)?;
-    let is_left = lists(rt.alloc(), store, &BLOCKS[..1], &ENTITIES[1..], &[(2, 5)])?;
+    let is_left = lists(rt.alloc(), store, &BLOCKS[..1], &ENTITIES[1..], &[])?;
     assert!(rt; is_followed);
     assert!(rt; is_left);
     Ok(())

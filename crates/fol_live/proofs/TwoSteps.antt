@@ -13,10 +13,10 @@ use Rattle.fol_lock.specs.Seat.{Continues, IsIdle, LockId, at_turn}
 use Rattle.fol_lock.proofs.Logs.{Extends-more, given_by-append, given_by-own}
 use Rattle.fol_seat_laws.specs.Signed.{own_of}
 use Rattle.fol_live.specs.declared.answers.LiveBegin.{LiveBegin}
-use Rattle.fol_live.specs.declared.answers.NextTick.{NextTick}
+use Rattle.fol_live.specs.declared.answers.Renewal.{Renewal}
 use Rattle.fol_live.specs.Calls.{EndedAndBegan, ReleasesAndBegins}
 use Rattle.fol_live.specs.Kept.{Keeps}
-use Rattle.fol_live.specs.Results.{EndsAndBegins, LiveBegins}
+use Rattle.fol_live.specs.Results.{EndsAndBegins, LiveBegins, begun_in}
 use Rattle.fol_live.specs.Seat.{HasFront, IsSeat, Shown, opening_of}
 use Rattle.fol_live.proofs.Called.{begins, releases}
 use Rattle.fol_live.proofs.Grown.{grew_begin, grew_one, grew_same}
@@ -115,38 +115,38 @@ lent m is same continues taken number before = record { is = is; continues = rw 
 visited : {s t : SeatOfLock} {m n : Meaning} {by : ℕ} → Lent s t m by → Keeps n.opening n.history → Grew m n by → Visit s t m n by
 visited l after grew = record { is = l.is; continues = l.continues; taken = l.taken; number = l.number; before = l.before; after = after; grew = grew }
 
-module _ {s t : SeatOfLock} {m : Meaning} (n : Meaning) (tick : Tick) (l : Lent s t m tick.worker) (after : Keeps n.opening n.history) where
-  ended : (next : NextTick) (e : EndsAndBegins m n tick next) → Visit s t m e.ended tick.worker
+module _ {s t : SeatOfLock} {m : Meaning} (n : Meaning) (tick left : Tick) (l : Lent s t m tick.worker) (after : Keeps n.opening n.history) where
+  ended : (next : Renewal) (e : EndsAndBegins m n tick left next) → Visit s t m e.ended tick.worker
   ended next e = visited l e.keeps (grew_one m e.ended tick.worker (end_event (world_of m) tick.worker tick.region tick.log.ran) e.recorded)
 
-  begun : (next : NextTick) (e : EndsAndBegins m n tick next) → Grew e.ended n tick.worker
-  begun next e = grew_begin e.ended n tick.worker next.begun e.begun e.refused
+  begun : (next : Renewal) (e : EndsAndBegins m n tick left next) → Grew e.ended n tick.worker
+  begun next e = grew_begin e.ended n tick.worker (begun_in left next.begun) e.begun e.refused
 
   refused : Stays m n → Visit s t m n tick.worker
   refused same = visited l after (grew_same m n tick.worker same.opening same.history)
 
   -- what `give` asks for
-  pub turn_grows : (r : Result NextTick Tick) → IfOk r (λ next. EndsAndBegins m n tick next) → OnErr r (Stays m n) → Extends by_of t.number t.seen n.history
+  pub turn_grows : (r : Result Renewal AllocError) → IfOk r (λ next. EndsAndBegins m n tick left next) → OnErr r (Stays m n) → Extends by_of t.number t.seen n.history
   turn_grows (Ok next) e stays = both_grow (ended next e) after (begun next e)
-  turn_grows (Err back) e stays = log_grows (refused stays)
+  turn_grows (Err b) e stays = log_grows (refused stays)
 
   module _ {u : SeatOfLock} {lock : LockId} (idle : IsIdle lock u) (number : u.number ≡ t.number) (origin : u.origin ≡ t.origin)
       (seen : u.seen ≡ n.history) (mine : (added : List Entry) → n.history ≡ t.seen ++ added → u.mine ≡ t.mine ++ added) where
     -- what the call says of the seat
-    pub releases_and_begins : {old : Shown} (r : Result NextTick Tick) → view s ≡ old → old.lock ≡ lock → s.lock ≡ lock
-        → IfOk r (λ next. EndsAndBegins m n tick next) → IfErr r (λ b. SameTick tick b) → OnErr r (Stays m n) → ReleasesAndBegins old (view u) tick r
+    pub releases_and_begins : {old : Shown} (r : Result Renewal AllocError) → view s ≡ old → old.lock ≡ lock → s.lock ≡ lock
+        → IfOk r (λ next. EndsAndBegins m n tick left next) → OnErr r (SameTick tick left) → OnErr r (Stays m n) → ReleasesAndBegins old (view u) tick left r
     unfolding begins done_here looks half_continues second second_done
     releases_and_begins (Ok next) is own same e back stays = record {
       ended = view (halfway s e.ended (ended next e).grew.added);
       releases = releases tick (Ok next.length) (first_done (ended next e) after (begun next e) is own same) e.length e.recorded tt tt;
-      begins = begins (second_done (ended next e) after (begun next e) idle number origin seen mine same) next.begun e.begun e.refused;
+      begins = begins (second_done (ended next e) after (begun next e) idle number origin seen mine same) (begun_in left next.begun) e.begun e.refused;
       at_once = refl;
     }
     releases_and_begins (Err b) is own same e back stays =
-        releases tick (Err b) (done (refused stays) idle number origin seen mine is own) tt tt back stays
+        releases tick (Err left) (done (refused stays) idle number origin seen mine is own) tt tt back stays
 
     -- the seat is again one that is idle
-    pub idle_again : (r : Result NextTick Tick) → IfOk r (λ next. EndsAndBegins m n tick next) → OnErr r (Stays m n) → (front : ℕ) → front ≡ length n.history
+    pub idle_again : (r : Result Renewal AllocError) → IfOk r (λ next. EndsAndBegins m n tick left next) → OnErr r (Stays m n) → (front : ℕ) → front ≡ length n.history
         → IsIdleSeat u × HasFront front u
     idle_again (Ok next) e stays front reached = both_idle (ended next e) after (begun next e) idle number origin seen mine front reached
     idle_again (Err b) e stays front reached = idle_seat (refused stays) idle number origin seen mine front reached

@@ -18,9 +18,9 @@ use Rattle.fol_core.specs.Quiet.{Passes}
 use Rattle.fol_core.specs.Ticks.{SameTick}
 use Rattle.fol_live.specs.declared.answers.LivePhase.{LivePhase}
 use Rattle.fol_live.specs.declared.answers.LiveBegin.{LiveBegin}
-use Rattle.fol_live.specs.declared.answers.NextTick.{NextTick}
 use Rattle.fol_live.specs.declared.answers.Owners.{Owners}
-use Rattle.fol_live.specs.Results.{LiveBegins, LivePhaseRecords, live_phase_result}
+use Rattle.fol_live.specs.declared.answers.Renewal.{Renewal}
+use Rattle.fol_live.specs.Results.{LiveBegins, LivePhaseRecords, begun_in, live_phase_result}
 use Rattle.fol_live.specs.Seat.{Shown, meaning_of}
 use Rattle.fol_live.specs.Turned.{Adds, Looks}
 
@@ -116,13 +116,14 @@ pub record Releases (old new : Shown) (tick : Tick) (r : Result ℕ Tick) : Type
   pub back : IfErr r (λ t. SameTick tick t)
   pub refused : OnErr r (Stays (meaning_of now) (meaning_of new))
 
--- a tick was given back and the next one asked for, with nothing between
-pub record EndedAndBegan (old new : Shown) (tick : Tick) (next : NextTick) : Type 0 where
+-- a tick was given back and the next one asked for, with nothing between; `left` stands in its place
+pub record EndedAndBegan (old new : Shown) (tick left : Tick) (renewal : Renewal) : Type 0 where
   pub ended : Shown
-  pub releases : Releases old ended tick (Ok next.length)
-  pub begins : Begins ended new next.begun
+  pub releases : Releases old ended tick (Ok renewal.length)
+  pub begins : Begins ended new (begun_in left renewal.begun)
   pub at_once : begins.turn.looks.between ≡ []
 
-abbrev pub ReleasesAndBegins : Shown → Shown → Tick → Result NextTick Tick → Type 0
-ReleasesAndBegins old new tick (Ok next) = EndedAndBegan old new tick next
-ReleasesAndBegins old new tick (Err back) = Releases old new tick (Err back)
+-- out of memory leaves the same tick
+abbrev pub ReleasesAndBegins : Shown → Shown → Tick → Tick → Result Renewal AllocError → Type 0
+ReleasesAndBegins old new tick left (Ok renewal) = EndedAndBegan old new tick left renewal
+ReleasesAndBegins old new tick left (Err e) = Releases old new tick (Err left)

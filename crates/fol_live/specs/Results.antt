@@ -11,7 +11,6 @@ use Rattle.fol_live.specs.declared.answers.LivePhase.{LivePhase}
 use Rattle.fol_live.specs.declared.answers.LivePhase.TheVariants as phases
 use Rattle.fol_live.specs.declared.answers.LiveBegin.{LiveBegin}
 use Rattle.fol_live.specs.declared.answers.LiveBegin.TheVariants as begins
-use Rattle.fol_live.specs.declared.answers.NextTick.{NextTick}
 use Rattle.fol_live.specs.declared.answers.Renewal.{Renewal}
 use Rattle.fol_core.specs.declared.answers.Next.{Next}
 use Rattle.fol_core.specs.declared.answers.Next.TheVariants as nexts
@@ -36,16 +35,7 @@ LiveBegins old new by (begins.Got tick) =
 LiveBegins old new by begins.Idle = (is_over (world_of old) ≡ false) × ((r : ℕ) → 0 < r → r < (world_of old).grid.next → is_owing (world_of old) r ≡ false) × Stays old new
 LiveBegins old new by begins.Over = (is_over (world_of old) ≡ true) × Stays old new
 
--- the End of the tick was recorded, and right behind it what `begin` says of the next one
-pub record EndsAndBegins (old new : Meaning) (tick : Tick) (next : NextTick) : Type 0 where
-  pub ended : Meaning
-  pub keeps : Keeps ended.opening ended.history
-  pub length : next.length ≡ length ended.history
-  pub recorded : Records old ended tick.worker (end_event (world_of old) tick.worker tick.region tick.log.ran)
-  pub begun : IfOk next.begun (λ a. LiveBegins ended new tick.worker a)
-  pub refused : OnErr next.begun (Stays ended new)
-
--- ---- ticks in place
+-- ---- a tick in place
 
 -- what asking for the next tick came to, where this is the tick that stands there now
 abbrev pub live_begin : Tick → Next → LiveBegin
@@ -57,10 +47,11 @@ abbrev pub begun_in : Tick → Result Next AllocError → Result LiveBegin Alloc
 begun_in tick (Ok next) = Ok (live_begin tick next)
 begun_in tick (Err e) = Err e
 
-abbrev pub next_in : Tick → Renewal → NextTick
-next_in tick renewal = record { length = renewal.length; begun = begun_in tick renewal.begun }
-
--- out of memory leaves the tick there
-abbrev pub renewed : Tick → Result Renewal AllocError → Result NextTick Tick
-renewed tick (Ok renewal) = Ok (next_in tick renewal)
-renewed tick (Err e) = Err tick
+-- the End of the tick was recorded, and right behind it what `begin` says of the next one, where `left` stands in place of the tick
+pub record EndsAndBegins (old new : Meaning) (tick left : Tick) (renewal : Renewal) : Type 0 where
+  pub ended : Meaning
+  pub keeps : Keeps ended.opening ended.history
+  pub length : renewal.length ≡ length ended.history
+  pub recorded : Records old ended tick.worker (end_event (world_of old) tick.worker tick.region tick.log.ran)
+  pub begun : IfOk (begun_in left renewal.begun) (λ a. LiveBegins ended new tick.worker a)
+  pub refused : OnErr (begun_in left renewal.begun) (Stays ended new)

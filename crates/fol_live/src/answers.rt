@@ -27,16 +27,6 @@ pub enum LiveBegin {
     Over,
 }
 
-/// What ending a tick and beginning the next one in the same turn came to.
-#[derive(Drop)]
-pub struct NextTick {
-    /// The length of the history with the End.
-    pub length: u64,
-
-    /// The tick that was begun right behind the End, or why none was.
-    pub begun: Result<LiveBegin, AllocError>,
-}
-
 /// Ticks that were passed over.
 #[derive(Clone, Copy)]
 pub(crate) struct Passed {

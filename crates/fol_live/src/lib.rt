@@ -24,7 +24,7 @@ mod seat;
 mod tests;
 mod world;
 
-pub use answers::{LiveBegin, LivePhase, NextTick, Owners, Renewal};
+pub use answers::{LiveBegin, LivePhase, Owners, Renewal};
 pub use fol_core::{Close, CloseFault, Finish, Next, Posting};
 pub use host::LiveHost;
 pub use laws::{

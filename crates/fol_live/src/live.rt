@@ -8,14 +8,13 @@ ghost use Rattle.fol_core.specs.Ticks.{IsOut};
 ghost use Rattle.fol_lock.specs.Lock.{seat_count};
 ghost use Rattle.fol_live.specs.Calls.{Begins, Closes, Finishes, ListsOwners, Loads, Opens, PassesOver, Posts, Releases, ReleasesAndBegins, Stops, Unloads};
 ghost use Rattle.fol_live.specs.Lives.{live_id};
-ghost use Rattle.fol_live.specs.Results.{next_in, renewed};
 ghost use Rattle.fol_live.specs.Seat.{meaning_of};
 ghost use Rattle.fol_live.specs.Seats.{AreAllSeats, AreNewSeats, ClosesAll, ClosingFault};
 
-use crate::answers::{LiveBegin, LivePhase, NextTick, Owners, Passed, Renewal};
+use crate::answers::{LiveBegin, LivePhase, Owners, Passed, Renewal};
 use crate::seat::Seat;
 use crate::world::World;
-use fol_core::{Close, CloseFault, Finish, Next, Posting, Tick};
+use fol_core::{Close, CloseFault, Finish, Posting, Tick};
 use fol_lock::{Lock, LockAndSeats};
 use fol_model::{Action, ChunkPos, Closing, Loaded, Opening, OwnerRow, Unloaded};
 use std::alloc::{AllocError, Global};
@@ -25,7 +24,7 @@ use std::sync::Wait;
 ///
 /// Each call with a seat waits for the seat's turn, and nothing is promised of when it returns. Its answer is that of a core at this
 /// turn. The seat's number and opening stay; what it has seen goes on to the whole history, which is a run of the opening; and its own
-/// entries grow by the one event of the call, last in what it has seen, or by none; `release_and_begin` may record two, an End and the
+/// entries grow by the one event of the call, last in what it has seen, or by none; `renew` may record two, an End and the
 /// Begin behind it, and `pass` the Begin and the End of each tick that it passes over. Out of memory records nothing.
 #[derive(Drop)]
 pub struct Live {
@@ -291,29 +290,8 @@ impl Live {
     }
 
     /// Ends a tick of this seat that has run, as `release` does, and begins the next one as `begin` does, in one turn with nothing
-    /// between. Where the tick is handed back, none is begun.
-    pub fn release_and_begin<R: Wait>(
-        &self,
-        rt: &R,
-        alloc: Global,
-        seat: &mut Seat,
-        tick: Tick,
-    ) -> Result<NextTick, Tick>
-        requires own { seat.old.lock ≡ live_id self.now }
-        requires worker { seat.old.number ≢ 0 }
-        requires mine { tick.worker ≡ seat.old.number }
-        requires out { IsOut (meaning_of seat.old) tick }
-        ensures { ReleasesAndBegins seat.old seat.new tick result }
-    {
-        let mut tick = tick;
-        match self.renew(rt, alloc, seat, &mut tick) {
-            Ok(renewal) => Ok(next_tick(renewal, tick)),
-            Err(_) => Err(tick),
-        }
-    }
-
-    /// `release_and_begin` in place: the next tick takes the place of the one that ended. Where memory was not found for the End, the
-    /// tick is the same.
+    /// between. The next tick takes the place of the one that ended; where memory was not found for the End, the tick is the same, and
+    /// none is begun.
     pub fn renew<R: Wait>(
         &self,
         rt: &R,
@@ -325,7 +303,7 @@ impl Live {
         requires worker { seat.old.number ≢ 0 }
         requires mine { tick.old.worker ≡ seat.old.number }
         requires out { IsOut (meaning_of seat.old) tick.old }
-        ensures { ReleasesAndBegins seat.old seat.new tick.old (renewed tick.new result) }
+        ensures { ReleasesAndBegins seat.old seat.new tick.old tick.new result }
     {
         let region = tick.region;
         let mut turn = self.lock.take(rt, &mut seat.seat);
@@ -334,31 +312,6 @@ impl Live {
         seat.region = region;
         self.lock.give(&mut seat.seat, turn);
         answer
-    }
-}
-
-/// What a renewal tells, with the tick that it left.
-fn next_tick(renewal: Renewal, tick: Tick) -> NextTick
-    ensures { result ≡ next_in tick renewal }
-{
-    let length = renewal.length;
-    match renewal.begun {
-        Ok(Next::Begun) => NextTick {
-            length,
-            begun: Ok(LiveBegin::Got(tick)),
-        },
-        Ok(Next::Idle) => NextTick {
-            length,
-            begun: Ok(LiveBegin::Idle),
-        },
-        Ok(Next::Over) => NextTick {
-            length,
-            begun: Ok(LiveBegin::Over),
-        },
-        Err(_) => NextTick {
-            length,
-            begun: Err(AllocError),
-        },
     }
 }
 

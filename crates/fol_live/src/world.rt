@@ -8,7 +8,7 @@ ghost use Rattle.fol_core.specs.Answers.{CloseRecords, FinishRecords, LoadRecord
 ghost use Rattle.fol_core.specs.Meaning.{Records, Stays, world_of};
 ghost use Rattle.fol_core.specs.Quiet.{Passes};
 ghost use Rattle.fol_core.specs.Ticks.{IsOut, SameTick};
-ghost use Rattle.fol_live.specs.Results.{EndsAndBegins, LiveBegins, LivePhaseRecords, begun_in, live_phase_result, renewed};
+ghost use Rattle.fol_live.specs.Results.{EndsAndBegins, LiveBegins, LivePhaseRecords, begun_in, live_phase_result};
 ghost use Rattle.fol_live.specs.Kept.{Keeps};
 
 use crate::answers::{LiveBegin, LivePhase, Passed, Renewal};
@@ -315,10 +315,9 @@ impl World {
         requires worker { tick.old.worker ≢ 0 }
         ensures before { Keeps self.old.opening self.old.history }
         ensures after { Keeps self.new.opening self.new.history }
-        ensures next { IfOk (renewed tick.new result) (λ next.
-            EndsAndBegins self.old self.new tick.old next) }
-        ensures back { IfErr (renewed tick.new result) (λ t. SameTick tick.old t) }
-        ensures refused { OnErr (renewed tick.new result) (Stays self.old self.new) }
+        ensures next { IfOk result (EndsAndBegins self.old self.new tick.old tick.new) }
+        ensures same { OnErr result (SameTick tick.old tick.new) }
+        ensures refused { OnErr result (Stays self.old self.new) }
     {
         let worker = tick.worker;
         let region = tick.region;

@@ -16,5 +16,5 @@ gain-requires-2-clause-order c = let e : bag_of c.open.new.self 2 ≡ new_bag 41
 pub accept-requires-2-clause-fresh : goal.accept-requires-2-clause-fresh
 accept-requires-2-clause-fresh c =
     let before : jobs_of c.gain-2.new.self ≡ (λ n. None) = c.gain-2.ensures.tasks ∙ c.open.ensures.tasks ∙ c.gain.ensures.tasks ∙ c.requires.tasks in
-    let now : jobs_of c.accept.new.self 3 ≡ None = ap (λ (f : ℕ → Option Job). f 3) c.accept.ensures.tasks ∙ rw c.task.ensures (ap (λ (f : ℕ → Option Job). f 3) before) in
-    rw (c.task-2.ensures, now) refl
+    let now : jobs_of c.accept.new.self 3 ≡ None = ap (λ (f : ℕ → Option Job). f 3) c.accept.ensures.tasks ∙ rw c.task.ensures.number (ap (λ (f : ℕ → Option Job). f 3) before) in
+    rw (c.task-2.ensures.number, now) refl

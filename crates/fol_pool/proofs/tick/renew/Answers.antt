@@ -4,7 +4,7 @@ use Rattle.std.specs.declared.alloc.AllocError.{AllocError}
 use Rattle.fol_core.specs.declared.answers.Next.{Next}
 use Rattle.fol_data.specs.declared.tick.Tick.{Tick}
 use Rattle.fol_live.specs.Calls.{EndedAndBegan}
-use Rattle.fol_live.specs.Results.{begun_in, next_in}
+use Rattle.fol_live.specs.Results.{begun_in}
 use Rattle.fol_live.specs.Seat.{Shown}
 use Rattle.fol_live.specs.declared.answers.Renewal.{Renewal}
 use Rattle.fol_pool.specs.Works.{HasAsked, HasRun}
@@ -13,7 +13,7 @@ use Rattle.fol_pool.proofs.TickSteps.{begin_asks, end_works, release_fails}
 use Rattle.fol_pool.proofs.tick.renew.Goals as goal
 
 -- what came of asking for the next tick
-asked : (s u : Shown) (old new : Tick) (renewal : Renewal) (r : Result Next AllocError) → HasRun s old → EndedAndBegan s u old (next_in new renewal) → r ≡ renewal.begun → HasAsked u (begun_in new r)
+asked : (s u : Shown) (old new : Tick) (renewal : Renewal) (r : Result Next AllocError) → HasRun s old → EndedAndBegan s u old new renewal → r ≡ renewal.begun → HasAsked u (begun_in new r)
 asked s u old new renewal r ran did is = rw is (begin_asks did.ended u (begun_in new renewal.begun) (end_works s did.ended old _ ran did.releases) did.begins)
 
 pub renew-requires-clause-out : goal.renew-requires-clause-out
