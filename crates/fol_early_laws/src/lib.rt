@@ -5,7 +5,7 @@
 //! a region is allowed in both with the same answers and leads from both to worlds that differ in the same Begins alone; how one more region
 //! begins early; and how the Begin of one is recorded at last.
 //!
-//! Each law is the contract of a function with an empty body. It serves the core.
+//! Each law is the contract of a function with an empty body.
 #![tactic(auto)]
 
 ghost use Rattle.fol_early_laws.specs.EarlyBegins.{BeginComesEarly, EarlyBeginIsMet, EventsMeetEarlyBegins};
