@@ -1,7 +1,7 @@
 -- What was taken out of a store can be put back.
 use Rattle.std.proofs.Common.{◌≡◌, ℕ, ◌||◌, Bool, true, false, not, List, refl, sym, ◌∙◌, ap, subst, inl, inr, Option, Some, None}
 use Rattle.std.specs.Prelude.{nat_eq, if◌then◌else◌, IsTrue}
-use Rattle.std.specs.Option.{is_none, ForSome}
+use Rattle.std.specs.Option.{is_none, option_or, ForSome}
 use Rattle.std.proofs.lemmas.Bool.{cases_Bool}
 use Rattle.std.proofs.Math.Path.{fun_ext}
 use Rattle.fol_model.specs.declared.places.ChunkPos.{ChunkPos}
@@ -27,6 +27,10 @@ module _ {X : Type 0} (p : X → Bool) where
   pub filters_apart : (o : Option X) → IsTrue (is_none (option_filter (λ x. not (p x)) o) || is_none (option_filter p o))
   filters_apart None = refl
   filters_apart (Some x) = elim (cases_Bool (p x)) [ inl e ↦ rw e refl | inr e ↦ rw e refl ]
+
+  pub filters_join : (o : Option X) → option_or (option_filter (λ x. not (p x)) o) (option_filter p o) ≡ o
+  filters_join None = refl
+  filters_join (Some x) = elim (cases_Bool (p x)) [ inl e ↦ rw e refl | inr e ↦ rw e refl ]
 
 module _ (rec : ChunkPos → Bool) (f : Flat) where
   number_twice : (r : Bool) (n : ℕ) → (if r then n else 0) ≡ (if r then (if r then n else 0) else 0)
@@ -59,3 +63,10 @@ pub tasks_apart : (listed : List ChunkPos) (r h j : ℕ → Option Job) → h �
 tasks_apart listed r h j o e n =
     subst (λ (g : ℕ → Option Job). IsTrue (is_none (g n) || is_none (r n))) (sym o)
     (subst (λ (g : ℕ → Option Job). IsTrue (is_none (option_filter (λ (q : Job). not (is_recorded listed q.chunk)) (j n)) || is_none (g n))) (sym e) (filters_apart (λ (q : Job). is_recorded listed q.chunk) (j n)))
+
+-- the tasks that were taken out are there again
+pub tasks_again : (listed : List ChunkPos) (r h j : ℕ → Option Job) → h ≡ (λ n. option_filter (λ (q : Job). not (is_recorded listed q.chunk)) (j n)) → r ≡ (λ n. option_filter (λ (q : Job). is_recorded listed q.chunk) (j n)) → (λ n. option_or (h n) (r n)) ≡ j
+tasks_again listed r h j o e = fun_ext (λ n.
+    let left = ap (λ (g : ℕ → Option Job). g n) o in
+    let out = ap (λ (g : ℕ → Option Job). g n) e in
+    rw (left, out) (filters_join (λ (q : Job). is_recorded listed q.chunk) (j n)))

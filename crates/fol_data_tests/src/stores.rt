@@ -4,7 +4,7 @@ ghost use Rattle.std.specs.Prelude.{◌≡◌, ◌≢◌, ◌≤◌, true, IfOk,
 ghost use Rattle.fol_model.specs.declared.places.ChunkPos.{ChunkPos};
 ghost use Rattle.fol_model.specs.ActionStep.{at_id};
 ghost use Rattle.fol_store.specs.Bag.{is_whole, new_bag, no_bag};
-ghost use Rattle.fol_store.specs.Clear.{HasNoTask};
+ghost use Rattle.fol_bags.specs.Clear.{HasNoTask};
 ghost use Rattle.fol_store.specs.Relisted.{IsInOrder};
 ghost use Rattle.fol_store.specs.Stock.{bag_of, jobs_of, next_of};
 
