@@ -20,8 +20,6 @@ mod heads;
 mod lines;
 mod numbers;
 mod reading;
-#[cfg(test)]
-mod tests;
 mod words;
 
 pub use actions::action;

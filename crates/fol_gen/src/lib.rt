@@ -8,8 +8,6 @@
 
 mod clusters;
 mod laws;
-#[cfg(test)]
-mod tests;
 mod texts;
 
 pub use laws::made_script_law;

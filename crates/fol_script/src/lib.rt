@@ -24,8 +24,6 @@ mod script_lines;
 mod script_printer;
 mod scripts;
 mod taken;
-#[cfg(test)]
-mod tests;
 mod value_cells;
 mod world_blocks;
 mod world_lines;

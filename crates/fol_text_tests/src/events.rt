@@ -1,10 +1,9 @@
 //! What the reader tells of given reports.
 
-use crate::{EventLines, read_events};
+use fol_events::{EventLines, read_events};
 use fol_model::{Accept, Action, BlockPos, ChunkPos, Entry, Event, Loaded, Outcome, Ran, Unloaded};
 use std::alloc::{AllocError, Global};
 use std::process::Abort;
-use std::test::Fail;
 
 /// A report with an event of each kind, and the line behind its events.
 const SESSION: &str = "report 1\nevents 13\n\
@@ -162,10 +161,15 @@ fn line_fault(alloc: Global, line: &str) -> Result<Option<u64>, AllocError> {
     fault(alloc, text.as_str())
 }
 
+/// Compares the fault that was told of a text with the one that it has.
+fn expect(rt: &impl Abort, text: &str, told: Result<Option<u64>, AllocError>, wanted: Option<u64>) {
+    assert_eq!(rt; told, Ok(wanted), "{text}");
+}
+
 /// Compares the fault of each report with one of these lines.
-fn expect_lines(rt: &impl Abort, alloc: Global, lines: &[&str], expected: Option<u64>) {
+fn expect_lines(rt: &impl Abort, alloc: Global, lines: &[&str], wanted: Option<u64>) {
     for line in lines {
-        assert_eq!(rt; line_fault(alloc, line), Ok(expected), "{line}");
+        expect(rt, line, line_fault(alloc, line), wanted);
     }
 }
 
@@ -288,30 +292,37 @@ fn is_told(place: usize, event: &Event) -> bool {
     }
 }
 
-/// Compares entries with the session.
-fn expect_session(rt: &impl Abort, entries: &[Entry]) {
-    assert_eq!(rt; entries.len(), 13);
+/// How many of the events are those of the session, up to the first that is not.
+fn count_told(entries: &[Entry]) -> usize {
     let mut place = 0usize;
     for entry in entries {
-        let is_as_told = entry.by == 0 && is_told(place, &entry.event);
-        assert!(rt; is_as_told, "event {place}");
+        if entry.by != 0 || !is_told(place, &entry.event) {
+            return place;
+        }
         place = place.wrapping_add(1);
+    }
+    place
+}
+
+/// The same of what was read, and none where a line is said to be wrong.
+fn count_read(lines: &EventLines) -> usize {
+    match lines {
+        EventLines::Events(entries) => count_told(entries.as_slice()),
+        EventLines::Text(_) => 0,
     }
 }
 
 #[test]
-fn a_history_is_told(rt: HostRuntime) -> Result<(), Fail> {
-    match read_events(rt.alloc(), SESSION.as_bytes())? {
-        EventLines::Text(line) => assert_eq!(rt; line, 0),
-        EventLines::Events(entries) => expect_session(&rt, entries.as_slice()),
-    }
+fn a_history_is_told(rt: HostRuntime) -> Result<(), AllocError> {
+    let told = count_read(&read_events(rt.alloc(), SESSION.as_bytes())?);
+    assert_eq!(rt; told, 13);
     Ok(())
 }
 
 #[test]
 fn heads_and_counts(rt: HostRuntime) {
     for (text, line) in HEADS_AND_COUNTS {
-        assert_eq!(rt; fault(rt.alloc(), text), Ok(*line), "{text}");
+        expect(&rt, text, fault(rt.alloc(), text), *line);
     }
 }
 
@@ -351,12 +362,8 @@ const NESTED: &[(&str, usize, Option<u64>)] = &[
 
 #[test]
 fn seven_posts_nest(rt: HostRuntime) {
-    for (head, posts, expected) in NESTED {
-        assert_eq!(rt;
-            nested_fault(rt.alloc(), head, *posts),
-            Ok(*expected),
-            "{head}{posts}"
-        );
+    for (head, posts, wanted) in NESTED {
+        expect(&rt, head, nested_fault(rt.alloc(), head, *posts), *wanted);
     }
 }
 
@@ -388,17 +395,14 @@ fn count_fault(alloc: Global, digits: &str) -> Result<Option<u64>, AllocError> {
 /// Compares the fault of each line and of a count with such digits, more than any number has.
 fn expect_too_long(rt: &impl Abort, alloc: Global, digits: &str) {
     for (before, behind) in AROUND_NUMBERS {
-        assert_eq!(rt;
-            digits_fault(alloc, digits, before, behind),
-            Ok(Some(3)),
-            "{before}"
-        );
+        let told = digits_fault(alloc, digits, before, behind);
+        expect(rt, before, told, Some(3));
     }
-    assert_eq!(rt; count_fault(alloc, digits), Ok(Some(2)));
+    expect(rt, "events", count_fault(alloc, digits), Some(2));
 }
 
 #[test]
-fn numbers_of_a_thousand_digits(rt: HostRuntime) -> Result<(), Fail> {
+fn numbers_of_a_thousand_digits(rt: HostRuntime) -> Result<(), AllocError> {
     let digits = "9".repeat(rt.alloc(), 1000)?;
     expect_too_long(&rt, rt.alloc(), digits.as_str());
     Ok(())

@@ -2,8 +2,8 @@
 
 ghost use Rattle.std.specs.Prelude.{◌≤◌};
 
-use crate::{ReadError, print_script, print_world, read_script, read_world};
 use fol_model::Cause;
+use fol_script::{ReadError, print_script, print_world, read_script, read_world};
 use std::alloc::{AllocError, Global};
 use std::process::Abort;
 use std::test::Fail;
@@ -173,7 +173,7 @@ fn nested(alloc: Global, posts: u8) -> Result<String, AllocError> {
 }
 
 #[test]
-fn eight_posts_nest_and_nine_do_not(rt: HostRuntime) -> Result<(), Fail> {
+fn eight_posts_nest_and_nine_do_not(rt: HostRuntime) -> Result<(), AllocError> {
     for (posts, fault) in [(8, None), (9, Some((1, Cause::Nest)))] {
         let line = nested(rt.alloc(), posts)?;
         let told = script_fault(rt.alloc(), line.as_bytes(), 1);
@@ -182,27 +182,30 @@ fn eight_posts_nest_and_nine_do_not(rt: HostRuntime) -> Result<(), Fail> {
     Ok(())
 }
 
-/// Reads a script of version 2 and prints it.
-fn print_second(alloc: Global, text: &str) -> Result<Vec<u8>, ReadError> {
+/// Whether a script of version 2 is printed as it was read.
+fn is_printed_again(alloc: Global, text: &str) -> Result<bool, ReadError> {
     let script = read_script(alloc, text.as_bytes(), 2)?;
-    Ok(print_script(alloc, &script)?)
+    let printed = print_script(alloc, &script);
+    drop(script);
+    Ok(printed?.as_slice() == text.as_bytes())
 }
 
 #[test]
 fn the_second_version_has_repeated_tasks(rt: HostRuntime) -> Result<(), Fail> {
     let text = "load 0 0\nevery 0 0 1 2 3 set 0 0 0 4\nrun 5\nend\n";
-    let printed = print_second(rt.alloc(), text)?;
-    assert_eq!(rt; printed.as_slice(), text.as_bytes());
+    assert!(rt; is_printed_again(rt.alloc(), text)?);
     let none = "every 0 0 1 0 3 set 0 0 0 4\n";
     let told = script_fault(rt.alloc(), none.as_bytes(), 2);
     expect(&rt, none, told, Some((1, Cause::Range)));
     Ok(())
 }
 
-/// Reads a world and prints it.
-fn print_sorted(alloc: Global, text: &str) -> Result<Vec<u8>, ReadError> {
+/// Whether a world is printed as the other text.
+fn is_printed_as(alloc: Global, text: &str, wanted: &str) -> Result<bool, ReadError> {
     let world = read_world(alloc, text.as_bytes())?;
-    Ok(print_world(alloc, &world)?)
+    let printed = print_world(alloc, &world);
+    drop(world);
+    Ok(printed?.as_slice() == wanted.as_bytes())
 }
 
 #[test]
@@ -211,8 +214,7 @@ fn a_world_is_printed_in_order_and_without_skipped_lines(rt: HostRuntime) -> Res
         "# made by hand\nworld 2\n\ngrid 5 8 4 16384 1000 1000\nentity 7 0 1 2 -16 16\nblock 1 0 0 1\nblock 0 9 -1 2\nentity 3 -5 0 0 0 0\nblock 0 9 -2 65535\nblock 5 5 5 0\nblock -1 255 0 7";
     let sorted =
         "world 2\ngrid 5 8 4 16384 1000 1000\nblock -1 255 0 7\nblock 0 9 -2 65535\nblock 0 9 -1 2\nblock 1 0 0 1\nentity 3 -5 0 0 0 0\nentity 7 0 1 2 -16 16\n";
-    let printed = print_sorted(rt.alloc(), text)?;
-    assert_eq!(rt; printed.as_slice(), sorted.as_bytes());
+    assert!(rt; is_printed_as(rt.alloc(), text, sorted)?);
     Ok(())
 }
 
