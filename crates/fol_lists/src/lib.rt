@@ -11,7 +11,5 @@
 mod cells;
 mod lists;
 mod spans;
-#[cfg(test)]
-mod tests;
 
 pub use lists::Lists;

@@ -15,7 +15,5 @@ mod pool;
 mod runs;
 mod spans;
 mod splitter;
-#[cfg(test)]
-mod tests;
 
 pub use splitter::Splitter;

@@ -2,7 +2,7 @@ use Rattle.std.proofs.Common.{◌≡◌, arith}
 use Rattle.std.specs.Prelude.{◌<ℤ◌}
 use borrow.Author.Differences.{ints}
 use Rattle.fol_split.proofs.Places.{less_row, less_in_row}
-use Rattle.fol_split.proofs.tests.is_before.Goals as goal
+use Rattle.fol_region_tests.proofs.splits.is_before.Goals as goal
 
 pub returns-then-a-b : goal.returns-then-a-b
 returns-then-a-b c = λ h.

@@ -9,8 +9,8 @@ ghost use Rattle.std.specs.declared.cmp.Ordering.TheVariants.{Less};
 ghost use Rattle.fol_model.specs.Geometry.{is_section, same_section};
 ghost use Rattle.fol_model.specs.Universe.{section_cmp};
 
-use crate::Splitter;
 use fol_model::SectionPos;
+use fol_split::Splitter;
 use std::alloc::Global;
 use std::process::Abort;
 

@@ -1,6 +1,6 @@
 //! Lists that grow, move and shrink, each call once.
 
-use crate::Lists;
+use fol_lists::Lists;
 use std::process::Abort;
 
 /// A list is what was wanted.

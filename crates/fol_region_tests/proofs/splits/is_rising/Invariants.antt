@@ -4,7 +4,7 @@ use Rattle.std.specs.declared.cmp.Ordering.TheVariants.{Less}
 use Rattle.fol_model.specs.declared.places.SectionPos.{SectionPos}
 use Rattle.fol_model.specs.Geometry.{is_section}
 use Rattle.fol_model.specs.Universe.{section_cmp}
-use Rattle.fol_split.proofs.tests.is_rising.Given as goal
+use Rattle.fol_region_tests.proofs.splits.is_rising.Given as goal
 
 abbrev pub invariant-loop-i : goal.invariant-loop-i
 invariant-loop-i l = record {
