@@ -17,8 +17,6 @@ mod kept;
 mod lock;
 mod rule;
 mod seat;
-#[cfg(test)]
-mod tests;
 mod turn;
 mod view;
 

@@ -20,8 +20,6 @@ mod rule;
 mod seat;
 mod seats;
 mod slots;
-#[cfg(test)]
-mod tests;
 mod view;
 mod word;
 mod worker;

@@ -3,7 +3,7 @@ use Rattle.std.proofs.lemmas.List.Elements.{All-take, All-drop, All-same}
 use Rattle.fol_slots.specs.Shown.{place_at}
 use Rattle.fol_slots.specs.Table.{slots_id}
 use Rattle.fol_slots.proofs.Callers.{kept_new, new_free}
-use Rattle.fol_slots.proofs.tests.two_threads_claim_each_body_once.Goals as goal
+use Rattle.fol_shared_tests.proofs.slots.two_threads_claim_each_body_once.Goals as goal
 
 pub offer_all-requires-clause-kept : goal.offer_all-requires-clause-kept
 offer_all-requires-clause-kept g = λ c i low.

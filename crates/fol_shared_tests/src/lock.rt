@@ -3,10 +3,10 @@ ghost use Rattle.std.specs.Prelude.{◌≡◌, ◌∷◌, ◌++◌, [], IfOk};
 ghost use Rattle.fol_lock.specs.Seat.{IsIdle};
 ghost use Rattle.fol_lock.specs.Lock.{lock_id, seat_count};
 
-use crate::{Kept, Lock, LockAndSeats, Seat};
+use crate::compare::same;
+use fol_lock::{Kept, Lock, LockAndSeats, Seat};
 use std::alloc::{AllocError, Global};
 use std::sync::Wait;
-use std::test::Fail;
 use std::thread::{Threads, join};
 
 #[derive(Clone, Copy)]
@@ -133,36 +133,69 @@ fn count_side_by_side<R: Threads + Wait + Sync>(
     close_two(alloc, lock, first, second)
 }
 
-#[test]
-fn the_second_seat_sees_what_the_first_gave(rt: HostRuntime) -> Result<(), Fail> {
-    let (lock, mut first, mut second) = open_two(rt.alloc())?;
-    assert_eq!(rt; first.number(), 0);
-    assert_eq!(rt; second.number(), 1);
-    let five = add(&rt, &lock, &mut first, 5)?;
-    let six = add(&rt, &lock, &mut second, 6)?;
-    assert_eq!(rt; five.before, None);
-    assert_eq!(rt; six.before, Some(5));
-    let state = close_two(rt.alloc(), lock, first, second)?;
-    assert_eq!(rt; state.title, 7);
-    assert_eq!(rt; state.notes.len(), 2);
-    for (note, (by, value)) in state.notes.iter().zip([(0, 5), (1, 6)]) {
-        assert_eq!(rt; note.by, by);
-        assert_eq!(rt; note.value, value);
-    }
-    Ok(())
+/// What stood last before each of two notes, one of each seat.
+fn add_both<R: Wait>(
+    rt: &R,
+    lock: &Lock<Notes>,
+    first: &mut Seat<Notes>,
+    second: &mut Seat<Notes>,
+) -> Result<(Option<u64>, Option<u64>), AllocError>
+    requires first { IsIdle (lock_id lock.now) first.old }
+    requires second { IsIdle (lock_id lock.now) second.old }
+    ensures first { IsIdle (lock_id lock.now) first.new
+        × (first.new.number ≡ first.old.number) }
+    ensures second { IsIdle (lock_id lock.now) second.new
+        × (second.new.number ≡ second.old.number) }
+{
+    let five = add(rt, lock, first, 5)?;
+    let six = add(rt, lock, second, 6)?;
+    Ok((five.before, six.before))
+}
+
+/// Whether these are the notes of `add_both` and no others.
+fn has_both(state: &Notes) -> bool {
+    let notes = state.notes.as_slice();
+    state.title == 7
+        && notes.len() == 2
+        && (notes[0].by, notes[0].value) == (0, 5)
+        && (notes[1].by, notes[1].value) == (1, 6)
 }
 
 #[test]
-fn two_threads_lose_nothing_and_keep_their_order(rt: HostRuntime) -> Result<(), Fail> {
-    let state = count_side_by_side(&rt, rt.alloc(), 100)?;
-    assert_eq!(rt; state.notes.len(), 200);
-    for by in 0..2 {
-        let mut next = 0;
-        for note in state.notes.iter().filter(|note| note.by == by) {
-            assert_eq!(rt; note.value, next);
-            next = note.value.saturating_add(1);
+fn the_second_seat_sees_what_the_first_gave(rt: HostRuntime) -> Result<(), AllocError> {
+    let (lock, mut first, mut second) = open_two(rt.alloc())?;
+    let numbers = (first.number(), second.number());
+    let before = add_both(&rt, &lock, &mut first, &mut second);
+    let state = close_two(rt.alloc(), lock, first, second)?;
+    let is_kept = has_both(&state);
+    drop(state);
+    same(&rt, &numbers, &(0, 1));
+    same(&rt, &before, &Ok((None, Some(5))));
+    assert!(rt; is_kept);
+    Ok(())
+}
+
+/// How many of the seat's notes have the values 0, 1, 2 and so on, in this order.
+fn count_in_order(notes: &[Note], by: u32) -> u64 {
+    let mut next = 0_u64;
+    for note in notes {
+        if note.by == by && note.value == next {
+            next = next.saturating_add(1);
         }
-        assert_eq!(rt; next, 100);
     }
+    next
+}
+
+#[test]
+fn two_threads_lose_nothing_and_keep_their_order(rt: HostRuntime) -> Result<(), AllocError> {
+    let state = count_side_by_side(&rt, rt.alloc(), 100)?;
+    let notes = state.notes.as_slice();
+    let counts = (
+        notes.len(),
+        count_in_order(notes, 0),
+        count_in_order(notes, 1),
+    );
+    drop(state);
+    same(&rt, &counts, &(200, 100, 100));
     Ok(())
 }

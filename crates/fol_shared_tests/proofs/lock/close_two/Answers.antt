@@ -3,7 +3,7 @@ use Rattle.std.specs.Prelude.{slice_get}
 use Rattle.fol_lock.specs.Lock.{seat_count}
 use Rattle.fol_lock.specs.Seat.{Shown, AreAll}
 use Rattle.fol_lock.proofs.Callers.{AreAll-in_order}
-use Rattle.fol_lock.proofs.tests.close_two.Goals as goal
+use Rattle.fol_shared_tests.proofs.lock.close_two.Goals as goal
 
 two : {O E : Type 0} (first second : Shown O E) → first.number ≡ 0 → second.number ≡ 1 → AreAll 2 (first ∷ (second ∷ []))
 two first second zeroth one = AreAll-in_order 2 (first ∷ (second ∷ [])) each

@@ -3,9 +3,10 @@
 ghost use Rattle.std.specs.Prelude.{◌≡◌, ℕ, ◌<◌, None, IsSome, All, IfOk, vec_len};
 ghost use Rattle.fol_slots.specs.Table.{slots_id, slot_count};
 ghost use Rattle.fol_slots.specs.Shown.{place_at};
-ghost use Rattle.fol_slots.specs.declared.tests.TheConstants.{COUNT};
+ghost use Rattle.fol_shared_tests.specs.declared.slots.TheConstants.{COUNT};
 
-use crate::{Body, Claim, Keep, KeeperSeat, Slots, SlotsAndSeats, Word, WorkerSeat};
+use crate::compare::same;
+use fol_slots::{Body, Claim, Keep, KeeperSeat, Slots, SlotsAndSeats, Word, WorkerSeat};
 use std::alloc::{AllocError, Global};
 use std::test::Fail;
 use std::thread::{Threads, join};
@@ -66,10 +67,8 @@ fn one_body_and_two_workers(rt: HostRuntime) -> Result<(), Fail> {
     let Some(first) = seats.pop() else {
         panic!(rt; "two seats")
     };
-    assert_eq!(rt;
-        claim_and_take_in(&slots, &mut keeper, first, second),
-        Some((7, 8))
-    );
+    let found = claim_and_take_in(&slots, &mut keeper, first, second);
+    same(&rt, &found, &Some((7, 8)));
     Ok(())
 }
 
@@ -95,7 +94,8 @@ fn an_unclaimed_body_is_kept_again(rt: HostRuntime) -> Result<(), Fail> {
         mut keeper,
         seats: _,
     } = Slots::new(rt.alloc(), bodies, 0)?;
-    assert_eq!(rt; offer_and_keep(&slots, &mut keeper), Some(7));
+    let kept = offer_and_keep(&slots, &mut keeper);
+    same(&rt, &kept, &Some(7));
     Ok(())
 }
 
@@ -177,7 +177,6 @@ fn two_threads_claim_each_body_once(rt: HostRuntime) -> Result<(), Fail> {
     assert_eq!(rt; seats[0].number(), 1);
     let others = seats.split_off(COUNT as usize)?;
     let (first, second) = claim_from_both(&rt, &slots, seats, others);
-    assert_eq!(rt; first & second, 0);
-    assert_eq!(rt; first | second, 0xffff);
+    same(&rt, &(first & second, first | second), &(0, 0xffff));
     Ok(())
 }

@@ -1,7 +1,7 @@
 use Rattle.std.proofs.Common.{◌≡◌, ◌<◌, ◌≤◌, ℕ, IsSome}
 use Rattle.fol_slots.specs.Shown.{place_at}
 use Rattle.fol_slots.specs.Table.{slots_id}
-use Rattle.fol_slots.proofs.tests.offer_all.Given as goal
+use Rattle.fol_shared_tests.proofs.slots.offer_all.Given as goal
 
 abbrev pub invariant-loop-i : goal.invariant-loop-i
 invariant-loop-i l = record {
