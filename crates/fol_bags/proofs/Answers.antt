@@ -1,10 +1,6 @@
 -- What follows from the clauses of an answer.
-use Rattle.std.specs.Prelude.{OnOk, Ok, Err, Result}
-use Rattle.std.specs.Prelude.{OnErr, Ok, Err, Result}
-use Rattle.std.proofs.Common.{◌⊎◌, inl, inr}
-use Rattle.std.specs.Prelude.{OnOk, OnErr, Ok, Err, Result}
 use Rattle.std.proofs.Common.{◌≡◌, refl, ◌⊎◌, inl, inr}
-use Rattle.std.specs.Prelude.{Ok, Err, Result}
+use Rattle.std.specs.Prelude.{OnOk, OnErr, Ok, Err, Result}
 
 -- what follows from an answer's clause
 pub on_ok : {T E : Type 0} (r : Result T E) (P Q : Type 0) → OnOk r P → (P → Q) → OnOk r Q

@@ -1,26 +1,21 @@
 -- Where nothing is counted on a chunk, nothing lies there.
-use Rattle.std.proofs.Common.{◌≡◌, ◌+◌, Bool, true, false, List, ◌∷◌, refl, sym, ◌∙◌, arith}
-use Rattle.std.specs.Prelude.{if◌then◌else◌, count_by}
-use Rattle.std.proofs.lemmas.List.Sums.{sum_by-cons}
-use Rattle.std.proofs.Common.{◌≡◌, ℕ, Bool, false, List, [], ◌∷◌, sym, ◌∙◌, ap, inl, inr, Some, None}
-use Rattle.std.specs.Prelude.{nat_eq, count_by}
+use Rattle.std.proofs.Common.{◌≡◌, ℕ, ◌+◌, Bool, true, false, List, [], ◌∷◌, refl, sym, ◌∙◌, ap, inl, inr, arith, Some, None}
+use Rattle.std.specs.Prelude.{nat_eq, if◌then◌else◌, count_by}
 use Rattle.std.proofs.lemmas.Bool.{cases_Bool}
-use Rattle.std.proofs.Common.{◌≡◌, true, false, [], ◌∷◌, sym, ◌∙◌, ap, inl, inr, arith, Some}
-use Rattle.fol_keyed.proofs.Places.{same_block-true}
+use Rattle.std.proofs.lemmas.List.Sums.{sum_by-cons}
+use Rattle.fol_keyed.proofs.Places.{same_block-true, same_chunk-true}
 use Rattle.fol_model.specs.declared.places.ChunkPos.{ChunkPos}
 use Rattle.fol_model.specs.declared.places.BlockPos.{BlockPos}
 use Rattle.fol_model.specs.declared.openings.BlockAt.{BlockAt}
 use Rattle.fol_model.specs.declared.entities.Entity.{Entity}
-use Rattle.fol_model.specs.Geometry.{same_block, chunk_of}
+use Rattle.fol_model.specs.Geometry.{same_chunk, same_block, chunk_of}
 use Rattle.fol_model.specs.ActionStep.{Standing, standing_of}
-use Rattle.fol_model.specs.World.{block_in, standing_in}
-use Rattle.fol_keyed.proofs.Places.{same_chunk-true}
-use Rattle.fol_model.specs.Geometry.{same_chunk, chunk_of}
 use Rattle.fol_model.specs.Job.{is_on}
+use Rattle.fol_model.specs.World.{block_in, standing_in}
 use Rattle.fol_chunks.specs.Contents.{is_recorded, size_within}
 use Rattle.fol_data.specs.Rests.{rests_of}
 use Rattle.fol_data.specs.declared.region_data.RegionData.{RegionData}
-use Rattle.fol_bags.specs.Things.{some_number, Key, of_block, of_entity, of_task, Thing, things, chunk_at}
+use Rattle.fol_bags.specs.Things.{Key, of_block, of_entity, of_task, Thing, things, some_number, chunk_at}
 use Rattle.fol_bags.specs.Clear.{HasNoTask, IsClearOf}
 use Rattle.fol_bags.proofs.Recorded.{single-self, same_chunk-swap}
 

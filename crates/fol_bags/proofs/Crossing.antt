@@ -1,35 +1,31 @@
 -- Bags, spots and places may go to another thread.
-use Rattle.std.proofs.Crossing.{crosses}
-use Rattle.std.proofs.Crossing.{Box-send}
-use Rattle.std.proofs.Crossing.{Box-send, Vec-send}
-use Rattle.std.specs.contracts.hash.BuildHasherDefault as BuildHasherDefault
-use Rattle.std.specs.contracts.hash.FoldHasher as FoldHasher
+use mathlib.Core.List.{[], ◌∷◌}
+use denote.Builtin.{i32}
+use denote.Hole.{as_row}
+use denote.Param.Send.{IsSend, sendable}
+use denote.Param.SendFields.{as_row_send, declared_send}
+use denote.RattleType.{RattleType}
+use denote.Struct.Tuple.{Tuple}
+use Rattle.std.proofs.Crossing.{crosses, Box-send, Vec-send}
 use Rattle.std.proofs.MapsCrossing.{HashMap-send}
 use Rattle.std.specs.contracts.alloc.Global as Global
 use Rattle.std.specs.contracts.collections.HashMap as HashMap
+use Rattle.std.specs.contracts.hash.BuildHasherDefault as BuildHasherDefault
+use Rattle.std.specs.contracts.hash.FoldHasher as FoldHasher
 use Rattle.std.specs.contracts.impls.GlobalAllocator.TheImpl as GlobalAllocator
 use Rattle.std.specs.declared.cmp.PartialEq as eq
 use Rattle.std.specs.declared.hash.BuildHasher as builder
 use Rattle.std.specs.declared.hash.Hash as hash
 use Rattle.std.specs.declared.hash.Hasher as hasher
-use denote.Param.Send.{IsSend}
-use denote.Param.Send.{IsSend, sendable}
-use mathlib.Core.List.{[], ◌∷◌}
-use denote.Builtin.{i32}
-use denote.Struct.Tuple.{Tuple}
-use denote.Hole.{as_row}
-use denote.Param.SendFields.{as_row_send}
-use denote.RattleType.{RattleType}
-use denote.Param.SendFields.{declared_send}
 use Rattle.fol_data.proofs.Crossing.{RegionData-send}
 use Rattle.fol_model.proofs.Crossing.{ChunkPos-send, Sequence-send}
+use Rattle.fol_bags.specs.contracts.bags.Bags as bags
+use Rattle.fol_bags.specs.contracts.kept.Kept as kept
+use Rattle.fol_bags.specs.contracts.places.Place as place
+use Rattle.fol_bags.specs.contracts.places.Places as places
+use Rattle.fol_bags.specs.contracts.places.Places.TheInside as inside
 use Rattle.fol_bags.specs.contracts.recalled.Recalled as recalled
 use Rattle.fol_bags.specs.contracts.slot.Slot as slot
-use Rattle.fol_bags.specs.contracts.kept.Kept as kept
-use Rattle.fol_bags.specs.contracts.bags.Bags as bags
-use Rattle.fol_bags.specs.contracts.places.Place as place
-use Rattle.fol_bags.specs.contracts.places.Places.TheInside as inside
-use Rattle.fol_bags.specs.contracts.places.Places as places
 
 Recalled-send : IsSend (recalled.the_field).row
 Recalled-send = search crosses depth 14

@@ -1,22 +1,14 @@
 -- Data in which nothing lies.
-use Rattle.std.proofs.Common.{◌≡◌, refl, None}
-use Rattle.std.proofs.Common.{◌≡◌, ℕ, refl, None}
-use Rattle.std.proofs.Common.{◌≡◌, ◌≤◌, ◌^◌, List, [], sym, ◌∙◌, ap, Some, None}
-use Rattle.std.proofs.Common.{◌≡◌, List, [], ap, None}
-use Rattle.std.specs.Option.{option_map}
-use Rattle.std.proofs.Common.{◌≡◌, List, refl, None}
-use Rattle.std.proofs.Common.{◌≡◌, List, refl, Option, Some, None}
-use Rattle.std.specs.Option.{option_or}
-use Rattle.fol_queues.specs.Waiting.{dated_in}
-use Rattle.fol_queues.specs.declared.dated.Dated.{Dated}
-use Rattle.fol_data.specs.declared.region_data.RegionData.{RegionData}
+use Rattle.std.proofs.Common.{◌≡◌, List, [], refl, ap, Option, Some, None, ℕ, ◌≤◌, ◌^◌, sym, ◌∙◌}
+use Rattle.std.specs.Option.{option_map, option_or}
+use Rattle.fol_model.specs.declared.places.ChunkPos.{ChunkPos}
 use Rattle.fol_model.specs.ActionStep.{Flat}
 use Rattle.fol_queues.specs.Waiting.{dated_in, job_of}
+use Rattle.fol_queues.specs.declared.dated.Dated.{Dated}
 use Rattle.fol_chunks.specs.Contents.{flat_of, nothing}
-use Rattle.fol_model.specs.declared.places.ChunkPos.{ChunkPos}
-use Rattle.fol_chunks.specs.Contents.{nothing}
-use Rattle.fol_bags.specs.Things.{Key, of_block, of_entity, of_task, things, no_data, IsTimely, some_number}
+use Rattle.fol_data.specs.declared.region_data.RegionData.{RegionData}
 use Rattle.fol_bags.specs.Moves.{Loses, Gains}
+use Rattle.fol_bags.specs.Things.{Key, of_block, of_entity, of_task, things, some_number, IsTimely, no_data}
 
 -- nothing has nothing
 pub things_none : (k : Key) → things no_data k ≡ None

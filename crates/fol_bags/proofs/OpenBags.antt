@@ -1,13 +1,7 @@
 -- The bags of a list, by their ids.
-use Rattle.std.proofs.Common.{◌≡◌, ℕ, zero, suc, ◌<◌, true, List, [], ◌∷◌, length, get_or, arith}
-use Rattle.std.proofs.Common.{◌≡◌, ℕ, zero, suc, ◌<◌, true, ◌||◌, List, [], ◌∷◌, length, get_or, arith}
-use Rattle.std.proofs.Common.{◌≡◌, ℕ, true, List, get_or, refl}
-use Rattle.std.proofs.Common.{◌≡◌, ℕ, Bool, true, false, ◌||◌, List, get_or, refl}
-use Rattle.std.proofs.Common.{◌≡◌, ℕ, true, refl, ◌∙◌}
+use Rattle.std.proofs.Common.{◌≡◌, ◌≢◌, ℕ, zero, suc, ◌<◌, Bool, true, false, ◌||◌, List, [], ◌∷◌, length, get_or, refl, ◌∙◌, inl, inr, arith}
 use Rattle.std.specs.Prelude.{nat_eq, if◌then◌else◌}
-use Rattle.std.proofs.Common.{◌≡◌, ◌≢◌, ℕ, true, refl, ◌∙◌, inl, inr}
 use Rattle.std.proofs.lemmas.Bool.{cases_Bool, eqb-true}
-use Rattle.std.proofs.Common.{◌≡◌, ℕ, zero, suc, ◌<◌, List, [], ◌∷◌, length, get_or, refl, arith}
 use Rattle.fol_queues.proofs.Numbers.{nat_self}
 use Rattle.fol_bags.specs.declared.slot.Slot.{Slot}
 use Rattle.fol_bags.specs.Slots.{no_slot, is_open}

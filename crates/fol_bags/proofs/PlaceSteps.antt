@@ -1,24 +1,15 @@
 -- Places after a step.
-use Rattle.std.proofs.Common.{◌≡◌, ℕ, true, ◌∙◌, ap, Some}
-use Rattle.std.proofs.Common.{◌≡◌, ℕ, true, false, refl, sym, ◌∙◌, ap, Option, Some, None}
-use Rattle.std.specs.Prelude.{nat_eq}
-use Rattle.std.proofs.lemmas.Bool.{eqb-true}
-use Rattle.std.proofs.Common.{◌≡◌, ℤ, ◌&&◌, Bool, true, false, List, refl, Option, Some}
-use Rattle.std.specs.Prelude.{if◌then◌else◌}
+use Rattle.std.proofs.Common.{◌≡◌, ℕ, ℤ, ◌&&◌, ◌||◌, Bool, true, false, List, refl, sym, ◌∙◌, ap, inl, inr, Option, Some, None}
+use Rattle.std.specs.Prelude.{if◌then◌else◌, nat_eq}
 use Rattle.std.specs.Option.{unwrap_or}
 use Rattle.std.specs.Ordering.{int_eq}
-use Rattle.std.proofs.Common.{◌≡◌, ℤ, List, refl, None}
-use Rattle.std.proofs.Common.{ℕ, ◌&&◌, Bool, Some}
-use Rattle.std.proofs.Common.{◌≡◌, ℕ, ◌&&◌, ◌||◌, Bool, true, false, refl, Some}
-use Rattle.std.proofs.Common.{◌≡◌, ℕ, true, refl, sym, ◌∙◌, ap, inl, inr, Some}
-use Rattle.std.proofs.lemmas.Bool.{cases_Bool}
-use Rattle.std.proofs.Common.{◌≡◌, ℕ, false, refl, sym, ◌∙◌, ap, inl, inr}
-use Rattle.fol_queues.proofs.Numbers.{nat_self}
+use Rattle.std.proofs.lemmas.Bool.{cases_Bool, eqb-true}
+use Rattle.fol_keyed.proofs.Places.{same_chunk-true}
 use Rattle.fol_model.specs.declared.places.ChunkPos.{ChunkPos}
 use Rattle.fol_model.specs.Geometry.{same_chunk}
-use Rattle.fol_keyed.proofs.Places.{same_chunk-true}
+use Rattle.fol_queues.proofs.Numbers.{nat_self}
 use Rattle.fol_bags.specs.declared.places.Place.{Place}
-use Rattle.fol_bags.specs.Places.{is_bag, is_number, place_at, known_place, nowhere}
+use Rattle.fol_bags.specs.Places.{place_at, known_place, nowhere, is_bag, is_number}
 
 -- the test for a bag
 pub is_bag-some : (p : Place) (u : ℕ) → p.bag ≡ Some u → is_bag u p ≡ true

@@ -1,21 +1,12 @@
 -- Which chunks a list has.
-use Rattle.std.proofs.Common.{◌≡◌, true, false, sym, ◌∙◌, ap, inl, inr}
+use Rattle.std.proofs.Common.{◌≡◌, ℕ, ◌||◌, Bool, true, false, ◌+◌, ◌<◌, length, get_or, take, List, [], ◌∷◌, refl, sym, ◌∙◌, ap, inl, inr, zero, suc, arith, ◌++◌}
 use Rattle.std.proofs.lemmas.Bool.{cases_Bool}
-use Rattle.std.proofs.Common.{◌≡◌, Bool, true, false, [], ◌∷◌, refl}
-use Rattle.std.proofs.Common.{◌≡◌, true, [], ◌∷◌, refl, ◌∙◌, ap}
-use Rattle.std.proofs.Common.{◌≡◌, ℕ, zero, suc, ◌<◌, Bool, true, false, ◌||◌, List, [], ◌∷◌, length, get_or, refl, arith}
-use Rattle.std.proofs.Common.{◌≡◌, ℕ, suc, ◌<◌, true, false, List, [], ◌∷◌, length, get_or, sym, inl, inr, arith}
-use Rattle.std.proofs.Common.{◌≡◌, Bool, true, false, ◌||◌, List, [], ◌∷◌, ◌++◌, refl}
-use Rattle.std.proofs.Common.{◌≡◌, true, false, List, [], ◌∷◌, ◌++◌, refl, inl, inr}
-use Rattle.std.proofs.Common.{◌≡◌, ℕ, ◌||◌, Bool, true, false, ◌+◌, ◌<◌, length, get_or, take, List, [], ◌∷◌, refl}
 use Rattle.std.proofs.lemmas.List.{take_more}
 use Rattle.std.proofs.lemmas.List.Folds.{list_any-append}
 use Rattle.fol_keyed.proofs.Places.{same_chunk-true, same_chunk-self}
+use Rattle.fol_chunks.specs.Contents.{is_recorded}
 use Rattle.fol_model.specs.declared.places.ChunkPos.{ChunkPos}
 use Rattle.fol_model.specs.Geometry.{same_chunk}
-use Rattle.fol_chunks.specs.Contents.{is_recorded}
-use Rattle.fol_keyed.proofs.Places.{same_chunk-true}
-use Rattle.fol_keyed.proofs.Places.{same_chunk-self}
 
 -- two chunks are one or not, whichever comes first
 pub same_chunk-swap : (a b : ChunkPos) → same_chunk a b ≡ same_chunk b a

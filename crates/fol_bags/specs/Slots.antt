@@ -1,11 +1,6 @@
 -- The bags by region, and the spots by number.
-use Rattle.std.specs.Prelude.{◌≡◌, nat_eq, if◌then◌else◌, length, false, []}
-use Rattle.std.specs.Prelude.{◌≡◌, nat_eq, if◌then◌else◌, length, ℕ, List}
-use Rattle.std.specs.Prelude.{◌≡◌, nat_eq, if◌then◌else◌, length, Option, Some, None}
+use Rattle.std.specs.Prelude.{ℕ, ◌≡◌, nat_eq, if◌then◌else◌, length, Bool, not, ◌&&◌, List, slice_index_or, Option, Some, None, false, [], ◌||◌}
 use Rattle.std.specs.Global.{Box}
-use Rattle.std.specs.Prelude.{◌≡◌, nat_eq, if◌then◌else◌, length, ℕ, List, slice_index_or}
-use Rattle.std.specs.Prelude.{◌≡◌, nat_eq, if◌then◌else◌, length, Bool, ◌||◌}
-use Rattle.std.specs.Prelude.{◌≡◌, nat_eq, if◌then◌else◌, length, Bool, not, ◌&&◌}
 use Rattle.fol_data.specs.declared.region_data.RegionData.{RegionData}
 use Rattle.fol_bags.specs.declared.slot.Slot.{Slot}
 use Rattle.fol_bags.specs.Things.{no_data}

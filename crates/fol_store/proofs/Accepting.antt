@@ -1,13 +1,10 @@
 -- A task that comes.
-use Rattle.std.proofs.Common.{◌≡◌, refl, Option, Some, None}
-use Rattle.std.specs.Option.{option_map}
 use Rattle.std.proofs.Common.{◌≡◌, ℕ, ◌-◌, ◌<◌, Bool, true, false, not, cond, ◌&&◌, List, [], ◌∷◌, ◌++◌, length, get_or, refl, sym, ◌∙◌, ap, subst, ◌⊎◌, inl, inr, arith, Option, Some, None}
-use Rattle.std.specs.Prelude.{nat_eq, if◌then◌else◌}
+use Rattle.std.specs.Prelude.{nat_eq, if◌then◌else◌, IsNone}
+use Rattle.std.specs.Option.{option_map}
 use Rattle.std.proofs.lemmas.Bool.{cases_Bool, eqb-true, and_parts}
 use Rattle.std.proofs.lemmas.List.Elements.{All-append, All-cons, All-nil}
 use Rattle.std.proofs.Math.Path.{fun_ext}
-use Rattle.std.proofs.Common.{◌≡◌, ℕ, refl, Option, Some, None}
-use Rattle.std.specs.Prelude.{IsNone}
 use Rattle.fol_model.specs.ActionStep.{at_id}
 use Rattle.fol_model.specs.Job.{Job, queued}
 use Rattle.fol_chunks.specs.Contents.{is_recorded}
@@ -16,7 +13,6 @@ use Rattle.fol_queues.specs.declared.dated.Dated.{Dated}
 use Rattle.fol_queues.proofs.Numbers.{nat_self}
 use Rattle.fol_keyed.proofs.Keyed.{find_push, differ_push}
 use Rattle.fol_data.specs.Rests.{IsInTime}
-use Rattle.fol_model.specs.Job.{Job}
 use Rattle.fol_bags.specs.declared.slot.Slot.{Slot}
 use Rattle.fol_store.specs.Bag.{disturbed}
 use Rattle.fol_bags.specs.Places.{is_bag}
@@ -24,10 +20,10 @@ use Rattle.fol_bags.specs.Slots.{stays_calm, no_slot}
 use Rattle.fol_bags.specs.Things.{Key, of_block, of_entity, of_task, Thing, things, chunk_at, IsTimely}
 use Rattle.fol_store.specs.Stock.{Stock, Where, arriving, in_spot, in_bag, slot, place, column, found, flat_of, jobs_of, bag_of, shown}
 use Rattle.fol_store.specs.Sound.{Allows, Near, IsBag, IsSound}
-use Rattle.fol_bags.proofs.PlaceSteps.{is_bag-some, bag-from_is}
 use Rattle.fol_store.proofs.Totals.{IsUnique, found_of, found_none, found_columns, same_flat_at}
 use Rattle.fol_store.proofs.Resound.{Kept, kept_bag, near_kept}
 use Rattle.fol_store.proofs.BagSteps.{with_room}
+use Rattle.fol_bags.proofs.PlaceSteps.{is_bag-some, bag-from_is}
 
 pub map_none : {X Y : Type 0} (f : X → Y) (o : Option X) → option_map f o ≡ None → o ≡ None
 map_none f None h = refl

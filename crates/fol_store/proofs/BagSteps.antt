@@ -1,24 +1,17 @@
 -- Steps that change bags, and neither spots nor arrivals nor places.
-use Rattle.std.proofs.Common.{◌≡◌, ℕ}
-use Rattle.std.proofs.Common.{◌≡◌, ℕ, refl}
-use Rattle.std.proofs.Common.{ℕ, List}
-use Rattle.std.proofs.Common.{◌≡◌}
-use Rattle.std.proofs.Common.{◌≡◌, ℕ, List, refl, sym, ◌∙◌, subst, inl}
-use Rattle.std.proofs.Common.{◌≡◌, ℕ, true, false, ◌||◌, refl, sym, ◌∙◌}
-use Rattle.std.proofs.Common.{◌≡◌, ◌≢◌, ℕ, ◌<◌, ◌≤◌, Bool, true, false, List, length, refl, sym, ◌∙◌, ap, subst, inl, inr, arith}
+use Rattle.std.proofs.Common.{◌≡◌, ◌≢◌, ℕ, ◌<◌, ◌≤◌, Bool, true, false, ◌||◌, List, length, refl, sym, ◌∙◌, ap, subst, inl, inr, arith}
 use Rattle.std.specs.Prelude.{nat_eq, if◌then◌else◌}
 use Rattle.std.proofs.lemmas.Bool.{cases_Bool, cases_eq, eqb-true, eqb-false}
 use Rattle.std.proofs.Math.Path.{fun_ext}
-use Rattle.std.proofs.Common.{◌≡◌, ℕ, ◌<◌, true}
 use Rattle.fol_model.specs.ActionStep.{at_id}
 use Rattle.fol_queues.specs.declared.dated.Dated.{Dated}
-use Rattle.fol_store.specs.Bag.{Bag}
-use Rattle.fol_store.specs.Stock.{Stock, flat_of, jobs_of, next_of, bag_of, slot, shown, arriving, in_spot, in_bag, found}
-use Rattle.fol_store.specs.Sound.{IsSound, IsBag}
 use Rattle.fol_bags.specs.declared.slot.Slot.{Slot}
+use Rattle.fol_store.specs.Bag.{Bag}
 use Rattle.fol_bags.specs.Things.{Key, things, IsTimely}
-use Rattle.fol_store.proofs.Resound.{Kept, SameColumns, kept_self, same_bag, same_unique, same_found}
+use Rattle.fol_store.specs.Stock.{Stock, arriving, in_spot, in_bag, slot, found, flat_of, jobs_of, next_of, bag_of, shown}
+use Rattle.fol_store.specs.Sound.{IsBag, IsSound}
 use Rattle.fol_store.proofs.Totals.{same_flat, same_jobs}
+use Rattle.fol_store.proofs.Resound.{Kept, SameColumns, kept_self, same_unique, same_found, same_bag}
 use Rattle.fol_bags.proofs.OpenBags.{here_range}
 
 -- the bag of a region changed, and nothing else that contracts see

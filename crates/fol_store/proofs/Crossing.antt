@@ -1,6 +1,6 @@
 -- A store may go to another thread.
-use Rattle.std.proofs.Crossing.{Vec-send}
 use denote.Param.Send.{IsSend, sendable}
+use Rattle.std.proofs.Crossing.{Vec-send}
 use Rattle.fol_data.proofs.Crossing.{RegionData-send}
 use Rattle.fol_queues.proofs.Crossing.{Dated-send}
 use Rattle.fol_store.specs.contracts.store.Store as store

@@ -1,22 +1,18 @@
 -- What is noted of the spots where tasks may lie, and a listed bag for which they are drawn.
-use Rattle.std.proofs.Common.{◌≡◌, Bool, true, false, List, refl, sym, ◌∙◌, ap}
-use Rattle.std.proofs.Common.{◌≡◌, sym, ◌∙◌, ap}
-use Rattle.std.proofs.Common.{◌≡◌, true, false, sym, ◌∙◌, ap}
-use Rattle.std.proofs.Common.{◌≡◌, ℕ, true, false, not, ◌&&◌, sym, ◌∙◌, subst, Some}
-use Rattle.std.proofs.Common.{◌≡◌, ◌≢◌, ℕ, ◌≤◌, Bool, true, false, ◌||◌, List, [], length, refl, sym, ◌∙◌, ap, subst, inl, inr, arith, Some, None}
+use Rattle.std.proofs.Common.{◌≡◌, ◌≢◌, ℕ, ◌≤◌, Bool, true, false, not, ◌||◌, ◌&&◌, List, [], length, refl, sym, ◌∙◌, ap, subst, inl, inr, arith, Some, None}
 use Rattle.std.specs.Prelude.{nat_eq, if◌then◌else◌}
 use Rattle.std.proofs.lemmas.Bool.{cases_Bool, cases_eq, eqb-true}
 use Rattle.std.proofs.Math.Path.{fun_ext}
 use Rattle.fol_model.specs.declared.places.ChunkPos.{ChunkPos}
 use Rattle.fol_chunks.specs.Contents.{is_recorded}
 use Rattle.fol_keyed.proofs.Places.{same_chunk-true}
+use Rattle.fol_bags.specs.declared.slot.Slot.{Slot}
 use Rattle.fol_store.specs.Bag.{Bag}
 use Rattle.fol_store.specs.Gathered.{Spared, IsClear, Touched}
-use Rattle.fol_store.specs.Stock.{Stock, slot, place, Where, arriving, in_spot, in_bag, column, bag_of, shown}
-use Rattle.fol_store.specs.Steps.{IsNoted, IsReopened}
-use Rattle.fol_bags.specs.declared.slot.Slot.{Slot}
 use Rattle.fol_bags.specs.Things.{Key, Thing, chunk_at}
+use Rattle.fol_store.specs.Stock.{Stock, Where, arriving, in_spot, in_bag, slot, place, column, bag_of, shown}
 use Rattle.fol_store.specs.Sound.{Near, IsBag, IsSound}
+use Rattle.fol_store.specs.Steps.{IsNoted, IsReopened}
 use Rattle.fol_store.proofs.Resound.{SameColumns}
 use Rattle.fol_store.proofs.BagSteps.{with_bags, one_sound, one_columns, one_found, one_step, bag_slot, slot_here, slot_other}
 use Rattle.fol_store.proofs.Spotting.{Spotted, none_arrives}

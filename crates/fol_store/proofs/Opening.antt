@@ -1,18 +1,17 @@
 -- A bag that is opened.
-use Rattle.std.proofs.Common.{◌≡◌, ℕ, ◌+◌}
 use Rattle.std.proofs.Common.{◌≡◌, ℕ, ◌+◌, ◌<◌, ◌≤◌, ◌^◌, true, false, List, [], length, refl, sym, ◌∙◌, ap, arith}
 use Rattle.std.specs.Prelude.{nat_eq, if◌then◌else◌}
 use Rattle.std.proofs.Math.ListN.{get_or-eq_default}
 use Rattle.fol_model.specs.ActionStep.{at_id}
 use Rattle.fol_data.specs.declared.region_data.RegionData.{RegionData}
-use Rattle.fol_store.specs.Bag.{Bag, new_bag}
-use Rattle.fol_store.specs.Stock.{Stock, flat_of, jobs_of, next_of, bag_of, slot}
-use Rattle.fol_store.specs.Sound.{IsSound, IsBag}
 use Rattle.fol_bags.specs.declared.slot.Slot.{Slot}
+use Rattle.fol_store.specs.Bag.{Bag, new_bag}
 use Rattle.fol_bags.specs.Moves.{SameThings}
 use Rattle.fol_bags.specs.Things.{Key, things, IsTimely, no_data}
+use Rattle.fol_store.specs.Stock.{Stock, slot, flat_of, jobs_of, next_of, bag_of}
 use Rattle.fol_bags.specs.Slots.{no_slot}
-use Rattle.fol_bags.proofs.Empty.{things_of_nothing, timely_empty, things_none}
+use Rattle.fol_store.specs.Sound.{IsBag, IsSound}
+use Rattle.fol_bags.proofs.Empty.{things_none, things_of_nothing, timely_empty}
 use Rattle.fol_store.proofs.Totals.{same_flat, same_jobs}
 use Rattle.fol_store.proofs.Resound.{SameColumns}
 use Rattle.fol_store.proofs.BagSteps.{with_bags, one_sound, one_found, bags_shown}

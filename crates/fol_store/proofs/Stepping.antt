@@ -1,40 +1,19 @@
 -- Steps of a gathering, one after another.
-use Rattle.std.proofs.Common.{refl, arith}
-use Rattle.std.proofs.Common.{◌≤◌, ◌∙◌, arith}
-use Rattle.std.proofs.Common.{◌≡◌, List, refl, sym, subst}
-use Rattle.std.proofs.Common.{List, ◌∙◌, ap}
-use Rattle.std.proofs.Common.{◌≡◌, ℕ, List, ap}
-use Rattle.std.proofs.Common.{ℕ, List}
-use Rattle.std.proofs.Common.{ℕ, List, refl}
-use Rattle.std.proofs.Common.{ℕ, List, ◌∙◌}
-use Rattle.std.proofs.Common.{◌≡◌, ℕ, true, false, List, sym, ◌∙◌, ap, subst, inl, inr}
-use Rattle.std.proofs.lemmas.Bool.{cases_eq}
-use Rattle.std.proofs.Common.{ℕ, List, ◌∙◌, ap}
-use Rattle.std.proofs.Common.{ℕ, List, sym, subst}
-use Rattle.std.proofs.Common.{ℕ, List, subst}
-use Rattle.std.proofs.Common.{◌≡◌, ℕ, ◌<◌, true, List, length, refl, sym, ◌∙◌, ap, subst, ◌⊎◌, inl, inr, arith, Some, None}
+use Rattle.std.proofs.Common.{◌≡◌, ℕ, ◌<◌, ◌≤◌, Bool, true, false, ◌||◌, ◌&&◌, List, [], length, refl, sym, ◌∙◌, ap, subst, ◌⊎◌, inl, inr, arith, Some, None}
 use Rattle.std.specs.Prelude.{if◌then◌else◌}
-use Rattle.std.proofs.lemmas.Bool.{cases_Bool}
-use Rattle.std.proofs.Common.{◌≡◌, ℕ, [], sym, ◌∙◌, ap, Some, None}
-use Rattle.std.proofs.Common.{◌≡◌, ℕ, List, refl}
-use Rattle.std.proofs.Common.{◌≡◌, ℕ, true, List}
-use Rattle.std.proofs.Common.{◌≡◌, ℕ, false, List}
-use Rattle.std.proofs.Common.{◌≡◌, ℕ, true, List, ◌∙◌, ap}
-use Rattle.std.proofs.Common.{◌≡◌, ℕ, true, false, ◌&&◌}
-use Rattle.std.proofs.Common.{◌≡◌, ℕ, true}
-use Rattle.std.proofs.Common.{◌≡◌, ℕ, Bool, true, false, ◌||◌, List, refl, sym, ◌∙◌, inl, inr, Some}
+use Rattle.std.proofs.lemmas.Bool.{cases_Bool, cases_eq}
 use Rattle.fol_model.specs.declared.places.ChunkPos.{ChunkPos}
-use Rattle.fol_chunks.specs.Contents.{is_recorded}
 use Rattle.fol_model.specs.Geometry.{same_chunk}
+use Rattle.fol_chunks.specs.Contents.{is_recorded}
 use Rattle.fol_keyed.proofs.Places.{same_chunk-true}
-use Rattle.fol_store.specs.Stock.{Stock, bag_of, Where, arriving, in_spot, in_bag, slot, place, column, shown}
-use Rattle.fol_store.specs.Steps.{SameMeaning, Draws, IsTarget, IsGathered}
-use Rattle.fol_store.specs.Bag.{Bag}
-use Rattle.fol_store.specs.Gathered.{Spared, OthersSpared, AreFree}
-use Rattle.fol_bags.specs.Places.{PlaceRows}
 use Rattle.fol_bags.specs.declared.places.Place.{Place}
-use Rattle.fol_bags.specs.Things.{chunk_at, Key, Thing}
+use Rattle.fol_store.specs.Bag.{Bag}
+use Rattle.fol_store.specs.Gathered.{AreFree, Spared, OthersSpared}
+use Rattle.fol_bags.specs.Places.{PlaceRows}
+use Rattle.fol_bags.specs.Things.{Key, Thing, chunk_at}
+use Rattle.fol_store.specs.Stock.{Stock, Where, arriving, in_spot, in_bag, slot, place, column, bag_of, shown}
 use Rattle.fol_store.specs.Sound.{Allows, IsSound}
+use Rattle.fol_store.specs.Steps.{SameMeaning, IsGathered, Draws, IsTarget}
 use Rattle.fol_store.proofs.Resound.{SameColumns, same_found, same_bag, kept_self}
 use Rattle.fol_store.proofs.Drawing.{Drawn}
 use Rattle.fol_store.proofs.Spotting.{none_arrives}

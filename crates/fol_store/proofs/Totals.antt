@@ -1,36 +1,20 @@
 -- What a store has under a key, from what its parts have.
-use Rattle.std.proofs.Common.{◌≡◌, ◌≢◌, refl, ap, ◌⊎◌, inl, inr}
-use Rattle.std.proofs.lemmas.Bool.{cases_eq}
-use Rattle.std.proofs.Common.{◌≡◌, inl, inr, Some}
-use Rattle.std.specs.Option.{option_or}
-use Rattle.std.proofs.Common.{◌≡◌, None}
-use Rattle.std.proofs.Common.{◌≡◌, Some}
-use Rattle.std.proofs.Common.{◌≡◌, refl, sym, ◌∙◌, ap, Option, Some, None}
-use Rattle.std.proofs.Common.{◌≡◌, refl, sym, ◌∙◌, Option, Some, None}
-use Rattle.std.proofs.Common.{◌≡◌, ap}
-use Rattle.std.specs.Option.{unwrap_or}
+use Rattle.std.proofs.Common.{◌≡◌, ◌≢◌, ℕ, Bool, true, false, refl, sym, ◌∙◌, ap, ◌⊎◌, inl, inr, Option, Some, None}
+use Rattle.std.specs.Prelude.{nat_eq, if◌then◌else◌}
+use Rattle.std.specs.Option.{option_or, unwrap_or}
+use Rattle.std.proofs.lemmas.Bool.{cases_Bool, cases_eq, eqb-true}
 use Rattle.std.proofs.Math.Path.{fun_ext}
-use Rattle.std.proofs.Common.{◌≡◌}
-use Rattle.std.proofs.Common.{◌≡◌, ℕ, ap}
-use Rattle.std.proofs.Common.{◌≡◌, sym, ◌∙◌}
-use Rattle.std.proofs.Common.{◌≡◌, ℕ, false, sym, ◌∙◌, ap, inl, inr, Some, None}
-use Rattle.std.specs.Prelude.{nat_eq}
-use Rattle.std.proofs.lemmas.Bool.{cases_Bool}
-use Rattle.std.proofs.Common.{◌≡◌, ℕ, refl, sym, inl, inr}
-use Rattle.std.proofs.lemmas.Bool.{cases_Bool, eqb-true}
-use Rattle.std.proofs.Common.{◌≡◌, ℕ, Bool, true, false, refl, Option, Some, None}
-use Rattle.std.specs.Prelude.{if◌then◌else◌}
-use Rattle.fol_chunks.proofs.Flats.{flat_is}
-use Rattle.fol_model.specs.declared.places.BlockPos.{BlockPos}
-use Rattle.fol_chunks.specs.Contents.{flat_of as contents_of}
 use Rattle.fol_queues.specs.Waiting.{option_filter}
-use Rattle.fol_store.specs.Stock.{Where, arriving, in_spot, in_bag, Stock, column, found, flat_of, jobs_of, slot, spot}
+use Rattle.fol_chunks.specs.Contents.{flat_of as contents_of}
+use Rattle.fol_model.specs.declared.places.BlockPos.{BlockPos}
+use Rattle.fol_chunks.proofs.Flats.{flat_is}
 use Rattle.fol_bags.specs.declared.slot.Slot.{Slot}
 use Rattle.fol_store.specs.Columns.{first}
-use Rattle.fol_bags.specs.Things.{Key, Thing, things, arrived, no_data, of_block, of_entity, of_task, some_number}
+use Rattle.fol_bags.specs.Things.{Key, of_block, of_entity, of_task, Thing, things, some_number, arrived, no_data}
+use Rattle.fol_store.specs.Stock.{Stock, Where, arriving, in_spot, in_bag, slot, spot, column, found, flat_of, jobs_of}
 use Rattle.fol_bags.specs.Slots.{no_slot}
+use Rattle.fol_store.proofs.Columns.{or_cases_of, or_none_left, or_none_right, first_at, first_none}
 use Rattle.fol_bags.proofs.Empty.{things_none}
-use Rattle.fol_store.proofs.Columns.{or_cases_of, first_at, or_none_left, or_none_right, first_none}
 
 -- two parts are one or not
 pub where_cases : (v w : Where) → (v ≡ w) ⊎ (v ≢ w)

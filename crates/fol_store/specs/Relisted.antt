@@ -1,18 +1,10 @@
 -- What becomes of the bag of a region that has a chunk more or a chunk less, or that another region joins.
-use Rattle.std.specs.Prelude.{◌≡◌, Bool, true, false, not}
+use Rattle.std.specs.Prelude.{ℕ, ◌≡◌, ◌≢◌, Bool, true, false, not, ◌&&◌, ◌||◌, max, List, []}
 use Rattle.std.specs.List.Sorted.{IsStrictlySortedBy}
-use Rattle.std.specs.Prelude.{◌||◌}
-use Rattle.std.specs.Prelude.{not, ◌&&◌}
-use Rattle.std.specs.Prelude.{◌≡◌, true}
-use Rattle.std.specs.Prelude.{◌≡◌, true, ◌||◌, max}
-use Rattle.std.specs.Prelude.{◌≡◌}
-use Rattle.std.specs.Prelude.{ℕ, ◌≡◌, ◌≢◌, true, ◌||◌}
-use Rattle.std.specs.Prelude.{ℕ, ◌≡◌, ◌≢◌, true, List}
-use Rattle.std.specs.Prelude.{◌≡◌, true, false, []}
 use Rattle.fol_model.specs.declared.places.ChunkPos.{ChunkPos}
+use Rattle.fol_model.specs.Geometry.{same_chunk}
 use Rattle.fol_chunks.specs.Contents.{is_recorded}
 use Rattle.fol_chunks.specs.Order.{chunk_cmp}
-use Rattle.fol_model.specs.Geometry.{same_chunk}
 use Rattle.fol_store.specs.Bag.{Bag, no_bag}
 
 -- the bag is listed for the chunks that pass, in their order, or has to be gathered anew; one that was taken out keeps its chunks, and

@@ -1,17 +1,14 @@
 -- What holds of a store at all times.
-use Rattle.std.specs.Prelude.{◌≡◌, Some}
-use Rattle.std.specs.Prelude.{ℕ, ◌≡◌, true}
-use Rattle.std.specs.Prelude.{ℕ, ◌≡◌, true, false, ◌||◌, ◌&&◌, [], Some}
-use Rattle.std.specs.Prelude.{ℕ, ◌≡◌, ◌<◌, length, Some, All}
+use Rattle.std.specs.Prelude.{ℕ, ◌≡◌, ◌<◌, true, false, ◌||◌, ◌&&◌, [], length, Some, All}
 use Rattle.fol_model.specs.declared.places.ChunkPos.{ChunkPos}
 use Rattle.fol_chunks.specs.Contents.{is_recorded}
 use Rattle.fol_queues.specs.Distinct.{Distinct}
 use Rattle.fol_data.specs.Rests.{IsInTime}
-use Rattle.fol_bags.specs.declared.places.Place.{Place}
-use Rattle.fol_store.specs.Stock.{Where, arriving, in_spot, in_bag, spot, place, Stock, column, slot}
 use Rattle.fol_bags.specs.declared.slot.Slot.{Slot}
-use Rattle.fol_bags.specs.Slots.{is_open}
+use Rattle.fol_bags.specs.declared.places.Place.{Place}
 use Rattle.fol_bags.specs.Things.{Key, Thing, chunk_at, IsTimely}
+use Rattle.fol_store.specs.Stock.{Stock, Where, arriving, in_spot, in_bag, slot, spot, place, column}
+use Rattle.fol_bags.specs.Slots.{is_open}
 
 -- things of a chunk with this place may lie there
 abbrev pub Allows : Place → Where → Type 0

@@ -1,27 +1,19 @@
 -- What contracts see of a store: contents, queued tasks, and the bags of the regions.
-use Rattle.std.specs.Prelude.{ℕ, List}
-use Rattle.std.specs.Prelude.{ℕ, slice_index_or}
-use Rattle.std.specs.Prelude.{ℕ}
-use Rattle.std.specs.Prelude.{Option}
-use Rattle.std.specs.Option.{option_or}
-use Rattle.std.specs.Option.{unwrap_or}
-use Rattle.std.specs.Prelude.{ℕ, Option}
-use Rattle.std.specs.Prelude.{if◌then◌else◌}
-use Rattle.std.specs.Prelude.{ℕ, length}
-use Rattle.std.specs.Prelude.{ℕ, ◌+◌}
+use Rattle.std.specs.Prelude.{ℕ, ◌+◌, if◌then◌else◌, List, length, slice_index_or, Option}
+use Rattle.std.specs.Option.{option_or, unwrap_or}
+use Rattle.fol_model.specs.declared.places.ChunkPos.{ChunkPos}
+use Rattle.fol_model.specs.Job.{Job}
+use Rattle.fol_model.specs.ActionStep.{Flat}
+use Rattle.fol_queues.specs.Waiting.{due_count}
 use Rattle.fol_queues.specs.declared.dated.Dated.{Dated}
 use Rattle.fol_data.specs.declared.region_data.RegionData.{RegionData}
-use Rattle.fol_model.specs.declared.places.ChunkPos.{ChunkPos}
-use Rattle.fol_model.specs.ActionStep.{Flat}
-use Rattle.fol_model.specs.Job.{Job}
-use Rattle.fol_queues.specs.Waiting.{due_count}
 use Rattle.fol_bags.specs.declared.slot.Slot.{Slot}
-use Rattle.fol_bags.specs.Places.{PlaceRows, place_at}
-use Rattle.fol_bags.specs.Slots.{no_slot}
-use Rattle.fol_bags.specs.Things.{no_data, Key, Thing, things, arrived, of_block, of_entity, of_task}
 use Rattle.fol_bags.specs.declared.places.Place.{Place}
-use Rattle.fol_store.specs.Columns.{first}
 use Rattle.fol_store.specs.Bag.{Bag}
+use Rattle.fol_store.specs.Columns.{first}
+use Rattle.fol_bags.specs.Places.{PlaceRows, place_at}
+use Rattle.fol_bags.specs.Things.{Key, of_block, of_entity, of_task, Thing, things, arrived, no_data}
+use Rattle.fol_bags.specs.Slots.{no_slot}
 
 pub record Stock : Type 0 where
   -- tasks that no spot has so far
