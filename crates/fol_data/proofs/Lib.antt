@@ -1,4 +1,3 @@
 pub mod Parted
 pub mod Joined
-pub mod OneTask
 pub mod Crossing

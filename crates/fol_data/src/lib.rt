@@ -12,8 +12,6 @@
 mod offset;
 mod region_data;
 mod size;
-#[cfg(test)]
-mod tests;
 mod tick;
 
 pub use region_data::RegionData;

@@ -1,3 +1,4 @@
 mod Returning
+mod SingleTask
 mod TwoChunks
 mod OneTask

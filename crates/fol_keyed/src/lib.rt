@@ -10,8 +10,6 @@ mod order;
 mod rectangle;
 mod row;
 mod rows;
-#[cfg(test)]
-mod tests;
 
 pub use chunk_list::ChunkList;
 pub use order::{compare_blocks, compare_chunks, compare_sections};

@@ -3,5 +3,4 @@ pub mod Turns
 pub mod Below
 pub mod Parting
 pub mod Queued
-pub mod OneTask
 pub mod Crossing

@@ -13,8 +13,6 @@ mod dated;
 mod due;
 mod heap;
 mod queues;
-#[cfg(test)]
-mod tests;
 mod walks;
 
 pub use dated::Dated;

@@ -2,7 +2,7 @@ use Rattle.std.proofs.Common.{◌∙◌}
 use Rattle.fol_data.specs.Rests.{rests_of}
 use Rattle.fol_chunks.specs.Contents.{flat_of as contents_of}
 use Rattle.fol_store.specs.Stock.{flat_of, jobs_of, bag_of}
-use Rattle.fol_data_tests.proofs.Returning.{contents_return, contents_apart, tasks_return, tasks_apart}
+use Rattle.fol_data_tests.proofs.Returning.{contents_return, contents_apart, tasks_again, tasks_return, tasks_apart}
 use Rattle.fol_data_tests.proofs.stores.turn_while.Goals as goal
 
 pub put-requires-clause-contents_there : goal.put-requires-clause-contents_there
@@ -21,4 +21,10 @@ put-requires-clause-tasks_there c =
 pub put-requires-clause-tasks_apart : goal.put-requires-clause-tasks_apart
 put-requires-clause-tasks_apart c =
     tasks_apart (bag_of c.args.store.now c.args.id).chunks (rests_of c.take-taken.result.body) (jobs_of c.lose.new.self) (jobs_of c.args.store.now)
+    (c.lose.ensures.tasks ∙ c.gain.ensures.tasks ∙ c.take-taken.ensures.tasks) c.take-taken.ensures.moved_tasks
+
+pub returns-clause-tasks : goal.returns-clause-tasks
+returns-clause-tasks c =
+    c.put.ensures.tasks
+    ∙ tasks_again (bag_of c.args.store.now c.args.id).chunks (rests_of c.take-taken.result.body) (jobs_of c.lose.new.self) (jobs_of c.args.store.now)
     (c.lose.ensures.tasks ∙ c.gain.ensures.tasks ∙ c.take-taken.ensures.tasks) c.take-taken.ensures.moved_tasks

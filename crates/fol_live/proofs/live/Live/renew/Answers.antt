@@ -28,7 +28,7 @@ returns g c =
     let own = c.requires.own in
     let l = lent m c.seat.invariant.0 c.state.ensures.value c.take-turn.ensures.state c.take-turn.ensures.seat (c.requires.mine ∙ ap (λ (x : Shown). x.number) (sym c.seat.view_is)) told.before in
     releases_and_begins c.renew-answer.new.self c.args.tick.now c.renew-answer.new.tick l told.after c.give.ensures.idle c.give.ensures.number c.give.ensures.origin c.give.ensures.seen c.give.ensures.mine
-    c.renew-answer.result c.seat.view_is own (ap (λ (x : Shown). x.lock) c.seat.view_is ∙ own) told.next told.back told.refused
+    c.renew-answer.result c.seat.view_is own (ap (λ (x : Shown). x.lock) c.seat.view_is ∙ own) told.next told.same told.refused
 
 pub invariant_of-seat : goal.invariant_of-seat
 invariant_of-seat g c =

@@ -3,8 +3,8 @@ use Rattle.std.specs.List.Sorted.{IsStrictlySortedBy}
 use borrow.Author.Differences.{ints}
 use Rattle.fol_keyed.proofs.Filtered.{still_holds}
 use Rattle.fol_queues.specs.Waiting.{dated, lies_listed, IsRaisable}
-use Rattle.fol_queues.proofs.OneTask.{one_raisable}
-use Rattle.fol_queues.proofs.tests.moves.Goals as goal
+use Rattle.fol_data_tests.proofs.SingleTask.{one_raisable}
+use Rattle.fol_data_tests.proofs.queues.moves.Goals as goal
 
 pub accept-requires-clause-fresh : goal.accept-requires-clause-fresh
 accept-requires-clause-fresh c = rw (c.in_ok-reserve.ensures.tasks, c.requires.here) refl

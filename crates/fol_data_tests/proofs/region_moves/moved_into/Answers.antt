@@ -2,8 +2,8 @@ use Rattle.std.proofs.Common.{arith, pos, [], ◌∷◌}
 use Rattle.std.specs.List.Sorted.{IsStrictlySortedBy}
 use Rattle.fol_queues.specs.Waiting.{dated}
 use Rattle.fol_chunks.specs.Contents.{flat_of, within, is_listed}
-use Rattle.fol_data.proofs.OneTask.{one_in_time, apart_from_nothing}
-use Rattle.fol_data.proofs.tests.moved_into.Goals as goal
+use Rattle.fol_data_tests.proofs.SingleTask.{one_in_time, apart_from_nothing}
+use Rattle.fol_data_tests.proofs.region_moves.moved_into.Goals as goal
 
 pub size_listed-requires : goal.size_listed-requires
 unfolding IsStrictlySortedBy

@@ -1,9 +1,9 @@
-//! What only a run can show.
+//! What lies on a chunk moves to another region, whose counter is another one.
 
 ghost use Rattle.std.specs.Prelude.{◌≡◌, ◌≤◌, ◌^◌, [], IfOk};
 ghost use Rattle.fol_chunks.specs.Contents.{flat_of, nothing};
 
-use crate::{RegionData, Size};
+use fol_data::{RegionData, Size};
 use fol_model::{Action, BlockPos, ChunkPos, Task};
 use std::alloc::{AllocError, Global};
 use std::test::Fail;

@@ -1,6 +1,6 @@
-//! What only a run can show.
+//! Which chunks a list has, and which lists of chunks are rectangles.
 
-use crate::{ChunkList, Rectangle};
+use fol_keyed::{ChunkList, Rectangle};
 use fol_model::ChunkPos;
 use std::test::Fail;
 

@@ -1,9 +1,9 @@
-//! What only a run can show.
+//! Tasks that wait, are taken when they are due, and move with their chunks.
 
 ghost use Rattle.std.specs.Prelude.{◌≡◌, []};
 
-use crate::Queues;
 use fol_model::{Action, BlockPos, ChunkPos, Task};
+use fol_queues::Queues;
 use std::alloc::{AllocError, Global};
 
 fn task(number: u64, x: i32) -> Task

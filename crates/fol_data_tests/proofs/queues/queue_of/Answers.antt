@@ -3,7 +3,7 @@ use Rattle.std.proofs.lemmas.Bool.{ne_eqb}
 use Rattle.fol_model.specs.ActionStep.{at_id}
 use Rattle.fol_queues.specs.declared.dated.Dated.{Dated}
 use Rattle.fol_queues.specs.Waiting.{dated}
-use Rattle.fol_queues.proofs.tests.queue_of.Goals as goal
+use Rattle.fol_data_tests.proofs.queues.queue_of.Goals as goal
 
 -- another number has a task no more than before
 none_more : (before after : ℕ → Option Dated) (k n : ℕ) (d : Dated) → after ≡ at_id before k (Some d) → (k ≡ n → ⊥) → IsNone (before n) → IsNone (after n)
