@@ -20,8 +20,6 @@ mod host;
 mod laws;
 mod live;
 mod seat;
-#[cfg(test)]
-mod tests;
 mod world;
 
 pub use answers::{LiveBegin, LivePhase, Owners, Renewal};
