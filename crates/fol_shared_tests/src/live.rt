@@ -7,7 +7,10 @@ ghost use Rattle.fol_live.specs.Lives.{live_id};
 ghost use Rattle.fol_live.specs.Seats.{AreAllSeats};
 
 use crate::compare::same;
-use crate::world::{are_of_two_regions, begin, close_phase, finish, last, load, open_phase, release, run, start_standing};
+use crate::world::{
+    are_of_two_regions, begin, close_phase, finish, last, load, open_phase, release, run,
+    start_standing,
+};
 use fol_core::{Close, Tick};
 use fol_live::{Finish, Live, LiveAndSeats, LiveBegin, LivePhase, Seat};
 use fol_model::Loaded;
