@@ -39,4 +39,4 @@ returns-in-Err-begun_next-clause-works g c =
 pub returns-in-Err-clause-works : goal.returns-in-Err-clause-works
 returns-in-Err-clause-works g c =
     let stuck = release_fails c.args.seat.now c.renew.new.seat c.args.tick.now c.renew.new.tick c.requires.ran c.in-Err.ensures in
-    stop_holds c.renew.new.seat c.stop.new.seat stuck.calm stuck.busy c.stop.ensures
+    stop_holds c.renew.new.seat c.stop-in-Err.new.seat stuck.calm stuck.busy c.stop-in-Err.ensures
