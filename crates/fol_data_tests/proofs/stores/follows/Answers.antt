@@ -29,3 +29,15 @@ follow-first-requires-clause-only c =
     let j : Job = queued c.task.result.chunk 5 c.task.result.action in
     let one : jobs_of c.accept.new.self ≡ at_id (λ k. None) c.task.result.number (Some j) = c.accept.ensures.tasks ∙ ap (λ (f : ℕ → Option Job). at_id f c.task.result.number (Some j)) c.requires.tasks in
     only_there (jobs_of c.turn_while.new.store) c.task.result.number j _ (c.turn_while.ensures.tasks ∙ c.in_ok-gather.ensures.tasks ∙ one) c.task.ensures.chunk
+
+pub follow-second-requires-clause-only : goal.follow-second-requires-clause-only
+follow-second-requires-clause-only c =
+    let j : Job = queued c.task.result.chunk 5 c.task.result.action in
+    let one : jobs_of c.accept.new.self ≡ at_id (λ k. None) c.task.result.number (Some j) = c.accept.ensures.tasks ∙ ap (λ (f : ℕ → Option Job). at_id f c.task.result.number (Some j)) c.requires.tasks in
+    only_there (jobs_of c.follow-first.new.store) c.task.result.number j _ (c.follow-first.ensures.tasks ∙ c.turn_while.ensures.tasks ∙ c.in_ok-gather.ensures.tasks ∙ one) c.task.ensures.chunk
+
+pub follow-third-requires-clause-only : goal.follow-third-requires-clause-only
+follow-third-requires-clause-only c =
+    let j : Job = queued c.task.result.chunk 5 c.task.result.action in
+    let one : jobs_of c.accept.new.self ≡ at_id (λ k. None) c.task.result.number (Some j) = c.accept.ensures.tasks ∙ ap (λ (f : ℕ → Option Job). at_id f c.task.result.number (Some j)) c.requires.tasks in
+    only_there (jobs_of c.follow-second.new.store) c.task.result.number j _ (c.follow-second.ensures.tasks ∙ c.follow-first.ensures.tasks ∙ c.turn_while.ensures.tasks ∙ c.in_ok-gather.ensures.tasks ∙ one) c.task.ensures.chunk
