@@ -19,6 +19,6 @@ renew-requires-clause-ran g c = went_well c.run-back.result.1 (sym c.is_err.ensu
 
 pub loop-turn-preserved : goal.loop-turn-preserved
 loop-turn-preserved g c = record {
-  same = same_then _ _ _ c.loop-turn.invariant.same (same_then _ _ _ c.run-back.ensures.same c.in-None.ensures.same);
-  holds = c.in-None.ensures.holds;
+  same = same_then _ _ _ c.loop-turn.invariant.same (same_then _ _ _ c.run-back.ensures.same c.in_default.ensures.same);
+  holds = c.in_default.ensures.holds;
 }
