@@ -1,25 +1,23 @@
 -- Ends of ticks whose wishes touch no region which has begun early.
-use Rattle.std.proofs.Common.{◌≡◌, ◌≢◌, ℕ, ◌+◌, ◌-◌, ◌<◌, refl, sym, ◌∙◌, ap, arith, Bool, true, false, inl, inr, not, ◌&&◌, ◌||◌, List, [], ◌∷◌}
+use Rattle.std.proofs.Common.{◌≡◌, ℕ, ◌+◌, ◌-◌, ◌<◌, refl, sym, ◌∙◌, ap, Bool, true, false, inl, inr, not, ◌&&◌, ◌||◌, List, [], ◌∷◌}
 use Rattle.std.specs.Prelude.{nat_eq, if◌then◌else◌, Option, Some, None}
 use Rattle.std.specs.List.{AllByRecursion}
-use Rattle.std.proofs.lemmas.Bool.{cases_Bool, and_right, eqb-true, ne_eqb, false_from_ne_true, or_parts, true≢false}
+use Rattle.std.proofs.lemmas.Bool.{cases_Bool, and_right, ne_eqb, false_from_ne_true, or_parts, true≢false}
 use Rattle.fol_model.specs.Counting.{count_below, greatest_below}
 use Rattle.fol_model.specs.declared.actions.Action.{Action}
 use Rattle.fol_model.specs.declared.actions.Action.TheVariants as action
-use Rattle.fol_model.specs.declared.events.Accept.{Accept}
 use Rattle.fol_model.specs.declared.places.BlockPos.{BlockPos}
 use Rattle.fol_model.specs.declared.places.ChunkPos.{ChunkPos}
-use Rattle.fol_model.specs.declared.regions.State.TheVariants.{Ready, Ticking, Dead}
+use Rattle.fol_model.specs.declared.regions.State.TheVariants.{Ready, Ticking}
 use Rattle.fol_model.specs.declared.tasks.Ran.{Ran}
 use Rattle.fol_model.specs.declared.tasks.Wish.{Wish}
 use Rattle.fol_model.specs.Add.{is_full}
 use Rattle.fol_model.specs.ActionStep.{Recorded, at_id}
 use Rattle.fol_model.specs.Counters.{joins, owed_after_release, tick_after_release}
-use Rattle.fol_model.specs.End.{accepted, all_accepted, answers, dropped, ended, left, outcome_in, put_back, released, run_down, ticked}
+use Rattle.fol_model.specs.End.{accepted, all_accepted, answers, dropped, ended, outcome_in, put_back, released, run_down, ticked}
 use Rattle.fol_model.specs.FlatTick.{FlatEnd, flat_tick}
-use Rattle.fol_model.specs.GridState.{GridState}
 use Rattle.fol_model.specs.Holds.{posting}
-use Rattle.fol_model.specs.Job.{Job, is_on, is_taken}
+use Rattle.fol_model.specs.Job.{is_on, is_taken}
 use Rattle.fol_model.specs.Release.{cleans, is_new_part, is_part_id, must_wait, release}
 use Rattle.fol_model.specs.World.{World, due}
 use Rattle.fol_laws.specs.LateBegin.{post_touches, wishes_touch}

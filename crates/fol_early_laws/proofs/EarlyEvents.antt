@@ -1,14 +1,13 @@
 -- Every event that touches no region which has begun early.
-use Rattle.std.proofs.Common.{◌≡◌, ◌≢◌, ℕ, ◌+◌, ◌-◌, ◌≤◌, refl, sym, ◌∙◌, ap, arith, Bool, true, false, inl, inr, ◌&&◌, ◌||◌, List, [], ◌∷◌, ◌++◌}
-use Rattle.std.specs.Prelude.{nat_eq, if◌then◌else◌, Option, Some, None}
+use Rattle.std.proofs.Common.{◌≡◌, ◌≢◌, ℕ, ◌+◌, ◌-◌, ◌≤◌, refl, sym, ◌∙◌, ap, arith, Bool, true, false, inl, inr, ◌&&◌, List, []}
+use Rattle.std.specs.Prelude.{nat_eq, Option, Some, None}
 use Rattle.std.proofs.Math.Path.{fun_ext}
 use Rattle.std.proofs.lemmas.List.{append-nil}
 use Rattle.std.proofs.lemmas.Bool.{cases_eq, eq-eqb, eqb-false, ne_eqb, false_from_ne_true, or_parts, true≢false}
-use Rattle.fol_model.specs.declared.events.Entry.{Entry}
 use Rattle.fol_model.specs.declared.events.Event.{Event}
 use Rattle.fol_model.specs.declared.events.Event.TheVariants.{Load, Unload, Post, PhaseOpen, Begin, End, PhaseClose, Finish, Stop}
 use Rattle.fol_model.specs.declared.openings.Opening.{Opening}
-use Rattle.fol_model.specs.declared.regions.State.TheVariants.{Ready, Ticking}
+use Rattle.fol_model.specs.declared.regions.State.TheVariants.{Ticking}
 use Rattle.fol_model.specs.declared.tasks.Ran.{Ran}
 use Rattle.fol_model.specs.Begin.{begin}
 use Rattle.fol_model.specs.ActionStep.{Recorded, at_id}
@@ -16,13 +15,12 @@ use Rattle.fol_model.specs.End.{answers, ended, run_down, ticked}
 use Rattle.fol_model.specs.FlatTick.{FlatEnd}
 use Rattle.fol_model.specs.declared.places.ChunkPos.{ChunkPos}
 use Rattle.fol_model.specs.Geometry.{section_of}
-use Rattle.fol_model.specs.GridNumbers.{IsGrid}
 use Rattle.fol_model.specs.Holds.{loaded, posted, posting, unloaded}
 use Rattle.fol_model.specs.Job.{Job}
 use Rattle.fol_model.specs.QueuedTask.{begun}
-use Rattle.fol_model.specs.Run.{after, Allowed, load_answer, Run, unload_answer, world}
-use Rattle.fol_model.specs.World.{World, due, start}
-use Rattle.fol_laws.specs.LateBegin.{ground, is_stop, post_touches, touches, unload_touches, wishes_touch}
+use Rattle.fol_model.specs.Run.{after, Allowed, load_answer, unload_answer, world}
+use Rattle.fol_model.specs.World.{World, due}
+use Rattle.fol_laws.specs.LateBegin.{ground, is_stop, wishes_touch}
 use Rattle.fol_laws.proofs.FunctionsChanged.{at_here, at_other}
 use Rattle.fol_laws.proofs.Resting.{Resting, rest_self, rests as resting_job}
 use Rattle.fol_laws.proofs.RestingEnds.{rest_ended}

@@ -1,24 +1,23 @@
 -- Loads, unloads and posts that touch no region which has begun early.
-use Rattle.std.proofs.Common.{◌≡◌, ◌≢◌, ℕ, ◌+◌, ◌-◌, ◌≤◌, ◌<◌, refl, sym, ◌∙◌, ap, arith, Bool, true, false, inl, inr, not, ◌&&◌, ◌||◌}
-use Rattle.std.specs.Prelude.{nat_eq, nat_lt, nat_le, if◌then◌else◌, Option, Some, None}
-use Rattle.std.proofs.lemmas.Bool.{cases_Bool, cases_eq, eq-eqb, eqb-true, ne_eqb, false_from_ne_true, or_parts, true≢false}
+use Rattle.std.proofs.Common.{◌≡◌, ◌≢◌, ℕ, ◌+◌, ◌-◌, refl, sym, ◌∙◌, arith, Bool, true, false, inl, inr, not, ◌&&◌}
+use Rattle.std.specs.Prelude.{nat_eq, if◌then◌else◌, Some}
+use Rattle.std.proofs.lemmas.Bool.{cases_Bool, cases_eq, eq-eqb, ne_eqb, false_from_ne_true, or_parts, true≢false}
 use Rattle.fol_model.specs.Counting.{greatest_below}
 use Rattle.fol_model.specs.declared.actions.Action.{Action}
 use Rattle.fol_model.specs.declared.places.ChunkPos.{ChunkPos}
-use Rattle.fol_model.specs.declared.regions.State.TheVariants.{Ready, Ticking}
+use Rattle.fol_model.specs.declared.regions.State.TheVariants.{Ready}
 use Rattle.fol_model.specs.Geometry.{is_chunk, same_chunk, section_of}
-use Rattle.fol_model.specs.GridState.{GridState, is_loaded, present_count}
+use Rattle.fol_model.specs.GridState.{is_loaded}
 use Rattle.fol_model.specs.Add.{add, is_full, is_near, is_near_calm, target, wanted}
 use Rattle.fol_model.specs.Drop.{drop_hold}
-use Rattle.fol_model.specs.ActionStep.{Recorded, at_id}
+use Rattle.fol_model.specs.ActionStep.{at_id}
 use Rattle.fol_model.specs.Counters.{owed_after_add}
 use Rattle.fol_model.specs.Holds.{loaded, posted, posting, unloaded}
-use Rattle.fol_model.specs.Job.{Job, queued}
+use Rattle.fol_model.specs.Job.{queued}
 use Rattle.fol_model.specs.Run.{load_answer, unload_answer}
 use Rattle.fol_model.specs.World.{World}
 use Rattle.fol_laws.specs.LateBegin.{draws_in, ground, load_touches, post_touches, unload_touches}
-use Rattle.fol_laws.proofs.AddSections.{far_target, grid_add}
-use Rattle.fol_laws.proofs.FunctionsChanged.{at_here, at_other}
+use Rattle.fol_laws.proofs.AddSections.{far_target}
 use Rattle.fol_laws.proofs.GreatestBelow.{greatest-at_least, greatest-at_most}
 use Rattle.fol_laws.proofs.Resting.{Resting}
 use Rattle.fol_laws.proofs.RestingHolds.{rest_loaded, rest_posted, rest_unloaded}

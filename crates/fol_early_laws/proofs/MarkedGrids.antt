@@ -1,8 +1,7 @@
 -- The steps of the grid before and after the Begins of the marked regions: an Add that draws no marked region in, and a release that none joins.
-use Rattle.std.proofs.Common.{List, [], ◌∷◌, ◌≡◌, ◌≢◌, ℕ, ◌+◌, refl, sym, ◌∙◌, ap, Bool, true, false, inl, inr, not, ◌&&◌, ◌||◌}
+use Rattle.std.proofs.Common.{List, [], ◌∷◌, ◌≡◌, ◌≢◌, ℕ, ◌+◌, refl, ◌∙◌, ap, Bool, true, false, inl, inr, not, ◌&&◌, ◌||◌}
 use Rattle.std.specs.Prelude.{nat_eq, nat_lt, nat_le, length, if◌then◌else◌}
 use Rattle.std.specs.List.{position_or_len}
-use Rattle.std.proofs.Math.Path.{fun_ext}
 use Rattle.std.proofs.lemmas.Bool.{cases_Bool, ne_eqb}
 use Rattle.fol_model.specs.Counting.{count_below, some_below, least}
 use Rattle.fol_model.specs.declared.places.SectionPos.{SectionPos}
@@ -12,7 +11,7 @@ use Rattle.fol_model.specs.declared.places.ChunkPos.{ChunkPos}
 use Rattle.fol_model.specs.declared.regions.State.TheVariants.{Transient, Ready, Ticking, Dead}
 use Rattle.fol_model.specs.GridState.{GridState, at_chunk, in_margin, is_ticking, size}
 use Rattle.fol_early_laws.specs.EarlyBegins.{marked_grid}
-use Rattle.fol_model.specs.Add.{add, counted, extended, is_full, is_greatest, is_near, is_near_calm, is_near_ticking, is_wanted, target, target_waits, wanted}
+use Rattle.fol_model.specs.Add.{add, extended, is_full, is_greatest, is_near, is_near_calm, is_near_ticking, is_wanted, target, target_waits, wanted}
 
 module _ (g : GridState) (c : ChunkPos) (p : ℕ → Bool) where
   near_same : (r : ℕ) → is_near (marked_grid g p) c r ≡ is_near g c r
