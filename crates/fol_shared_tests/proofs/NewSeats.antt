@@ -1,5 +1,5 @@
 -- The seats of a world that was just started are new.
-use Rattle.std.proofs.Common.{◌≡◌, ℕ, ◌<◌, ◌∙◌, ap, arith, List, length, get_or}
+use Rattle.std.proofs.Common.{◌≡◌, ℕ, ap, arith, List, get_or}
 use Rattle.std.specs.Prelude.{All}
 use Rattle.std.proofs.lemmas.Option.{get_or_from_slice_get}
 use Rattle.fol_model.specs.declared.openings.Opening.{Opening}
