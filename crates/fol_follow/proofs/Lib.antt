@@ -9,5 +9,4 @@ pub mod Keeping
 pub mod Turning
 pub mod Heres
 pub mod Follows
-pub mod NewSeats
 pub mod Crossing

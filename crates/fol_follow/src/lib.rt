@@ -17,8 +17,6 @@ mod book;
 mod entries;
 mod laws;
 mod ledger;
-#[cfg(test)]
-mod tests;
 
 pub use book::{Book, BookAndSeats, BookSeat};
 pub use entries::{Asked, BookClosing, BookEntry, BookEvent, EntityAt, Visit, Visiting, Waiting};

@@ -5,5 +5,4 @@ pub mod Places
 pub mod Posted
 pub mod Taken
 pub mod Closing
-pub mod TwoSenders
 pub mod Crossing

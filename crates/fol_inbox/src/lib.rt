@@ -19,8 +19,6 @@ mod letter;
 mod notes;
 mod rule;
 mod sender;
-#[cfg(test)]
-mod tests;
 
 pub use close::{Closed, Rest};
 pub use drain::Drained;

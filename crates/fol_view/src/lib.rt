@@ -26,8 +26,6 @@ mod read;
 mod reader;
 mod rule;
 mod start;
-#[cfg(test)]
-mod tests;
 mod writer;
 
 pub use board::SeenOwner;

@@ -1,19 +1,20 @@
 //! Senders, a drainer and a world, as a user has them.
 
-ghost use Rattle.std.specs.Prelude.{◌≡◌, ◌≤◌, [], false, All};
-ghost use Rattle.fol_live.specs.Busy.{is_busy};
+ghost use Rattle.std.specs.Prelude.{◌≡◌, ◌≤◌, All};
 ghost use Rattle.fol_live.specs.Lives.{live_id};
 ghost use Rattle.fol_inbox.specs.Ids.{inbox_id};
 
-use crate::{Closed, Drained, Drainer, Inbox, InboxParts, Receipt, Sender};
+use crate::compare::same;
+use crate::world::{finish, last, start_standing};
+use fol_inbox::{Closed, Drained, Drainer, Inbox, InboxParts, Receipt, Sender};
 use fol_live::{Finish, Live, LiveAndSeats, Seat};
-use fol_model::{Accept, Action, ChunkPos, Grid, Opening, Sequence};
+use fol_model::{Accept, Action, ChunkPos};
 use std::alloc::Global;
 use std::process::Abort;
 use std::sync::Wait;
 use std::thread::{Threads, join};
 
-/// What each test starts with.
+/// A world with a seat for the caller and one for the drainer of an inbox with two senders.
 struct Scene {
     live: Live,
     caller: Seat,
@@ -21,39 +22,6 @@ struct Scene {
     zero: Sender,
     one: Sender,
     drainer: Drainer,
-}
-
-/// Nothing but sections of one chunk, with a create radius and a merge radius of 1.
-fn opening(alloc: Global) -> Opening {
-    let grid = Grid {
-        shift: 0,
-        create: 1,
-        merge: 1,
-        min: 2,
-        num: 1,
-        den: 6,
-    };
-    Opening {
-        version: 1,
-        grid,
-        blocks: Sequence::new(alloc),
-        entities: Sequence::new(alloc),
-    }
-}
-
-/// The last seat that is left, which is new.
-fn last_seat(rt: &impl Abort, live: &Live, seats: &mut Vec<Seat>) -> Seat
-    requires own { All (λ seat. seat.lock ≡ live_id live.now) seats.old.items }
-    requires new { All (λ seat. seat.mine ≡ []) seats.old.items }
-    ensures rest { All (λ seat. seat.lock ≡ live_id live.now) seats.new.items }
-    ensures rest_new { All (λ seat. seat.mine ≡ []) seats.new.items }
-    ensures own { result.lock ≡ live_id live.now }
-    ensures no_tick { is_busy result.mine ≡ false }
-{
-    match seats.pop() {
-        Some(seat) => seat,
-        None => panic!(rt; "a seat is left"),
-    }
 }
 
 /// The last sender that is left, which is this one.
@@ -70,7 +38,7 @@ fn last_sender(rt: &impl Abort, inbox: &Inbox, senders: &mut Vec<Sender>, number
     sender
 }
 
-/// A world with a seat for the caller and one for the drainer of an inbox with two senders.
+/// What each test starts with.
 fn make_scene(rt: &impl Abort, alloc: Global) -> Scene
     ensures caller { result.caller.lock ≡ live_id result.live }
     ensures zero { (result.zero.inbox ≡ inbox_id result.inbox) × (result.zero.number ≡ 0) }
@@ -79,11 +47,9 @@ fn make_scene(rt: &impl Abort, alloc: Global) -> Scene
         × (result.drainer.senders ≡ 2) }
     ensures world { result.drainer.seat.lock ≡ live_id result.live }
 {
-    let LiveAndSeats { live, mut seats } = Live::start(alloc, opening(alloc), 2).expect(
-        rt, "memory",
-    );
-    let seat = last_seat(rt, &live, &mut seats);
-    let caller = last_seat(rt, &live, &mut seats);
+    let LiveAndSeats { live, mut seats } = start_standing(rt, alloc, 2);
+    let seat = last(rt, &live, &mut seats, 1);
+    let caller = last(rt, &live, &mut seats, 0);
     let Ok(
         InboxParts {
             inbox,
@@ -106,28 +72,46 @@ fn make_scene(rt: &impl Abort, alloc: Global) -> Scene
     }
 }
 
-/// Sends a letter that asks for an unload, whose place is given.
+/// Sends a letter that asks for an unload, which has this place.
 #[tactic(auto, unfolding(fol_model::specs::Geometry::is_chunk, fol_model::specs::Limits::is_delay, fol_model::specs::Limits::is_action, fol_model::specs::Limits::may_post))]
-fn send<R: Abort + Wait>(rt: &R, inbox: &Inbox, sender: &mut Sender) -> u64
+fn send<R: Abort + Wait>(rt: &R, inbox: &Inbox, sender: &mut Sender, place: u64)
     requires own { sender.old.inbox ≡ inbox_id inbox.now }
     ensures own { sender.new.inbox ≡ inbox_id inbox.now }
     ensures number { sender.new.number ≡ sender.old.number }
 {
     let chunk = ChunkPos { x: 0, z: 0 };
     match inbox.send(rt, sender, chunk, 1, Action::Unload(chunk)) {
-        Ok(place) => place,
+        Ok(found) => same(rt, &found, &place),
         Err(_) => panic!(rt; "memory"),
     }
 }
 
-/// Posts at most so many letters.
+/// The letters that `send_three` sends, each with whose it is and its place, in the order in which they come.
+const THREE: [(u32, u64); 3] = [(0, 0), (1, 0), (0, 1)];
+
+/// Sends two letters of sender 0, and between them one of sender 1.
+fn send_three<R: Abort + Wait>(rt: &R, inbox: &Inbox, zero: &mut Sender, one: &mut Sender)
+    requires zero { zero.old.inbox ≡ inbox_id inbox.now }
+    requires one { one.old.inbox ≡ inbox_id inbox.now }
+    ensures zero { zero.new.inbox ≡ inbox_id inbox.now }
+    ensures zero_number { zero.new.number ≡ zero.old.number }
+    ensures one { one.new.inbox ≡ inbox_id inbox.now }
+    ensures one_number { one.new.number ≡ one.old.number }
+{
+    send(rt, inbox, zero, 0);
+    send(rt, inbox, one, 0);
+    send(rt, inbox, zero, 1);
+}
+
+/// Posts at most so many letters, and is answered this.
 fn drain<R: Abort + Wait>(
     rt: &R,
     inbox: &Inbox,
     drainer: &mut Drainer,
     live: &Live,
     max: u32,
-) -> Drained
+    wanted: Drained,
+)
     requires own { drainer.old.inbox ≡ inbox_id inbox.now }
     requires world { drainer.old.seat.lock ≡ live_id live.now }
     requires max { (1 ≤ max) × (max ≤ 65536) }
@@ -135,10 +119,7 @@ fn drain<R: Abort + Wait>(
     ensures world { drainer.new.seat.lock ≡ live_id live.now }
     ensures senders { drainer.new.senders ≡ drainer.old.senders }
 {
-    match inbox.drain(rt, drainer, live, max) {
-        Ok(drained) => drained,
-        Err(_) => panic!(rt; "memory"),
-    }
+    same(rt, &inbox.drain(rt, drainer, live, max), &Ok(wanted));
 }
 
 /// Ends an inbox with two senders.
@@ -154,23 +135,47 @@ fn close<R: Abort + Wait>(
     requires one { (one.inbox ≡ inbox_id inbox) × (one.number ≡ 1) }
     requires drainer { (drainer.inbox ≡ inbox_id inbox) × (drainer.senders ≡ 2) }
 {
-    let mut senders = Vec::with_capacity(alloc, 2).expect(rt, "memory");
-    senders.push_reserved(zero);
-    senders.push_reserved(one);
+    let senders = Vec::from_array(alloc, [zero, one]).expect(rt, "memory");
     inbox.close(rt, senders, drainer)
 }
 
-/// Compares the receipts with whose letters they are of and at what place; all were posted, one after another from the first entry on.
-fn compare(rt: &impl Abort, receipts: &[Receipt], expected: &[(u32, u64)]) {
-    assert_eq!(rt; receipts.len(), expected.len());
-    let mut entry = 0;
-    for (receipt, (sender, place)) in receipts.iter().zip(expected) {
-        assert_eq!(rt; receipt.sender, *sender);
-        assert_eq!(rt; receipt.place, *place);
-        assert_eq!(rt; receipt.entry, entry);
-        entry = receipt.entry.saturating_add(1);
-        assert_eq!(rt; receipt.answer, Accept::Posted(entry));
+/// How many receipts are of these letters, each with whose it is and at what place, up to the first that is not. All were posted, one after
+/// another from the first entry on.
+fn count_same(receipts: &[Receipt], letters: &[(u32, u64)]) -> usize {
+    let mut count = 0usize;
+    let mut entry = 0_u64;
+    for (receipt, (sender, place)) in receipts.iter().zip(letters) {
+        let next = entry.saturating_add(1);
+        let is_letter = receipt.sender == *sender && receipt.place == *place;
+        if !is_letter || receipt.entry != entry || receipt.answer != Accept::Posted(next) {
+            return count;
+        }
+        entry = next;
+        count = count.saturating_add(1);
     }
+    count
+}
+
+/// Compares the receipts with the letters that `send_three` sent.
+fn compare(rt: &impl Abort, receipts: &[Receipt]) {
+    same(rt, &(receipts.len(), count_same(receipts, &THREE)), &(3, 3));
+}
+
+/// Compares whose letter is held and at what place, and the place of the one that is left.
+fn compare_rest<R: Abort + Wait>(
+    rt: &R,
+    closed: &mut Closed,
+    held: Option<(u32, u64)>,
+    left: Option<u64>,
+) {
+    let found = match &closed.held {
+        Some(letter) => Some((letter.sender, letter.place)),
+        None => None,
+    };
+    same(rt, &found, &held);
+    let next = closed.rest.next(rt).map(|letter| letter.place);
+    same(rt, &next, &left);
+    same(rt, &closed.rest.next(rt).is_none(), &true);
 }
 
 #[test]
@@ -184,28 +189,13 @@ fn letters_are_posted_in_the_order_in_which_they_came(rt: HostRuntime) {
         mut one,
         mut drainer,
     } = make_scene(&rt, alloc);
-    assert_eq!(rt; send(&rt, &inbox, &mut zero), 0);
-    assert_eq!(rt; send(&rt, &inbox, &mut one), 0);
-    assert_eq!(rt; send(&rt, &inbox, &mut zero), 1);
-    assert_eq!(rt;
-        drain(&rt, &inbox, &mut drainer, &live, 2),
-        Drained::Moved(2)
-    );
-    assert_eq!(rt;
-        drain(&rt, &inbox, &mut drainer, &live, 8),
-        Drained::Empty(1)
-    );
-    assert_eq!(rt; send(&rt, &inbox, &mut zero), 2);
-    let Closed {
-        receipts,
-        held,
-        mut rest,
-        seat: _seat,
-    } = close(&rt, alloc, inbox, zero, one, drainer);
-    compare(&rt, receipts.as_slice(), &[(0, 0), (1, 0), (0, 1)]);
-    assert!(rt; held.is_none());
-    assert_eq!(rt; rest.next(&rt).map(|letter| letter.place), Some(2));
-    assert!(rt; rest.next(&rt).is_none());
+    send_three(&rt, &inbox, &mut zero, &mut one);
+    drain(&rt, &inbox, &mut drainer, &live, 2, Drained::Moved(2));
+    drain(&rt, &inbox, &mut drainer, &live, 8, Drained::Empty(1));
+    send(&rt, &inbox, &mut zero, 2);
+    let mut closed = close(&rt, alloc, inbox, zero, one, drainer);
+    compare(&rt, closed.receipts.as_slice());
+    compare_rest(&rt, &mut closed, None, Some(2));
 }
 
 #[test]
@@ -219,31 +209,14 @@ fn a_letter_that_comes_after_finish_is_held(rt: HostRuntime) {
         mut one,
         mut drainer,
     } = make_scene(&rt, alloc);
-    assert_eq!(rt; send(&rt, &inbox, &mut zero), 0);
-    assert_eq!(rt; send(&rt, &inbox, &mut one), 0);
-    assert_eq!(rt; send(&rt, &inbox, &mut zero), 1);
-    assert_eq!(rt;
-        drain(&rt, &inbox, &mut drainer, &live, 8),
-        Drained::Empty(3)
-    );
-    assert_eq!(rt; live.finish(&rt, &mut caller), Ok(Finish::Finished));
-    assert_eq!(rt; send(&rt, &inbox, &mut one), 1);
-    assert_eq!(rt;
-        drain(&rt, &inbox, &mut drainer, &live, 1),
-        Drained::Over(0)
-    );
-    let Closed {
-        receipts,
-        held,
-        mut rest,
-        seat: _seat,
-    } = close(&rt, alloc, inbox, zero, one, drainer);
-    compare(&rt, receipts.as_slice(), &[(0, 0), (1, 0), (0, 1)]);
-    assert_eq!(rt;
-        held.map(|letter| (letter.sender, letter.place)),
-        Some((1, 1))
-    );
-    assert!(rt; rest.next(&rt).is_none());
+    send_three(&rt, &inbox, &mut zero, &mut one);
+    drain(&rt, &inbox, &mut drainer, &live, 8, Drained::Empty(3));
+    finish(&rt, &live, &mut caller, Finish::Finished);
+    send(&rt, &inbox, &mut one, 1);
+    drain(&rt, &inbox, &mut drainer, &live, 1, Drained::Over(0));
+    let mut closed = close(&rt, alloc, inbox, zero, one, drainer);
+    compare(&rt, closed.receipts.as_slice());
+    compare_rest(&rt, &mut closed, Some((1, 1)), None);
 }
 
 /// Sends so many letters, whose places rise by one.
@@ -253,7 +226,7 @@ fn send_often<R: Abort + Wait>(rt: &R, inbox: &Inbox, mut sender: Sender, times:
     ensures number { result.number ≡ sender.number }
 {
     for place in 0..times {
-        assert_eq!(rt; send(rt, inbox, &mut sender), place);
+        send(rt, inbox, &mut sender, place);
     }
     sender
 }
@@ -284,6 +257,17 @@ fn send_side_by_side<R: Threads + Abort + Wait + Sync>(
     )
 }
 
+/// How many of the sender's receipts have the places 0, 1, 2 and so on, in this order.
+fn count_in_order(receipts: &[Receipt], sender: u32) -> u64 {
+    let mut next = 0_u64;
+    for receipt in receipts {
+        if receipt.sender == sender && receipt.place == next {
+            next = next.saturating_add(1);
+        }
+    }
+    next
+}
+
 #[test]
 fn letters_of_two_threads_are_all_posted_each_thread_in_its_order(rt: HostRuntime) {
     let alloc = rt.alloc();
@@ -296,21 +280,18 @@ fn letters_of_two_threads_are_all_posted_each_thread_in_its_order(rt: HostRuntim
         mut drainer,
     } = make_scene(&rt, alloc);
     let (zero, one) = send_side_by_side(&rt, &inbox, zero, one, 100);
-    assert_eq!(rt;
-        drain(&rt, &inbox, &mut drainer, &live, 1_000),
-        Drained::Empty(200)
+    drain(&rt, &inbox, &mut drainer, &live, 1_000, Drained::Empty(200));
+    let Closed {
+        receipts,
+        held: _held,
+        rest: _rest,
+        seat: _seat,
+    } = close(&rt, alloc, inbox, zero, one, drainer);
+    let counts = (
+        receipts.len(),
+        count_in_order(receipts.as_slice(), 0),
+        count_in_order(receipts.as_slice(), 1),
     );
-    let closed = close(&rt, alloc, inbox, zero, one, drainer);
-    for sender in 0..2 {
-        let mut next = 0;
-        for receipt in closed
-            .receipts
-            .iter()
-            .filter(|receipt| receipt.sender == sender)
-        {
-            assert_eq!(rt; receipt.place, next);
-            next = receipt.place.saturating_add(1);
-        }
-        assert_eq!(rt; next, 100);
-    }
+    drop(receipts);
+    same(&rt, &counts, &(200, 100, 100));
 }

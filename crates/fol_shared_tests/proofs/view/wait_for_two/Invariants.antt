@@ -1,5 +1,5 @@
 use Rattle.std.proofs.Common.{◌≡◌}
-use Rattle.fol_view.proofs.tests.wait_for_two.Given as goal
+use Rattle.fol_shared_tests.proofs.view.wait_for_two.Given as goal
 
 abbrev pub invariant-loop : goal.invariant-loop
 invariant-loop g l =
