@@ -1,6 +1,6 @@
 -- What the tables stand for after a Begin, and what its tick is.
 use Rattle.std.proofs.Common.{◌≡◌, ◌≢◌, ℕ, ◌+◌, ◌-◌, ◌≤◌, ◌<◌, ◌^◌, refl, sym, ◌∙◌, ap, subst, arith, true, false, inl, inr, not, ◌&&◌, ◌||◌, List, filter}
-use Rattle.std.specs.Prelude.{nat_eq, nat_lt, Option, Some, None}
+use Rattle.std.specs.Prelude.{nat_eq, nat_lt, IfSome, Option, Some, None}
 use Rattle.std.proofs.Math.Path.{fun_ext}
 use Rattle.std.proofs.lemmas.Bool.{cases_Bool, cases_eq, and_parts, ne_eqb, lt-ltb, true≢false}
 use Rattle.fol_model.specs.declared.regions.State.TheVariants.{Ready}
@@ -28,7 +28,7 @@ use Rattle.fol_queues.specs.Waiting.{option_filter, task_in}
 use Rattle.fol_regions.specs.Table.{grid_state}
 use Rattle.fol_sections.specs.Places.{count_at}
 use Rattle.fol_store.specs.Bag.{Bag, is_whole, taken_out}
-use Rattle.fol_store.specs.Stock.{bag_of, flat_of, jobs_of, next_of}
+use Rattle.fol_store.specs.Stock.{bag_of, due_of, flat_of, jobs_of, next_of}
 use Rattle.fol_core.specs.declared.tables.Course.{Course}
 use Rattle.fol_core.specs.declared.tables.Tables.{Tables}
 use Rattle.fol_core.specs.Agenda.{Covers, HaveBags, IsAgenda, owes}
@@ -200,12 +200,30 @@ owing_now g f id e l = elim (cases_Bool (nat_lt 0 id && nat_lt id g.next)) [
 ]
 
 -- the room that was reserved for a region
-pub room_for : (room : Option Room) (t : Tables) (v : Vec Entry) (id : ℕ) → HasRoom room t v → room_of room ≡ Some id
-    → (t.course.size < 2 ^ 50) × (vec_len v + 2 ≤ vec_capacity v) × (owes (grid_state t.regions) (bag_of t.store) id ≡ true → (bag_of t.store id).listed ≡ true)
-room_for None t v id r e = absurd (cc)
-room_for (Some room) t v id r e = (
-  r.size,
-  r.history,
-  (let P : ℕ → Type 0 = λ n. owes (grid_state t.regions) (bag_of t.store) n ≡ true → is_whole (bag_of t.store n) ≡ true in
-      λ o. (and_parts (bag_of t.store id).listed (bag_of t.store id).calm (subst P (same_Some room.id id e) r.whole o)).0),
-)
+pub record RoomFor (t : Tables) (v : Vec Entry) (id early marks : ℕ) : Type 0 where
+  pub size : t.course.size < 2 ^ 50
+  pub history : vec_len v + 2 + early ≤ vec_capacity v
+  pub mark : id < marks
+  pub settled : owes (grid_state t.regions) (bag_of t.store) id ≡ true → (bag_of t.store id).listed ≡ true
+
+pub room_for : (room : Option Room) (t : Tables) (v : Vec Entry) (id early marks : ℕ) → HasRoom room t v early marks → room_of room ≡ Some id → RoomFor t v id early marks
+room_for None t v id early marks r e = absurd (cc)
+room_for (Some room) t v id early marks r e = record {
+  size = r.size;
+  history = r.history;
+  mark = let P : ℕ → Type 0 = λ n. n < marks in subst P (same_Some room.id id e) r.mark;
+  settled = let P : ℕ → Type 0 = λ n. owes (grid_state t.regions) (bag_of t.store) n ≡ true → is_whole (bag_of t.store n) ≡ true in
+      λ o. (and_parts (bag_of t.store id).listed (bag_of t.store id).calm (subst P (same_Some room.id id e) r.whole o)).0;
+}
+
+-- with it the bag of the region is whole, where the region owes a tick
+pub room_whole : (room : Option Room) (t : Tables) (v : Vec Entry) (id early marks : ℕ) → HasRoom room t v early marks → room_of room ≡ Some id → owes (grid_state t.regions) (bag_of t.store) id ≡ true → is_whole (bag_of t.store id) ≡ true
+room_whole None t v id early marks r e o = absurd (cc)
+room_whole (Some room) t v id early marks r e o = let P : ℕ → Type 0 = λ n. owes (grid_state t.regions) (bag_of t.store) n ≡ true → is_whole (bag_of t.store n) ≡ true in subst P (same_Some room.id id e) r.whole o
+
+-- and there is room for its due tasks
+pub room_due : (room : Option Room) (t : Tables) (v : Vec Entry) (id early marks : ℕ) (due : Vec Task) → HasRoom room t v early marks → room_of room ≡ Some id → IfSome room (λ (r : Room). due ≡ r.due) → owes (grid_state t.regions) (bag_of t.store) id ≡ true → due_of t.store id ≤ vec_capacity due
+room_due None t v id early marks due r e given o = absurd (cc)
+room_due (Some room) t v id early marks due r e given o =
+    let P : ℕ → Type 0 = λ n. owes (grid_state t.regions) (bag_of t.store) n ≡ true → due_of t.store n ≤ vec_capacity room.due in
+    rw given (subst P (same_Some room.id id e) r.due o)

@@ -97,12 +97,12 @@ module _ (g : GridState) (id : ℕ) (ready : g.state id ≡ Ready) (positive : 0
   unfolding went
   went_quiet f c n e = let k = quiet c e in rw k refl
 
-  went_here : (f : ℕ → ℕ) (c : ChunkPos) (n next : ℕ) → owner_of g c ≡ id → n < next → went (begin g id) (at_id f id next) c n ≡ true
+  pub went_here : (f : ℕ → ℕ) (c : ChunkPos) (n next : ℕ) → owner_of g c ≡ id → n < next → went (begin g id) (at_id f id next) c n ≡ true
   unfolding went
   went_here f c n next e l = let a = here_after c e in let p : nat_lt 0 id ≡ true = lt-ltb 0 id positive in let z : nat_eq id id ≡ true = eq-eqb id id refl in
       let k : nat_lt n next ≡ true = lt-ltb n next l in rw (a, p, z, k) refl
 
-  went_else : (f : ℕ → ℕ) (c : ChunkPos) (n next : ℕ) → owner_of g c ≢ id → went (begin g id) (at_id f id next) c n ≡ went g f c n
+  pub went_else : (f : ℕ → ℕ) (c : ChunkPos) (n next : ℕ) → owner_of g c ≢ id → went (begin g id) (at_id f id next) c n ≡ went g f c n
   unfolding went
   went_else f c n next d = let a = else_after c d in let m = else_ticker c d in
       let z : nat_eq id (ticker g c) ≡ false = ne_eqb id (ticker g c) (λ x. m (sym x)) in rw (a, z) refl

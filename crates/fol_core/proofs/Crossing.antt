@@ -18,6 +18,7 @@ use Rattle.fol_core.specs.contracts.machine.Core as core
 use Rattle.fol_core.specs.contracts.machine.Core.TheInside as inside
 use Rattle.fol_core.specs.contracts.machine.Room as room
 use Rattle.fol_core.specs.contracts.tables.Course as course
+use Rattle.fol_core.specs.contracts.marks.Marks as marks
 use Rattle.fol_core.specs.contracts.tables.Tables as tables
 
 Grid-send : IsSend (grid.the_field).row
@@ -34,6 +35,9 @@ Course-send = search sendable depth 14
 
 Room-send : IsSend (room.the_field).row
 Room-send = search (sendable, Vec-send, Task-send) depth 14
+
+Marks-send : IsSend (marks.the_field).row
+Marks-send = search (sendable, Vec-send) depth 14
 
 count_send : IsSend u64
 count_send = search sendable
@@ -66,8 +70,11 @@ fields_send = declared_send inside.the_type (
     (
       Tables-send,
       (
-        search (sendable, as_row_send, Room-send) depth 14,
-        (search sendable depth 14, tt),
+        as_row_send marks.the_field Marks-send,
+        (
+          search (sendable, as_row_send, Room-send) depth 14,
+          (search sendable depth 14, tt),
+        ),
       ),
     ),
   ),

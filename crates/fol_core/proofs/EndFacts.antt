@@ -150,10 +150,12 @@ module _ (o : Opening) (ok : IsGrid o.grid) (h : List Entry) (run : Run o h) (ti
         contents_are ∙ c ∙ ap (λ (p : Recorded). within p (run_down w r done.ran).flat) (recorded_then ∙ sym recorded) ∙ ap (λ (x : List Ran). within (w.recorded r) (run_down w r x).flat) (sym ran_is);
     counter = out.of.counter ∙ sym (fr.counter o ok es mid out.by tick.worker r out.runs_on run_at);
     owed = out.of.owed ∙ sym (fr.owes o ok es mid out.by tick.worker r out.runs_on run_at);
-    worker = sym (fr.seat o ok es mid out.by tick.worker r out.runs_on run_at);
     queue = end_queue;
     there = there;
   }
+
+  pub worker_at : tick.worker ≡ (world o h).worker r
+  worker_at = rw same_world (sym (fr.seat o ok es mid out.by tick.worker r out.runs_on run_at))
 
   pub at_end : AtEnd (world o h) (since o h) tick
   at_end = rw same_world at_then

@@ -57,11 +57,8 @@ use Rattle.fol_core.specs.Released.{CanEnd, CanRelease, DropsHolds, EndsRegion, 
 use Rattle.fol_core.proofs.ReturnedBags.{back_joins, back_order, returned_settle}
 use Rattle.fol_core.proofs.SettledBags.{settled_bags}
 use Rattle.fol_core.specs.Stands.{Fits, Stands}
-use Rattle.fol_core.specs.Ticks.{IsOut}
 use Rattle.fol_core.specs.Underway.{AreFit, Ends, HasRoomFor, MayAcceptAll, Midway, Underway}
 use Rattle.fol_core.proofs.BackTasks.{apart, end_queue, in_time, tasks_apart}
-use Rattle.fol_core.proofs.EndFacts.{at_end}
-use Rattle.fol_core.proofs.OutAtBegin.{out_at_begin}
 use Rattle.fol_core.proofs.Flats.{flat_ext}
 use Rattle.fol_core.proofs.Held.{ends_most}
 use Rattle.fol_core.proofs.Longer.{good_of}
@@ -103,7 +100,7 @@ queued_was g r (Some i) j h = elim (cases_Bool (is_queued_in g r i)) [
   | inr k ↦ let e : None ≡ Some j = rw k at h in absurd (cc)
 ]
 
-module _ (t : Tables) (tick : Tick) (o : Opening) (h : List Entry) (m : Option ℕ) (s : Stands o h t) (out : IsOut (record { opening = o; history = h; room = m }) tick) where
+module _ (t : Tables) (tick : Tick) (o : Opening) (h : List Entry) (s : Stands o h t) (at : AtEnd (world o h) (since o h) tick) where
   abbrev w : World
   w = world o h
 
@@ -115,9 +112,6 @@ module _ (t : Tables) (tick : Tick) (o : Opening) (h : List Entry) (m : Option �
 
   good : Good o w
   good = good_of o h t s
-
-  pub at : AtEnd w (since o h) tick
-  at = at_end o s.grid h s.run tick (out_at_begin o s.grid h s.run m tick out)
 
   run_nil : RunFrom (start o) (h ++ [])
   run_nil = rw (append-nil h) s.run

@@ -104,6 +104,10 @@ gathered_agenda xs g f h e a = record {
 pub gathered_owes : (g : GridState) (f k : ℕ → Bag) (id : ℕ) → ((r : ℕ) → Gathered g r (f r) (k r)) → owes g f id ≡ true → owes g k id ≡ true
 gathered_owes g f k id bags x = let e = (bags id).owes in rw e x
 
+-- and none owes one that owed none
+pub owes_as_before : (g : GridState) (f k : ℕ → Bag) (id : ℕ) → ((r : ℕ) → Gathered g r (f r) (k r)) → owes g k id ≡ owes g f id
+owes_as_before g f k id bags = let e = (bags id).owes in rw e refl
+
 module _ (o : Opening) (h : List Entry) (t : Tables) (s : Stands o h t) where
   pub gathered_stands : (k : Stock) → SameThings t.store k → next_of k ≡ next_of t.store → ((r : ℕ) → Gathered (grid_state t.regions) r (bag_of t.store r) (bag_of k r)) → Stands o h (record t { store = k })
   gathered_stands k things next bags = record {

@@ -153,8 +153,8 @@ module _ (o : Opening) (h : List Entry) (t : Tables) (s : Stands o h t) where
           all_bags.covers t.agenda.items s.fits.agenda.covers r (rw e at x);
     }
 
-    pub can_hold : (v : Vec Entry) (wanted : ℕ) → HasGrown t v wanted → CanHold t c
-    can_hold v wanted room = record {
+    pub can_hold : (v : Vec Entry) (wanted early : ℕ) → HasGrown t v wanted early → CanHold t c
+    can_hold v wanted early room = record {
       in_range = limits;
       spare = room.regions;
       few = rw s.fits.regions (few_holds (omega (arith, room.size)) c);

@@ -50,6 +50,17 @@ pub mod ReturnedBags
 pub mod FinishedRuns
 pub mod ReleaseKept
 pub mod BegunHands
+pub mod AgendaTop
+pub mod MarkCounts
+pub mod AheadHands
+pub mod AheadRuns
+pub mod Ahead
+pub mod AheadAnswers
+pub mod AheadPhases
+pub mod AheadTicks
+pub mod AheadBegins
+pub mod AheadQuiet
+pub mod AheadEnds
 pub mod DueLists
 pub mod BeginKept
 pub mod BeginTick

@@ -20,7 +20,7 @@ pub answered_more : (es : List Entry) (e : Entry) → answered (es ++ e ∷ []) 
 answered_more [] e = omega arith
 answered_more (x ∷ es) e = omega (arith, answered_more es e)
 
-length_more : (es : List Entry) (e : Entry) → length (es ++ e ∷ []) ≡ length es + 1
+pub length_more : (es : List Entry) (e : Entry) → length (es ++ e ∷ []) ≡ length es + 1
 length_more es e = length-append es (e ∷ [])
 
 -- the world after the history has all that the laws say

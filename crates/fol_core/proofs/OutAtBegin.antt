@@ -1,6 +1,6 @@
 -- A tick that was made before its Begin is one that could have been made at it.
 use Rattle.std.proofs.Common.{◌≡◌, ℕ, ◌-◌, sym, ◌∙◌, ap, subst, true, List, ◌∷◌, ◌++◌, append_assoc}
-use Rattle.std.specs.Prelude.{nat_eq, filter, Option}
+use Rattle.std.specs.Prelude.{nat_eq, filter}
 use Rattle.std.proofs.lemmas.Bool.{and_parts, ltb-true}
 use Rattle.std.proofs.Math.Path.{fun_ext}
 use Rattle.fol_model.specs.declared.openings.Opening.{Opening}
@@ -26,6 +26,7 @@ use Rattle.fol_laws.proofs.LongerRuns.{world_both}
 use Rattle.fol_laws.proofs.WholeRuns.{Good, good_run}
 use Rattle.fol_chunks.specs.Contents.{is_recorded, within}
 use Rattle.fol_data.specs.declared.tick.Tick.{Tick}
+use Rattle.fol_core.specs.Meaning.{Meaning}
 use Rattle.fol_core.specs.Ticks.{HasRun, IsOut, IsTickOf}
 use Rattle.fol_core.proofs.ChunkLists.{kept_listed}
 use Rattle.fol_core.proofs.FinishedRun.{within_same}
@@ -85,7 +86,13 @@ module _ (o : Opening) (w v : World) (tick : Tick) (good : Good o w) (same : Sam
       ∙ within_same ((begun w tick.worker tick.region).recorded tick.region) w.flat v.flat same_flat
       ∙ ap (λ (p : Recorded). within p v.flat) (sym listed)
 
-module _ (o : Opening) (ok : IsGrid o.grid) (h : List Entry) (run : Run o h) (room : Option ℕ) (tick : Tick) (out : IsOut (record { opening = o; history = h; room = room }) tick) where
+module _ (m : Meaning) (ok : IsGrid m.opening.grid) (run : Run m.opening m.history) (tick : Tick) (out : IsOut m tick) where
+  abbrev o : Opening
+  o = m.opening
+
+  abbrev h : List Entry
+  h = m.history
+
   abbrev e : Entry
   e = record { by = out.made.by; event = Begin tick.worker tick.region }
 

@@ -167,7 +167,7 @@ module _ (o : Opening) (h : List Entry) (t : Tables) (s : Stands o h t) where
     busy_none : find (is_busy_in (grid_state t.regions) (bag_of t.store)) live ≡ None → some_below (is_busy (world o h)) (world o h).grid.next ≡ false
     busy_none e = first_none (is_busy (world o h)) (world o h).grid.next (sym busy_found ∙ e)
 
-    none_busy : find (is_busy_in (grid_state t.regions) (bag_of t.store)) live ≡ None → (r : ℕ) → (world o h).grid.state r ≢ Dead → is_busy (world o h) r ≡ false
+    pub none_busy : find (is_busy_in (grid_state t.regions) (bag_of t.store)) live ≡ None → (r : ℕ) → (world o h).grid.state r ≢ Dead → is_busy (world o h) r ≡ false
     none_busy e r d =
         let f : AllByRecursion (λ r. is_busy (world o h) r ≡ false) (live_in (world o h).grid) = none_passes (is_busy (world o h)) (live_in (world o h).grid)
         (ap (find (is_busy (world o h))) (sym (l ∙ ap live_in s.fits.regions)) ∙ ap (λ p. find p live) (sym (fun_ext busy_same)) ∙ e) in

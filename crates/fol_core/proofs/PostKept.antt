@@ -72,7 +72,7 @@ module _ (o : Opening) (h : List Entry) (t : Tables) (s : Stands o h t) (c : Chu
   fresh_number = let none : (world o h).jobs t.course.next_job ≡ None = (good_of o h t s).sound.numbers t.course.next_job (omega (arith, s.fits.course.next_job)) in
       rw s.fits.stored.jobs (rw none refl)
 
-  accept_same : (answer : Accept) → answer ≡ accept_in (grid_state t.regions) t.course.next_job c → answer ≡ posting (world o h) c
+  pub accept_same : (answer : Accept) → answer ≡ accept_in (grid_state t.regions) t.course.next_job c → answer ≡ posting (world o h) c
   accept_same answer e = e ∙ ap (λ g. accept_in g t.course.next_job c) s.fits.regions ∙ ap (λ n. accept_in (world o h).grid n c) s.fits.course.next_job
 
   module _ (limits : is_chunk c ≡ true) (delay : is_delay d ≡ true) (within : is_action a ≡ true) (may : may_post a ≡ true) (by caller : ℕ) (answer : Accept) (told : answer ≡ accept_in (grid_state t.regions) t.course.next_job c)

@@ -1,6 +1,6 @@
 -- The bags and the stack when a tick of a region passes in which nothing happens.
-use Rattle.std.proofs.Common.{◌≡◌, ℕ, ◌+◌, ◌-◌, ◌<◌, refl, sym, ◌∙◌, ap, arith, true, inl, inr, ◌&&◌, List}
-use Rattle.std.specs.Prelude.{nat_eq, nat_lt}
+use Rattle.std.proofs.Common.{◌≡◌, ℕ, ◌+◌, ◌-◌, ◌<◌, sym, ◌∙◌, ap, arith, true, inl, inr, List}
+use Rattle.std.specs.Prelude.{nat_lt}
 use Rattle.std.proofs.lemmas.Bool.{cases_eq, and_from, and_parts, lt-ltb, ltb-true}
 use Rattle.fol_model.specs.GridState.{GridState, is_ready}
 use Rattle.fol_model.specs.ActionStep.{at_id}

@@ -1,14 +1,14 @@
 -- What a tick in which nothing happens leaves in nobody's hands.
-use Rattle.std.proofs.Common.{◌≡◌, ◌≢◌, ℕ, ◌+◌, ◌-◌, ◌≤◌, ◌<◌, refl, sym, ◌∙◌, ap, arith, Bool, true, false, inl, inr, not, ◌&&◌, ◌||◌, List, [], ◌∷◌}
-use Rattle.std.specs.Prelude.{nat_eq, nat_lt, nat_le, if◌then◌else◌, Option, Some, None}
+use Rattle.std.proofs.Common.{◌≡◌, ◌≢◌, ℕ, ◌≤◌, ◌<◌, refl, sym, ◌∙◌, ap, arith, true, false, inl, inr}
+use Rattle.std.specs.Prelude.{nat_eq, nat_le, Option, Some, None}
 use Rattle.std.proofs.Math.Path.{fun_ext}
-use Rattle.std.proofs.lemmas.Bool.{cases_Bool, cases_eq, and_parts, and_from, and_right, eqb-true, eqb-false, eq-eqb, ne_eqb, lt-leb, lt-ltb, true≢false}
+use Rattle.std.proofs.lemmas.Bool.{cases_Bool, and_parts, and_from, and_right, eqb-true, ne_eqb, lt-leb, true≢false}
 use Rattle.fol_model.specs.declared.places.ChunkPos.{ChunkPos}
 use Rattle.fol_model.specs.declared.regions.State.TheVariants.{Ready}
-use Rattle.fol_model.specs.Geometry.{chunk_of, section_of}
+use Rattle.fol_model.specs.Geometry.{chunk_of}
 use Rattle.fol_model.specs.GridState.{GridState, is_loaded, is_ticking}
 use Rattle.fol_model.specs.ActionStep.{Flat, Recorded, Standing, at_id}
-use Rattle.fol_model.specs.FlatTick.{moved, walked, ahead}
+use Rattle.fol_model.specs.FlatTick.{moved, walked}
 use Rattle.fol_model.specs.Job.{Job, is_taken}
 use Rattle.fol_model.specs.Outputs.{is_chunk_of}
 use Rattle.fol_model.specs.QueuedTask.{counted_down, is_queued_in}

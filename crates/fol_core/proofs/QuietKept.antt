@@ -1,11 +1,9 @@
 -- What the tables stand for after a tick in which nothing happens.
-use Rattle.std.proofs.Common.{◌≡◌, ◌≢◌, ℕ, ◌+◌, ◌-◌, ◌≤◌, ◌<◌, ◌^◌, refl, sym, ◌∙◌, ap, subst, arith, true, false, inl, inr, not, ◌&&◌, ◌||◌, List, [], ◌∷◌, ◌++◌, filter, length, length-append}
+use Rattle.std.proofs.Common.{◌≡◌, ◌≢◌, ℕ, ◌+◌, ◌-◌, ◌≤◌, ◌<◌, ◌^◌, refl, sym, ◌∙◌, ap, subst, arith, true, false, inl, inr, ◌&&◌, ◌||◌, List, [], ◌∷◌, ◌++◌, filter, length-append}
 use Rattle.std.specs.Prelude.{nat_eq, nat_lt, Option, Some, None}
 use Rattle.std.specs.Option.{ForSome}
 use Rattle.std.proofs.Math.Path.{fun_ext}
-use Rattle.std.proofs.lemmas.Bool.{cases_Bool, cases_eq, and_parts, ltb-true, lt-ltb, lt-leb, or_parts, true≢false}
-use Rattle.std.proofs.lemmas.List.{append_assoc}
-use Rattle.fol_model.specs.declared.places.ChunkPos.{ChunkPos}
+use Rattle.std.proofs.lemmas.Bool.{cases_Bool, cases_eq, and_parts, ltb-true, lt-ltb, lt-leb, or_parts}
 use Rattle.fol_model.specs.declared.regions.State.TheVariants.{Ready, Ticking}
 use Rattle.fol_model.specs.declared.tasks.Ran.{Ran}
 use Rattle.fol_model.specs.declared.events.Accept.{Accept}
@@ -15,7 +13,7 @@ use Rattle.fol_model.specs.declared.events.Entry.{Entry}
 use Rattle.fol_model.specs.Geometry.{section_of}
 use Rattle.fol_model.specs.Universe.{all_chunks}
 use Rattle.fol_model.specs.GridState.{GridState, is_loaded, is_ready}
-use Rattle.fol_model.specs.ActionStep.{Flat, Recorded, at_id}
+use Rattle.fol_model.specs.ActionStep.{Recorded, at_id}
 use Rattle.fol_model.specs.FlatTick.{moved}
 use Rattle.fol_model.specs.Job.{Job, is_taken}
 use Rattle.fol_model.specs.Outputs.{is_chunk_of}
@@ -25,31 +23,28 @@ use Rattle.fol_model.specs.Begin.{begin}
 use Rattle.fol_model.specs.Release.{release}
 use Rattle.fol_model.specs.Counters.{owed_after_release, tick_after_release}
 use Rattle.fol_model.specs.End.{ended}
-use Rattle.fol_model.specs.Run.{Allowed, Run, after, after_all, world}
-use Rattle.fol_laws.specs.Growth.{answered, answers_in}
+use Rattle.fol_model.specs.Run.{Allowed, Run, after, world}
 use Rattle.fol_laws.proofs.CounterGrowth.{all_most}
 use Rattle.fol_laws.proofs.FunctionsChanged.{at_here, at_other}
-use Rattle.fol_laws.proofs.LongerRuns.{run_more, world_both, world_more}
+use Rattle.fol_laws.proofs.LongerRuns.{run_more, world_more}
 use Rattle.fol_laws.proofs.RecordedMargins.{chunk_held}
 use Rattle.fol_laws.proofs.WholeRuns.{Good}
 use Rattle.fol_chunks.specs.Contents.{is_recorded, outside, within}
-use Rattle.fol_queues.specs.Waiting.{task_in}
 use Rattle.fol_regions.specs.Table.{grid_state}
 use Rattle.fol_sections.specs.Places.{count_at}
-use Rattle.fol_store.specs.Bag.{Bag, is_whole}
+use Rattle.fol_store.specs.Bag.{Bag}
 use Rattle.fol_store.specs.Passing.{nearer}
-use Rattle.fol_store.specs.Stock.{bag_of, flat_of, jobs_of, next_of}
+use Rattle.fol_store.specs.Stock.{bag_of, flat_of, jobs_of}
 use Rattle.fol_core.specs.declared.tables.Course.{Course}
 use Rattle.fol_core.specs.declared.tables.Tables.{Tables}
 use Rattle.fol_core.specs.Begun.{due_task}
 use Rattle.fol_core.specs.Bags.{IsBagOf}
-use Rattle.fol_core.specs.Hands.{at_rest, in_hands, rests, since, since_from, since_after}
+use Rattle.fol_core.specs.Hands.{at_rest, rests, since}
 use Rattle.fol_core.specs.Agenda.{IsAgenda, owes}
-use Rattle.fol_core.specs.Quiet.{IsQuiet, PassesOne, PassesTick}
+use Rattle.fol_core.specs.Quiet.{IsQuiet, PassesTick}
 use Rattle.fol_core.specs.Stands.{Fits, IsCourse, Stands}
-use Rattle.fol_core.proofs.BegunHands.{not_in_hands, within_outside}
 use Rattle.fol_core.proofs.BeginKept.{begin_contents, begin_due, begun_marks, its_chunks}
-use Rattle.fol_core.proofs.ChunkLists.{kept_listed, loaded_within, owned}
+use Rattle.fol_core.proofs.ChunkLists.{kept_listed, loaded_within}
 use Rattle.fol_core.proofs.GatheredBags.{ready_here, ready_now}
 use Rattle.fol_core.proofs.Held.{ends_most}
 use Rattle.fol_core.proofs.LoadKept.{SameMarks}
@@ -153,8 +148,8 @@ module _ (o : Opening) (h : List Entry) (t : Tables) (s : Stands o h t) (id : �
   rests_again : grid_state t.regions ≡ w.grid
   rests_again = s.fits.regions
 
-  counter_now : (bag_of t.store id).tick ≡ w.tick id
-  counter_now = (s.fits.stored.bags id).counter (sym (s.fits.stored.bags id).here ∙ ready_here o h t s id quiet.owing)
+  pub quiet_counter : (bag_of t.store id).tick ≡ w.tick id
+  quiet_counter = (s.fits.stored.bags id).counter (sym (s.fits.stored.bags id).here ∙ ready_here o h t s id quiet.owing)
 
   -- the world after the Begin and the End
   ended_world : ended (begun w worker id) id [] ≡ passed w worker id
@@ -255,7 +250,7 @@ module _ (o : Opening) (h : List Entry) (t : Tables) (s : Stands o h t) (id : �
       f = record { by = worker; event = End worker id tick ran accepts }
 
       same_counter : tick ≡ (begun w worker id).tick id + 1
-      same_counter = told ∙ ap (λ n. n + 1) (counter_now ∙ sym begun_counter)
+      same_counter = told ∙ ap (λ n. n + 1) (quiet_counter ∙ sym begun_counter)
 
       same_end : e ≡ f
       same_end = λ i. record { by = worker; event = End worker id (sym same_counter i) (sym no_ran i) (sym no_accepts i) }
@@ -266,11 +261,6 @@ module _ (o : Opening) (h : List Entry) (t : Tables) (s : Stands o h t) (id : �
           let both : d ≡ record u.course { size = u.course.size + 2 } = two ∙ ap (λ (x : Course). record x { size = x.size + 1 }) one ∙ ap (λ n. let r : Course = record u.course { size = n } in r) more in
           let P : Entry → Type 0 = λ x. Stands o ((h ++ b ∷ []) ++ x ∷ []) (record u { course = d }) in subst P same_end (quiet_stands d both)
 
-      pub quiet_passes : (m k : Option ℕ) → PassesOne (record { opening = o; history = h; room = m }) (record { opening = o; history = (h ++ b ∷ []) ++ f ∷ []; room = k }) worker id
-      quiet_passes m k = record {
-        opening = refl;
-        history = append_assoc h (b ∷ []) (f ∷ []) ∙ ap (λ n. h ++ b ∷ (record { by = worker; event = End worker id n ran accepts }) ∷ []) (same_counter ∙ ap (λ n. n + 1) begun_counter)
-            ∙ ap (λ xs. h ++ b ∷ (record { by = worker; event = End worker id (w.tick id + 1) xs accepts }) ∷ []) no_ran
-            ∙ ap (λ xs. h ++ b ∷ (record { by = worker; event = End worker id (w.tick id + 1) [] xs }) ∷ []) no_accepts;
-        counter = ap (λ (x : Entry). (world o ((h ++ b ∷ []) ++ x ∷ [])).tick id) (sym same_end) ∙ ap (λ (v : World). v.tick id) quiet_world ∙ at_here w.tick id (w.tick id + 1);
-      }
+      -- the counter rose
+      pub quiet_counts : (world o ((h ++ b ∷ []) ++ f ∷ [])).tick id ≡ w.tick id + 1
+      quiet_counts = ap (λ (x : Entry). (world o ((h ++ b ∷ []) ++ x ∷ [])).tick id) (sym same_end) ∙ ap (λ (v : World). v.tick id) quiet_world ∙ at_here w.tick id (w.tick id + 1)

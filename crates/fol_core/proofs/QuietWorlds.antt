@@ -1,19 +1,16 @@
 -- The world after a tick in which nothing happens.
-use Rattle.std.proofs.Common.{◌≡◌, ◌≢◌, ℕ, ◌+◌, ◌-◌, ◌≤◌, ◌<◌, refl, sym, ◌∙◌, ap, arith, Bool, true, false, inl, inr, not, ◌&&◌, ◌||◌, List, [], ◌∷◌}
-use Rattle.std.specs.Prelude.{nat_eq, nat_lt, nat_le, if◌then◌else◌, Option, Some, None}
+use Rattle.std.proofs.Common.{◌≡◌, ℕ, ◌+◌, ◌-◌, refl, sym, ◌∙◌, ap, arith, false, ◌&&◌, []}
+use Rattle.std.specs.Prelude.{Option, Some, None}
 use Rattle.std.proofs.Math.Path.{fun_ext}
-use Rattle.std.proofs.lemmas.Bool.{cases_Bool, and_parts, ne_eqb, eq-eqb, lt-leb}
 use Rattle.fol_model.specs.declared.places.ChunkPos.{ChunkPos}
-use Rattle.fol_model.specs.declared.regions.State.TheVariants.{Ticking}
 use Rattle.fol_model.specs.declared.events.Event.TheVariants.{End}
 use Rattle.fol_model.specs.Counting.{count_below}
 use Rattle.fol_model.specs.Counters.{owed_after_release, tick_after_release}
-use Rattle.fol_model.specs.GridState.{GridState}
-use Rattle.fol_model.specs.ActionStep.{Recorded, at_id}
+use Rattle.fol_model.specs.ActionStep.{at_id}
 use Rattle.fol_model.specs.Begin.{begin}
 use Rattle.fol_model.specs.FlatTick.{FlatEnd, flat_tick, moved}
 use Rattle.fol_model.specs.Job.{Job, is_on, is_taken}
-use Rattle.fol_model.specs.QueuedTask.{begun, counted_down, is_queued_in}
+use Rattle.fol_model.specs.QueuedTask.{begun, counted_down}
 use Rattle.fol_model.specs.Release.{release}
 use Rattle.fol_model.specs.World.{World, due}
 use Rattle.fol_model.specs.End.{all_accepted, answers, dropped, ended, left, outcome_in, released, run_down, ticked}

@@ -1,6 +1,5 @@
 -- What a core stands for after a release.
 use Rattle.std.proofs.Common.{◌≡◌, ℕ, ◌+◌, ◌≤◌, ◌^◌, refl, sym, ◌∙◌, ap, arith, List, [], ◌∷◌, ◌++◌, length}
-use Rattle.std.specs.Prelude.{Option}
 use Rattle.fol_model.specs.declared.openings.Opening.{Opening}
 use Rattle.fol_model.specs.declared.events.Event.{Event}
 use Rattle.fol_model.specs.declared.events.Entry.{Entry}
@@ -13,17 +12,17 @@ use Rattle.fol_data.specs.declared.tick.Tick.{Tick}
 use Rattle.fol_core.specs.declared.tables.Course.{Course}
 use Rattle.fol_core.specs.declared.tables.Tables.{Tables}
 use Rattle.fol_core.specs.Answers.{end_event}
+use Rattle.fol_core.specs.AtEnd.{AtEnd}
 use Rattle.fol_core.specs.Hands.{since}
 use Rattle.fol_core.specs.Meaning.{Meaning}
 use Rattle.fol_core.specs.Stands.{Fits, Stands}
 use Rattle.fol_core.specs.Ticks.{IsOut, SameTick}
-use Rattle.fol_core.proofs.EndSteps as step
 use Rattle.fol_core.proofs.FinishedRuns.{not_finished}
 use Rattle.fol_core.proofs.Longer.{stands_more}
 
 -- a tick whose room for more changed is out as it was
-pub out_same : (m : Meaning) (room : Option ℕ) (old new : Tick) → SameTick old new → IsOut m old → IsOut (record { opening = m.opening; history = m.history; room = room }) new
-out_same m room old new same out = let w = same.worker in let r = same.region in record {
+pub out_same : (m : Meaning) (old new : Tick) → SameTick old new → IsOut m old → IsOut m new
+out_same m old new same out = let w = same.worker in let r = same.region in record {
   made = record {
     before = out.made.before;
     between = out.made.between;
@@ -66,23 +65,22 @@ fits_sized t c n w f e s = record {
   course = rw e (record { next_job = s.course.next_job; in_phase = s.course.in_phase; sum = s.course.sum; stopped = s.course.stopped; finished = s.course.finished });
 }
 
-module _ (o : Opening) (h : List Entry) (t : Tables) (s : Stands o h t) (m : Option ℕ) (tick : Tick) (out : IsOut (record { opening = o; history = h; room = m }) tick)
+module _ (o : Opening) (h : List Entry) (t : Tables) (s : Stands o h t) (tick : Tick) (at : AtEnd (world o h) (since o h) tick) (worker : ℕ) (seat : worker ≡ (world o h).worker tick.region)
     (size : t.course.size + (1 + length tick.log.wishes) ≤ 2 ^ 50) (t' : Tables) (ends : Fits t' (ended (world o h) tick.region tick.log.ran) (since o h)) (same : t'.course.size ≡ t.course.size)
-    (by : ℕ) (event : Event) (is : event ≡ end_event (world o h) tick.worker tick.region tick.log.ran) where
+    (by : ℕ) (event : Event) (is : event ≡ end_event (world o h) worker tick.region tick.log.ran) where
   abbrev w : World
   w = world o h
 
-  given : Allowed w (end_event w tick.worker tick.region tick.log.ran)
-  given = let a = step.at t tick o h m s out in (a.ticks, a.worker, refl, sym a.ran, refl)
+  given : Allowed w (end_event w worker tick.region tick.log.ran)
+  given = (at.ticks, seat, refl, sym at.ran, refl)
 
-  listed : answers_in (end_event w tick.worker tick.region tick.log.ran) ≡ length tick.log.wishes
-  listed = let a = step.at t tick o h m s out in answered_each (run_down w tick.region tick.log.ran) (ticked w tick.region tick.log.ran).wishes ∙ ap length a.wishes
+  listed : answers_in (end_event w worker tick.region tick.log.ran) ≡ length tick.log.wishes
+  listed = answered_each (run_down w tick.region tick.log.ran) (ticked w tick.region tick.log.ran).wishes ∙ ap length at.wishes
 
   pub release_kept : (c : Course) → c ≡ record t'.course { size = t'.course.size + 1 + length tick.log.wishes } → Stands o (h ++ (record { by = by; event = event }) ∷ []) (record t' { course = c })
   release_kept c e =
-      let a = step.at t tick o h m s out in
-      let grows : c.size ≡ t.course.size + (1 + answers_in (end_event w tick.worker tick.region tick.log.ran)) = (let z = ap (λ (x : Course). x.size) e in omega (arith, z, same, listed)) in
-      rw is (stands_more o h (record { by = by; event = end_event w tick.worker tick.region tick.log.ran }) t (record t' { course = c }) s
-      (not_finished o h s.grid s.run tick.region a.ticks) given
+      let grows : c.size ≡ t.course.size + (1 + answers_in (end_event w worker tick.region tick.log.ran)) = (let z = ap (λ (x : Course). x.size) e in omega (arith, z, same, listed)) in
+      rw is (stands_more o h (record { by = by; event = end_event w worker tick.region tick.log.ran }) t (record t' { course = c }) s
+      (not_finished o h s.grid s.run tick.region at.ticks) given
       (fits_sized t' c (t'.course.size + 1 + length tick.log.wishes) (ended w tick.region tick.log.ran) (since o h) e ends)
       grows (omega (arith, grows, listed, size)) (λ x. omega (arith, grows, listed, size)))

@@ -73,7 +73,7 @@ next_after w (Stop caller) = omega arith
 began_below : (f : ℕ → ℕ) (w : World) (r : ℕ) → ((q : ℕ) → f q ≤ w.next_job) → (q : ℕ) → since_after f w (Begin 0 r) q ≤ w.next_job
 began_below f w r h q = elim (cases_Bool (nat_eq r q)) [ inl e ↦ rw e (omega arith) | inr e ↦ rw e (h q) ]
 
-since_below : (f : ℕ → ℕ) (w : World) (e : Event) → ((q : ℕ) → f q ≤ w.next_job) → (q : ℕ) → since_after f w e q ≤ w.next_job
+pub since_below : (f : ℕ → ℕ) (w : World) (e : Event) → ((q : ℕ) → f q ≤ w.next_job) → (q : ℕ) → since_after f w e q ≤ w.next_job
 since_below f w (Load caller c answer) h = h
 since_below f w (Unload caller c answer) h = h
 since_below f w (Post caller c d x answer) h = h

@@ -19,7 +19,7 @@ use Rattle.fol_model.specs.Job.{Job, is_on}
 use Rattle.fol_model.specs.ActionStep.{Recorded}
 use Rattle.fol_model.specs.Outputs.{is_chunk_of}
 use Rattle.fol_model.specs.World.{World}
-use Rattle.fol_model.specs.Run.{Allowed, world}
+use Rattle.fol_model.specs.Run.{Allowed, world, unload_answer}
 use Rattle.fol_laws.proofs.SamePlaces.{same_chunk-true}
 use Rattle.fol_chunks.specs.Contents.{outside}
 use Rattle.fol_sections.specs.Places.{count_at}
@@ -216,5 +216,8 @@ module _ (o : Opening) (h : List Entry) (t : Tables) (s : Stands o h t) (c : Chu
       ])
       (omega arith) (omega arith) (λ x. omega arith)
 
+  pub unload_told : (a : Unloaded) → a ≡ (if nat_eq (count_at t.tickets.entries c) 0 then NoTicket else Lowered) → a ≡ unload_answer (world o h) c
+  unload_told a e = e ∙ ap (λ b. if b then NoTicket else Lowered) no_ticket
+
   pub unload_answers : (a : Unloaded) → t.course.finished ≡ false → a ≡ (if nat_eq (count_at t.tickets.entries c) 0 then NoTicket else Lowered) → a ≡ unload_result (world o h) c
-  unload_answers a free e = let f : (world o h).finished ≡ false = sym s.fits.course.finished ∙ free in rw f (e ∙ ap (λ b. if b then NoTicket else Lowered) no_ticket)
+  unload_answers a free e = let f : (world o h).finished ≡ false = sym s.fits.course.finished ∙ free in rw f (unload_told a e)

@@ -1,5 +1,5 @@
 -- What each call of a core answers in a world, and what it records.
-use Rattle.std.specs.Prelude.{◌≡◌, ℕ, ◌+◌, ◌<◌, Bool, true, false, ◌&&◌, ◌||◌, nat_lt, if◌then◌else◌, List, length, Option, Some, None}
+use Rattle.std.specs.Prelude.{◌≡◌, ℕ, ◌+◌, ◌<◌, Bool, true, false, not, ◌&&◌, ◌||◌, nat_lt, if◌then◌else◌, List, length, Option, Some, None}
 use Rattle.fol_model.specs.declared.places.ChunkPos.{ChunkPos}
 use Rattle.fol_model.specs.declared.regions.State.{State}
 use Rattle.fol_model.specs.declared.events.Loaded.{Loaded}
@@ -18,7 +18,7 @@ use Rattle.fol_model.specs.Add.{is_full, wanted}
 use Rattle.fol_model.specs.World.{World}
 use Rattle.fol_model.specs.End.{answers, run_down, ticked}
 use Rattle.fol_model.specs.Run.{load_answer, unload_answer}
-use Rattle.fol_core.specs.Meaning.{Meaning, Records, Unchanged, world_of}
+use Rattle.fol_core.specs.Meaning.{Meaning, Records, Unchanged, is_prepared, world_of}
 use Rattle.fol_core.specs.Ticks.{IsTick}
 use Rattle.fol_data.specs.declared.tick.Tick.{Tick}
 use Rattle.fol_core.specs.declared.answers.Posting.{Posting}
@@ -43,6 +43,10 @@ is_over w = w.finished || w.stopped
 -- the region is Ready and owes a tick
 abbrev pub is_owing : World → ℕ → Bool
 is_owing w r = is_ready (w.grid.state r) && nat_lt 0 (w.owed r)
+
+-- the region is Ready, owes a tick and is not prepared
+abbrev pub is_free : Meaning → ℕ → Bool
+is_free m r = is_owing (world_of m) r && not (is_prepared m r)
 
 -- a phase can't be closed for this region
 abbrev pub is_busy : World → ℕ → Bool
@@ -121,10 +125,10 @@ Begins old new by worker id (NotReady state) = (is_over (world_of old) ≡ false
 Begins old new by worker id NotOwing = (is_over (world_of old) ≡ false) × (is_ready ((world_of old).grid.state id) ≡ true) × ((world_of old).owed id ≡ 0) × Unchanged old new
 Begins old new by worker id Over = (is_over (world_of old) ≡ true) × Unchanged old new
 
--- the same of asking for a tick of any region that owes one, by the worker that it is for; only a Begin gives one
+-- the same of asking for a tick of any region that owes one and is not prepared, by the worker that it is for; only a Begin gives one
 abbrev pub BeginsNext : Meaning → Meaning → ℕ → Next → Tick → Type 0
-BeginsNext old new worker nexts.Begun tick = (is_over (world_of old) ≡ false) × (is_owing (world_of old) tick.region ≡ true) × IsTick (world_of old) (length old.history) worker tick.region tick × Records old new worker (events.Begin worker tick.region)
-BeginsNext old new worker nexts.Idle tick = (is_over (world_of old) ≡ false) × ((r : ℕ) → 0 < r → r < (world_of old).grid.next → is_owing (world_of old) r ≡ false) × Unchanged old new
+BeginsNext old new worker nexts.Begun tick = (is_over (world_of old) ≡ false) × (is_free old tick.region ≡ true) × IsTick (world_of old) (length old.history) worker tick.region tick × Records old new worker (events.Begin worker tick.region)
+BeginsNext old new worker nexts.Idle tick = (is_over (world_of old) ≡ false) × ((r : ℕ) → 0 < r → r < (world_of old).grid.next → is_free old r ≡ false) × Unchanged old new
 BeginsNext old new worker nexts.Over tick = (is_over (world_of old) ≡ true) × Unchanged old new
 
 -- the End of the tick in which these tasks ran

@@ -22,6 +22,5 @@ pub record AtEnd (w : World) (since : ℕ → ℕ) (tick : Tick) : Type 0 where
   pub contents : flat_of tick.body.chunks ≡ within (w.recorded tick.region) (run_down w tick.region tick.log.ran).flat
   pub counter : tick.body.tick ≡ w.tick tick.region
   pub owed : tick.body.owed ≡ w.owed tick.region
-  pub worker : tick.worker ≡ w.worker tick.region
   pub queue : (n : ℕ) → jobs_of tick.body.queues (tick.body.tick + 1) n ≡ (if nat_lt n (since tick.region) then queued_in w.grid tick.region (w.jobs n) else None)
   pub there : (n : ℕ) (j : Job) → jobs_of tick.body.queues (tick.body.tick + 1) n ≡ Some j → w.recorded tick.region j.chunk ≡ true

@@ -7,6 +7,7 @@ pub mod Agenda
 pub mod Follows
 pub mod Stands
 pub mod Same
+pub mod Ahead
 pub mod Begun
 pub mod CatchingUp
 pub mod Room

@@ -1,29 +1,30 @@
 -- A finished tick can end.
-use Rattle.std.specs.Prelude.{ℕ, ◌≡◌, ◌+◌, ◌≤◌, ◌^◌, List, [], length, Option, vec_len, vec_capacity}
+use Rattle.std.specs.Prelude.{ℕ, ◌≡◌, ◌+◌, ◌≤◌, ◌^◌, List, [], length, vec_len, vec_capacity}
 use Rattle.std.specs.Global.{Vec}
 use Rattle.fol_model.specs.declared.events.Accept.{Accept}
 use Rattle.fol_model.specs.declared.openings.Opening.{Opening}
 use Rattle.fol_model.specs.declared.events.Entry.{Entry}
+use Rattle.fol_model.specs.Run.{world}
 use Rattle.fol_data.specs.declared.tick.Tick.{Tick}
 use Rattle.fol_core.specs.declared.tables.Tables.{Tables}
 use Rattle.fol_core.specs.Stands.{Stands}
-use Rattle.fol_core.specs.Ticks.{IsOut}
+use Rattle.fol_core.specs.AtEnd.{AtEnd}
+use Rattle.fol_core.specs.Hands.{since}
 use Rattle.fol_core.specs.Underway.{HasRoomFor}
 
--- the tick was given out, is finished, and there is memory for its End
+-- the tick is that of its End in a world for which the tables stand, and there is memory for its End
 pub record MayEnd (t : Tables) (tick : Tick) : Type 0 where
   pub opening : Opening
   pub history : List Entry
-  pub room : Option ℕ
   pub stands : Stands opening history t
-  pub out : IsOut (record { opening = opening; history = history; room = room }) tick
+  pub at : AtEnd (world opening history) (since opening history) tick
   pub size : t.course.size + (1 + length tick.log.wishes) ≤ 2 ^ 50
   pub memory : HasRoomFor t tick.body.chunks (length tick.log.wishes)
 
--- there is memory for the End of the tick, with its answers, and for a Stop after it
-pub record HasGrownToEnd (t : Tables) (h : Vec Entry) (tick : Tick) (accepts : Vec Accept) : Type 0 where
+-- there is memory for the End of the tick, with its answers, for a Stop after it, and for the Begins of so many prepared regions
+pub record HasGrownToEnd (t : Tables) (h : Vec Entry) (tick : Tick) (accepts : Vec Accept) (early : ℕ) : Type 0 where
   pub size : t.course.size + (1 + length tick.log.wishes) ≤ 2 ^ 50
-  pub history : vec_len h + 2 ≤ vec_capacity h
+  pub history : vec_len h + 2 + early ≤ vec_capacity h
   pub memory : HasRoomFor t tick.body.chunks (length tick.log.wishes)
   pub empty : accepts.items ≡ []
   pub answers : length tick.log.wishes ≤ vec_capacity accepts

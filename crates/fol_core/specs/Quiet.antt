@@ -16,7 +16,7 @@ use Rattle.fol_store.specs.Stock.{Stock, bag_of, due_of, flat_of, jobs_of, next_
 use Rattle.fol_regions.specs.Table.{grid_state}
 use Rattle.fol_core.specs.declared.tables.Tables.{Tables}
 use Rattle.fol_core.specs.Agenda.{IsAgenda, owes}
-use Rattle.fol_core.specs.Meaning.{Meaning, world_of}
+use Rattle.fol_core.specs.Meaning.{Meaning, is_prepared, world_of}
 
 -- the Begin of a tick, and behind it its End with this counter, in which no task ran
 abbrev pub quiet_tick : ℕ → ℕ → ℕ → List Entry
@@ -31,12 +31,14 @@ quiet_ticks worker r t (suc n) = quiet_ticks worker r t n ++ quiet_tick worker r
 pub record Passes (old new : Meaning) (worker r n : ℕ) : Type 0 where
   pub opening : new.opening ≡ old.opening
   pub history : new.history ≡ old.history ++ quiet_ticks worker r ((world_of old).tick r) n
+  pub prepared : is_prepared new ≡ is_prepared old
 
 -- one was
 pub record PassesOne (old new : Meaning) (worker r : ℕ) : Type 0 where
   pub opening : new.opening ≡ old.opening
   pub history : new.history ≡ old.history ++ quiet_tick worker r ((world_of old).tick r + 1)
   pub counter : (world_of new).tick r ≡ (world_of old).tick r + 1
+  pub prepared : is_prepared new ≡ is_prepared old
 
 -- a tick of the region would be such a one: it owes one, its bag holds all that lies on its chunks, no task is due, no entity walks, and
 -- its release leaves the grid, the counters and what regions owe as they were

@@ -18,27 +18,29 @@ abbrev pub room_of : Option Room → Option ℕ
 room_of None = None
 room_of (Some room) = Some room.id
 
--- a Begin of the region, which was given out, needs no more memory, and a Stop after it neither
-pub record BeginRoom (room : Room) (t : Tables) (h : Vec Entry) : Type 0 where
+-- a Begin of the region, which was given out, needs no more memory, and neither does a Stop after it, nor its mark, nor the Begins of so
+-- many prepared regions
+pub record BeginRoom (room : Room) (t : Tables) (h : Vec Entry) (early marks : ℕ) : Type 0 where
   pub given : IsGiven (grid_state t.regions) room.id
   pub size : t.course.size < 2 ^ 50
-  pub history : vec_len h + 2 ≤ vec_capacity h
+  pub history : vec_len h + 2 + early ≤ vec_capacity h
+  pub mark : room.id < marks
   pub empty : room.due.items ≡ []
   pub whole : owes (grid_state t.regions) (bag_of t.store) room.id ≡ true → is_whole (bag_of t.store room.id) ≡ true
   pub due : owes (grid_state t.regions) (bag_of t.store) room.id ≡ true → due_of t.store room.id ≤ vec_capacity room.due
 
-abbrev pub HasRoom : Option Room → Tables → Vec Entry → Type 0
-HasRoom None t h = Unit {0}
-HasRoom (Some room) t h = BeginRoom room t h
+abbrev pub HasRoom : Option Room → Tables → Vec Entry → ℕ → ℕ → Type 0
+HasRoom None t h early marks = Unit {0}
+HasRoom (Some room) t h early marks = BeginRoom room t h early marks
 
--- a Stop needs no memory, unless the history is over
-abbrev pub StopRoom : Course → Vec Entry → Type 0
-StopRoom c h = (c.finished || c.stopped) ≡ false → vec_len h < vec_capacity h
+-- unless the history is over, neither a Stop needs memory nor the Begins of so many prepared regions
+abbrev pub EntryRoom : Course → Vec Entry → ℕ → Type 0
+EntryRoom c h early = (c.finished || c.stopped) ≡ false → vec_len h + early < vec_capacity h
 
--- there is memory for an entry with one hold added, for so many tasks, and for a Stop after it
-pub record HasGrown (t : Tables) (h : Vec Entry) (wanted : ℕ) : Type 0 where
+-- there is memory for an entry with one hold added, for so many tasks, for a Stop after it, and for the Begins of so many prepared regions
+pub record HasGrown (t : Tables) (h : Vec Entry) (wanted early : ℕ) : Type 0 where
   pub size : t.course.size < 2 ^ 50
-  pub history : vec_len h + 2 ≤ vec_capacity h
+  pub history : vec_len h + 2 + early ≤ vec_capacity h
   pub regions : 1 ≤ t.regions.spare
   pub tasks : wanted ≤ t.store.spare
   pub bags : 1 ≤ t.store.slots

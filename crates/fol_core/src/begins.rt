@@ -17,7 +17,7 @@ ghost use Rattle.fol_core.specs.Agenda.{Covers, HaveBags, IsAgenda, owes as owes
 ghost use Rattle.fol_core.specs.Answers.{Begins, BeginsNext, IsGiven};
 ghost use Rattle.fol_core.specs.Room.{DueRoom};
 ghost use Rattle.fol_core.specs.Begun.{Gathered, due_task, left_job};
-ghost use Rattle.fol_core.specs.Meaning.{IsReadyToBegin, Stays, world_of};
+ghost use Rattle.fol_core.specs.Meaning.{IsReadyToBegin, Stays, is_prepared, world_of};
 ghost use Rattle.fol_core.specs.Same.{SameThings};
 
 use crate::agenda::{owes, tidy_without};
@@ -33,7 +33,7 @@ use std::alloc::{AllocError, Global};
 
 /// What a Begin takes out of the store: the recorded chunks, the due tasks and the rest.
 #[derive(Drop)]
-struct Begun {
+pub(crate) struct Begun {
     chunks: Vec<ChunkPos>,
     due: Vec<Task>,
     body: RegionData,
@@ -48,17 +48,19 @@ impl Core {
         ensures same { Stays self.old self.new }
     {
         self.room = None;
-        grow_history(&mut self.history, &self.tables.course)?;
+        grow_history(&mut self.history, &self.tables.course, self.marks.count())?;
+        self.marks.make_room(id)?;
         let due = due_list(alloc, &self.tables.regions, &mut self.tables.store, id)?;
         self.room = Some(Room { id, due });
         Ok(())
     }
 
-    /// Begins the tick of a region that is ready to begin, by `reserve`. Over exactly where Finish or Stop stands in the history;
+    /// Begins the tick of a region that is not prepared and is ready to begin, by `reserve`. Over exactly where Finish or Stop stands in the history;
     /// else NotReady exactly where its state is not Ready; else NotOwing exactly where it owes no tick. Only Got is recorded. A
     /// refusal changes nothing, the readiness for a Begin included. Takes no memory.
     pub fn begin(&mut self, by: u32, worker: u32, id: u64) -> BeginAnswer
         requires ready { IsReadyToBegin self.old id }
+        requires free { is_prepared self.old id ≡ false }
         ensures { Begins self.old self.new by worker id result }
     {
         if self.tables.course.is_over() {
@@ -80,9 +82,9 @@ impl Core {
         BeginAnswer::Got(tick_of(self.alloc, worker, id, begun, taken))
     }
 
-    /// Begins a tick of a Ready region that owes one, by a worker that records it, and puts it in place of `tick`. It is `first` where
-    /// that is such a region, and else which one is free. Over exactly where Finish or Stop stands in the history, else Idle exactly
-    /// where no Ready region owes a tick. Only Begun is recorded. If memory runs out, nothing has changed, but the readiness for a
+    /// Begins a tick of a Ready region that owes one and is not prepared, by a worker that records it, and puts it in place of `tick`. It
+    /// is `first` where that is such a region, and else which one is free. Over exactly where Finish or Stop stands in the history, else
+    /// Idle exactly where there is no such region. Only Begun is recorded. If memory runs out, nothing has changed, but the readiness for a
     /// Begin may be lost.
     pub fn begin_next(
         &mut self,
@@ -101,7 +103,7 @@ impl Core {
             return Ok(Next::Idle);
         };
         self.room = None;
-        grow_history(&mut self.history, &self.tables.course)?;
+        grow_history(&mut self.history, &self.tables.course, self.marks.count())?;
         let room = owed_list(alloc, &self.tables.regions, &mut self.tables.store, id)?;
         let begun = self.history.as_slice().len() as u64;
         let taken = hand_out(&mut self.tables, id, room);
@@ -113,7 +115,7 @@ impl Core {
 }
 
 /// The tick of a Begin that took this out of the store.
-fn tick_of(alloc: Global, worker: u32, region: u64, begun: u64, taken: Begun) -> Tick
+pub(crate) fn tick_of(alloc: Global, worker: u32, region: u64, begun: u64, taken: Begun) -> Tick
     ensures worker { result.worker ≡ worker }
     ensures region { result.region ≡ region }
     ensures begun { result.begun ≡ begun }
@@ -217,7 +219,7 @@ fn settle(alloc: Global, regions: &Regions, store: &mut Store, id: u64) -> Resul
 }
 
 /// The memory for the due tasks that was taken.
-fn due_room(room: Option<Room>) -> Vec<Task>
+pub(crate) fn due_room(room: Option<Room>) -> Vec<Task>
     requires there { IsSome room }
     ensures { IfSome room (λ r. result ≡ r.due) }
 {
@@ -228,7 +230,7 @@ fn due_room(room: Option<Room>) -> Vec<Task>
 }
 
 /// Takes a Ready region that owes a tick out of the store, and begins its tick. `room` has room for the due tasks.
-fn hand_out(tables: &mut Tables, id: u64, room: Vec<Task>) -> Begun
+pub(crate) fn hand_out(tables: &mut Tables, id: u64, room: Vec<Task>) -> Begun
     requires given { IsGivenIn (grid_state tables.old.regions) id }
     requires owing { owes_tick (grid_state tables.old.regions) (bag_of tables.old.store) id ≡ true }
     requires here { (bag_of tables.old.store id).here ≡ true }

@@ -9,6 +9,7 @@ ghost use Rattle.fol_model.specs.Outputs.{Outputs};
 ghost use Rattle.fol_regions.specs.Table.{grid_state};
 ghost use Rattle.fol_store.specs.Stock.{bag_of};
 ghost use Rattle.fol_core.specs.Meaning.{world_of};
+ghost use Rattle.fol_core.specs.Ahead.{NonePrepared};
 ghost use Rattle.fol_core.specs.Answers.{Faults, is_ticking_in};
 ghost use Rattle.fol_core.specs.Stands.{Stands};
 ghost use Rattle.fol_core.specs.declared.answers.CloseFault.TheVariants as faults;
@@ -46,9 +47,10 @@ struct ThingRows {
 }
 
 impl Core {
-    /// The rows of the world after the history, with the opening and the history. Ticking exactly where a region ticks, with the
+    /// The rows of the world after the history, with the opening and the history; no region is prepared. Ticking exactly where a region ticks, with the
     /// lowest such one. All is dropped after a fault.
     pub fn closing(self, alloc: Global) -> Result<Closing, CloseFault>
+        requires none { NonePrepared self }
         ensures rows { IfOk result (λ c. Outputs self.opening self.history c) }
         ensures rests { OnOk result (some_below (is_ticking_in (world_of self))
             (world_of self).grid.next ≡ false) }
@@ -58,6 +60,7 @@ impl Core {
             opening,
             history,
             tables,
+            marks: _,
             room: _,
             alloc: _,
         } = self;

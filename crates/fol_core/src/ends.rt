@@ -26,7 +26,7 @@ ghost use Rattle.fol_core.specs.Answers.{end_event};
 ghost use Rattle.fol_core.specs.Hands.{since};
 ghost use Rattle.fol_core.specs.MayEnd.{MayEnd};
 ghost use Rattle.fol_core.specs.Stands.{Fits, Stands};
-ghost use Rattle.fol_core.specs.Ticks.{IsOut};
+ghost use Rattle.fol_core.specs.AtEnd.{AtEnd};
 ghost use Rattle.fol_core.specs.Released.{BringsBack, CanEnd, DropsHolds, EndsRegion, Loosens, MayRelease, Releases};
 ghost use Rattle.fol_core.specs.Same.{SameStock, SameThings};
 
@@ -55,11 +55,11 @@ pub(crate) fn end_tick(
     requires may { MayEnd tables.old tick.old }
     requires empty { accepts.items ≡ [] }
     requires room { length tick.old.log.wishes ≤ vec_capacity accepts }
-    ensures event { (o : Opening) (h : List Entry) (m : Option ℕ) → Stands o h tables.old
-        → IsOut (record { opening = o; history = h; room = m }) tick.old
+    ensures event { (o : Opening) (h : List Entry) → Stands o h tables.old
+        → AtEnd (world o h) (since o h) tick.old
         → result ≡ end_event (world o h) tick.old.worker tick.old.region tick.old.log.ran }
-    ensures ended { (o : Opening) (h : List Entry) (m : Option ℕ) → Stands o h tables.old
-        → IsOut (record { opening = o; history = h; room = m }) tick.old
+    ensures ended { (o : Opening) (h : List Entry) → Stands o h tables.old
+        → AtEnd (world o h) (since o h) tick.old
         → Fits tables.new (ended (world o h) tick.old.region tick.old.log.ran) (since o h) }
     ensures course { tables.new.course.size ≡ tables.old.course.size }
 {

@@ -12,6 +12,8 @@ ghost use Rattle.fol_regions.specs.Changes.{add_change};
 ghost use Rattle.fol_store.specs.Bag.{Bag};
 ghost use Rattle.fol_bags.specs.Clear.{HasNoTask};
 ghost use Rattle.fol_store.specs.Stock.{bag_of, jobs_of, next_of};
+ghost use Rattle.fol_laws.specs.LateBegin.{load_touches, unload_touches};
+ghost use Rattle.fol_core.specs.Ahead.{Spares};
 ghost use Rattle.fol_core.specs.Answers.{LoadRecords, UnloadRecords, load_result, unload_result};
 ghost use Rattle.fol_core.specs.Bags.{AreInOrder, CanJoin, Follow, opened_bags, unsettled_at};
 ghost use Rattle.fol_core.specs.Follows.{CanDrop, CanFollow, CanGain, CanHold, CanLose, CanSettle, ChangesTo, Drops, Holds, IsKnown, Narrows, Settle, Widens, changed_bags, followed, load_answer_in, losing, target_in, tickets_after};
@@ -30,11 +32,12 @@ use fol_store::Store;
 use std::alloc::AllocError;
 
 impl Core {
-    /// Adds a ticket to a chunk. Records the load by this caller with its answer, but at Over, which comes exactly where the
+    /// Adds a ticket to a chunk; this touches no prepared region. Records the load by this caller with its answer, but at Over, which comes exactly where the
     /// history is finished, and which changes nothing, the readiness for a Begin included. If memory runs out, nothing has changed,
     /// but the readiness may be lost.
     pub fn load(&mut self, caller: u32, c: ChunkPos) -> Result<Loaded, AllocError>
         requires in_range { IsTrue (is_chunk c) }
+        requires spares { Spares self.old (load_touches (world_of self.old).grid c) }
         ensures answer { IfOk result (λ a. a ≡ load_result (world_of self.old) c) }
         ensures recorded { IfOk result (λ a. LoadRecords self.old self.new caller c a) }
         ensures refused { OnErr result (Stays self.old self.new) }
@@ -43,7 +46,7 @@ impl Core {
             return Ok(Loaded::Over);
         }
         self.room = None;
-        grow(&mut self.tables, &mut self.history, 0)?;
+        grow(&mut self.tables, &mut self.history, 0, self.marks.count())?;
         let answer = loaded(&mut self.tables, c);
         let event = Event::Load {
             caller,
@@ -54,11 +57,12 @@ impl Core {
         Ok(answer)
     }
 
-    /// Takes a ticket from a chunk. Records the unload by this caller with its answer, but at Over, which comes exactly where the
+    /// Takes a ticket from a chunk; this touches no prepared region. Records the unload by this caller with its answer, but at Over, which comes exactly where the
     /// history is finished, and which changes nothing, the readiness for a Begin included. If memory runs out, nothing has changed,
     /// but the readiness may be lost.
     pub fn unload(&mut self, caller: u32, c: ChunkPos) -> Result<Unloaded, AllocError>
         requires in_range { IsTrue (is_chunk c) }
+        requires spares { Spares self.old (unload_touches (world_of self.old) c) }
         ensures answer { IfOk result (λ a. a ≡ unload_result (world_of self.old) c) }
         ensures recorded { IfOk result (λ a. UnloadRecords self.old self.new caller c a) }
         ensures refused { OnErr result (Stays self.old self.new) }
@@ -67,7 +71,7 @@ impl Core {
             return Ok(Unloaded::Over);
         }
         self.room = None;
-        grow(&mut self.tables, &mut self.history, 0)?;
+        grow(&mut self.tables, &mut self.history, 0, self.marks.count())?;
         let answer = unloaded(&mut self.tables, c);
         let event = Event::Unload {
             caller,

@@ -3,12 +3,14 @@
 ghost use Rattle.std.specs.Prelude.{ℕ, ◌≡◌, ◌+◌, ◌≤◌, ◌<◌, ◌^◌, [], ◌∷◌, ◌++◌, length, vec_len, vec_capacity, IfOk, OnOk, OnErr, IfSome, IfNone, Some, true, false};
 ghost use Rattle.fol_model.specs.Run.{Run};
 ghost use Rattle.fol_core.specs.Meaning.{Records, Stays, world_of};
-ghost use Rattle.fol_core.specs.Answers.{is_owing, some_id, state_result};
+ghost use Rattle.fol_core.specs.Ahead.{NonePrepared};
+ghost use Rattle.fol_core.specs.Answers.{is_free, some_id, state_result};
 ghost use Rattle.fol_core.specs.First.{AreFirst, untouched};
 ghost use Rattle.fol_model.specs.GridState.{empty};
 ghost use Rattle.fol_regions.specs.Table.{grid_state};
 
 use crate::agenda::owes;
+use crate::marks::Marks;
 use crate::tables::{Course, Tables};
 use fol_model::{Entry, Event, Grid, Opening, SectionPos, State, Task};
 use fol_regions::Regions;
@@ -37,27 +39,31 @@ pub(crate) struct Room {
 
 /// A world and its history, which is a run of its opening.
 ///
-/// The history grows by one entry at each call that records one; it is never changed otherwise.
+/// The history grows by one entry at each call that records one; it is never changed otherwise. A region is prepared from `prepare` to
+/// `learn`: its tick is out, and no Begin of it is recorded. In the tables it ticks already.
 #[derive(Drop)]
 pub struct Core {
     pub(crate) opening: Opening,
     pub(crate) history: Vec<Entry>,
     pub(crate) tables: Tables,
+    /// The prepared regions.
+    pub(crate) marks: Marks,
     pub(crate) room: Option<Room>,
     pub(crate) alloc: Global,
 }
 
 impl Model for Core {
-    ghost use Rattle.fol_core.specs.Meaning.{Meaning};
+    ghost use Rattle.std.specs.Prelude.{length};
+    ghost use Rattle.fol_core.specs.Meaning.{Meaning, mark, mark_count};
 
     ghost Value = { Meaning };
 
-    ghost use Rattle.fol_core.specs.Stands.{Stands};
-    ghost use Rattle.fol_core.specs.Room.{room_of, HasRoom, StopRoom};
+    ghost use Rattle.fol_core.specs.Ahead.{StandsAhead};
+    ghost use Rattle.fol_core.specs.Room.{room_of, EntryRoom, HasRoom};
 
-    ghost view = { λ s. record { opening = s.opening; history = s.history.items; room = room_of s.room } };
+    ghost view = { λ s. record { opening = s.opening; history = s.history.items; prepared = s.marks; room = room_of s.room } };
 
-    ghost invariant = { λ s. Stands s.opening s.history.items s.tables × HasRoom s.room s.tables s.history × StopRoom s.tables.course s.history };
+    ghost invariant = { λ s. StandsAhead s.opening s.history.items (mark s.marks) s.tables × HasRoom s.room s.tables s.history (mark_count s.marks) (length s.marks) × EntryRoom s.tables.course s.history (mark_count s.marks) };
 }
 
 impl Core {
@@ -65,6 +71,7 @@ impl Core {
     pub fn start(alloc: Global, opening: Opening) -> Result<Core, AllocError>
         ensures opening { IfOk result (λ core. core.opening ≡ opening) }
         ensures empty { IfOk result (λ core. core.history ≡ []) }
+        ensures none { IfOk result (λ core. NonePrepared core) }
     {
         let mut history = Vec::new(alloc);
         match first_tables(alloc, &opening, &mut history) {
@@ -72,6 +79,7 @@ impl Core {
                 opening,
                 history,
                 tables,
+                marks: Marks::new(alloc),
                 room: None,
                 alloc,
             }),
@@ -90,12 +98,13 @@ impl Core {
         self.tables.course.sum
     }
 
-    /// A Ready region that owes a tick, which is `first` where that is one; `None` exactly where there is none. Which other one is free.
+    /// A Ready region that owes a tick and is not prepared, which is `first` where that is one; `None` exactly where there is none. Which
+    /// other one is free.
     pub fn next_owing(&self, first: u64) -> Option<u64>
-        ensures first { is_owing (world_of self.now) first ≡ true → result ≡ Some first }
-        ensures some { IfSome result (λ r. is_owing (world_of self.now) r ≡ true) }
+        ensures first { is_free self.now first ≡ true → result ≡ Some first }
+        ensures some { IfSome result (λ r. is_free self.now r ≡ true) }
         ensures none { IfNone result ((r : ℕ) → 0 < r → r < (world_of self.now).grid.next
-            → is_owing (world_of self.now) r ≡ false) }
+            → is_free self.now r ≡ false) }
     {
         if owes(&self.tables.regions, &self.tables.store, first) {
             return Some(first);
@@ -122,6 +131,9 @@ impl Core {
     pub fn state(&self, id: u64) -> Option<State>
         ensures { result ≡ state_result (world_of self.now) id }
     {
+        if self.marks.has(id) {
+            return Some(State::Ready);
+        }
         self.tables.regions.state(id)
     }
 }

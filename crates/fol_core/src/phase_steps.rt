@@ -34,7 +34,7 @@ impl Core {
         }
         let live = self.tables.regions.live(self.alloc)?;
         self.room = None;
-        grow_history(&mut self.history, &self.tables.course)?;
+        grow_history(&mut self.history, &self.tables.course, self.marks.count())?;
         set_owed(&mut self.tables.store, live.as_slice(), n);
         self.tables.agenda = live;
         record(
@@ -67,7 +67,7 @@ impl Core {
             return Ok(Close::NotYet(id));
         }
         self.room = None;
-        grow_history(&mut self.history, &self.tables.course)?;
+        grow_history(&mut self.history, &self.tables.course, self.marks.count())?;
         record(
             &mut self.history,
             &mut self.tables.course,

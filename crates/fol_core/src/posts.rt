@@ -9,6 +9,8 @@ ghost use Rattle.fol_model.specs.Job.{queued};
 ghost use Rattle.fol_store.specs.Bag.{Stirred};
 ghost use Rattle.fol_regions.specs.Table.{grid_state};
 ghost use Rattle.fol_store.specs.Stock.{bag_of, flat_of, jobs_of, next_of};
+ghost use Rattle.fol_laws.specs.LateBegin.{post_touches};
+ghost use Rattle.fol_core.specs.Ahead.{Spares};
 ghost use Rattle.fol_core.specs.Answers.{PostRecords, post_result, posting_of};
 ghost use Rattle.fol_core.specs.Follows.{CanHold, PostsUnless, accept_in};
 ghost use Rattle.fol_core.specs.Meaning.{Stays, world_of};
@@ -22,7 +24,7 @@ use fol_model::{Accept, Action, ChunkPos, Event, Task};
 use fol_regions::AddAnswer;
 
 impl Core {
-    /// Asks for a task on a chunk, in the `delay`-th tick that the chunk's region then begins. Records the post by this caller with
+    /// Asks for a task on a chunk, in the `delay`-th tick that the chunk's region then begins; this touches no prepared region. Records the post by this caller with
     /// its answer, but at Over, which comes exactly where the history is finished, hands the action back and changes nothing, the
     /// readiness for a Begin included. If memory runs out, which hands the action back, nothing has changed, but the readiness may
     /// be lost.
@@ -37,6 +39,7 @@ impl Core {
         requires delay { IsTrue (is_delay delay) }
         requires action { IsTrue (is_action action) }
         requires may_be_posted { IsTrue (may_post action) }
+        requires spares { Spares self.old (post_touches (world_of self.old).grid c) }
         ensures answer { IfOk result (λ a. a ≡ post_result (world_of self.old) c action) }
         ensures recorded { IfOk result (λ a.
             PostRecords self.old self.new caller c delay action a) }
@@ -47,7 +50,7 @@ impl Core {
             return Ok(Posting::Over(action));
         }
         self.room = None;
-        match grow(&mut self.tables, &mut self.history, 1) {
+        match grow(&mut self.tables, &mut self.history, 1, self.marks.count()) {
             Ok(()) => {}
             Err(_) => return Err(action),
         }

@@ -42,7 +42,7 @@ impl Core {
             return false;
         }
         self.room = None;
-        match grow_tick(&mut self.history, &tables.course) {
+        match grow_tick(&mut self.history, &tables.course, self.marks.count()) {
             Ok(()) => {}
             Err(_) => return false,
         }
@@ -76,15 +76,16 @@ fn is_quiet(regions: &Regions, store: &Store, id: u64) -> bool
     regions.will_rest(id)
 }
 
-/// Takes the memory for the Begin and the End of a tick, and for a Stop after them.
-fn grow_tick(history: &mut Vec<Entry>, course: &Course) -> Result<(), AllocError>
+/// Takes the memory for the Begin and the End of a tick, for a Stop after them, and for the Begins of so many prepared regions.
+fn grow_tick(history: &mut Vec<Entry>, course: &Course, early: u64) -> Result<(), AllocError>
+    requires few { early < 2 ^ 63 }
     ensures entries { history.new.items ≡ history.old.items }
     ensures len { vec_len history.new ≡ vec_len history.old }
     ensures capacity { vec_capacity history.old ≤ vec_capacity history.new }
-    ensures room { OnOk result (vec_len history.new + 3 ≤ vec_capacity history.new) }
+    ensures room { OnOk result (vec_len history.new + 3 + early ≤ vec_capacity history.new) }
     ensures size { OnOk result (course.now.size + 2 ≤ 2 ^ 50) }
 {
-    history.reserve(3)?;
+    history.reserve(3 + early as usize)?;
     if course.size >= MOST - 1 {
         return Err(AllocError);
     }

@@ -1,6 +1,9 @@
 //! The release of a region: a finished tick comes back.
 
-ghost use Rattle.std.specs.Prelude.{◌≡◌, ◌≤◌, [], length, IfOk, IfErr, OnOk, OnErr, vec_len, vec_capacity};
+ghost use Rattle.std.specs.Prelude.{◌≡◌, ◌+◌, ◌≤◌, ◌<◌, ◌^◌, [], length, IfOk, IfErr, OnOk, OnErr, vec_len, vec_capacity};
+ghost use Rattle.fol_model.specs.End.{run_down};
+ghost use Rattle.fol_laws.specs.LateBegin.{wishes_touch};
+ghost use Rattle.fol_core.specs.Ahead.{Spares};
 ghost use Rattle.fol_core.specs.Answers.{end_event};
 ghost use Rattle.fol_core.specs.Meaning.{Records, Stays, world_of};
 ghost use Rattle.fol_core.specs.MayEnd.{HasGrownToEnd};
@@ -21,10 +24,12 @@ const PARTS: u64 = 1820;
 const WISHES: u64 = u32::MAX as u64;
 
 impl Core {
-    /// Ends a tick that `begin` gave out and that is finished. Returns the new length of the history. If memory runs out, the tick is
+    /// Ends a tick that was given out and that is finished; its wishes touch no prepared region. Returns the new length of the history. If memory runs out, the tick is
     /// handed back, and nothing has changed, but the readiness for a Begin may be lost.
     pub fn release(&mut self, alloc: Global, tick: Tick) -> Result<u64, Tick>
         requires out { IsOut self.old tick }
+        requires spares { Spares self.old (wishes_touch
+            (run_down (world_of self.old) tick.region tick.log.ran) tick.log.wishes) }
         ensures length { IfOk result (λ n. n ≡ length self.new.history) }
         ensures recorded { OnOk result (Records self.old self.new tick.worker
             (end_event (world_of self.old) tick.worker tick.region tick.log.ran)) }
@@ -43,6 +48,8 @@ impl Core {
     /// Begin may be lost.
     pub fn end(&mut self, alloc: Global, tick: &mut Tick) -> Result<u64, AllocError>
         requires out { IsOut self.old tick.old }
+        requires spares { Spares self.old (wishes_touch
+            (run_down (world_of self.old) tick.old.region tick.old.log.ran) tick.old.log.wishes) }
         ensures length { IfOk result (λ n. n ≡ length self.new.history) }
         ensures recorded { OnOk result (Records self.old self.new tick.old.worker
             (end_event (world_of self.old) tick.old.worker tick.old.region tick.old.log.ran)) }
@@ -50,7 +57,8 @@ impl Core {
         ensures refused { OnErr result (Stays self.old self.new) }
     {
         self.room = None;
-        match grow_to_end(alloc, &mut self.tables, &mut self.history, tick) {
+        let early = self.marks.count();
+        match grow_to_end(alloc, &mut self.tables, &mut self.history, tick, early) {
             Err(_) => Err(AllocError),
             Ok(accepts) => {
                 let asked = tick.log.wishes.len() as u64;
@@ -64,19 +72,22 @@ impl Core {
     }
 }
 
-/// Takes the memory for the End of a tick, and for a Stop after it: that of its entry, and of what its wishes make.
+/// Takes the memory for the End of a tick, for a Stop after it, and for the Begins of so many prepared regions: that of the entries, and
+/// of what its wishes make.
 fn grow_to_end(
     alloc: Global,
     tables: &mut Tables,
     history: &mut Vec<Entry>,
     tick: &mut Tick,
+    early: u64,
 ) -> Result<Vec<Accept>, AllocError>
+    requires few { early < 2 ^ 63 }
     ensures same { SameTables tables.old tables.new }
     ensures tick { SameTick tick.old tick.new }
     ensures entries { history.new.items ≡ history.old.items }
     ensures len { vec_len history.new ≡ vec_len history.old }
     ensures capacity { vec_capacity history.old ≤ vec_capacity history.new }
-    ensures ok { IfOk result (λ accepts. HasGrownToEnd tables.new history.new tick.new accepts) }
+    ensures ok { IfOk result (λ accepts. HasGrownToEnd tables.new history.new tick.new accepts early) }
 {
     let asked = tick.log.wishes.len();
     if asked as u64 >= WISHES
@@ -85,7 +96,7 @@ fn grow_to_end(
     {
         return Err(AllocError);
     }
-    history.reserve(2)?;
+    history.reserve(2 + early as usize)?;
     let accepts = Vec::with_capacity(alloc, asked)?;
     tables.regions.reserve(asked as u32 + 1)?;
     grow_store(&mut tables.store, asked as u64, asked as u64 + PARTS)?;

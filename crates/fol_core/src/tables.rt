@@ -53,34 +53,42 @@ pub(crate) struct Tables {
     pub(crate) course: Course,
 }
 
-/// Takes the memory for an entry and for a Stop after it.
-pub(crate) fn grow_history(history: &mut Vec<Entry>, course: &Course) -> Result<(), AllocError>
+/// Takes the memory for an entry, for a Stop after it, and for the Begins of so many prepared regions.
+pub(crate) fn grow_history(
+    history: &mut Vec<Entry>,
+    course: &Course,
+    early: u64,
+) -> Result<(), AllocError>
+    requires few { early < 2 ^ 63 }
     ensures entries { history.new.items ≡ history.old.items }
     ensures len { vec_len history.new ≡ vec_len history.old }
     ensures capacity { vec_capacity history.old ≤ vec_capacity history.new }
-    ensures room { OnOk result (vec_len history.new + 2 ≤ vec_capacity history.new) }
+    ensures room { OnOk result (vec_len history.new + 2 + early ≤ vec_capacity history.new) }
     ensures size { OnOk result (course.now.size < 2 ^ 50) }
 {
-    history.reserve(2)?;
+    history.reserve(2 + early as usize)?;
     if course.size >= MOST {
         return Err(AllocError);
     }
     Ok(())
 }
 
-/// Takes the memory for an entry with one hold added, for so many tasks, and for a Stop after it.
+/// Takes the memory for an entry with one hold added, for so many tasks, for a Stop after it, and for the Begins of so many prepared
+/// regions.
 pub(crate) fn grow(
     tables: &mut Tables,
     history: &mut Vec<Entry>,
     tasks: u64,
+    early: u64,
 ) -> Result<(), AllocError>
+    requires few { early < 2 ^ 63 }
     ensures same { SameTables tables.old tables.new }
     ensures entries { history.new.items ≡ history.old.items }
     ensures len { vec_len history.new ≡ vec_len history.old }
     ensures capacity { vec_capacity history.old ≤ vec_capacity history.new }
-    ensures ok { OnOk result (HasGrown tables.new history.new tasks) }
+    ensures ok { OnOk result (HasGrown tables.new history.new tasks early) }
 {
-    grow_history(history, &tables.course)?;
+    grow_history(history, &tables.course, early)?;
     tables.regions.reserve(1)?;
     tables.store.reserve(tasks, 1)?;
     tables.tickets.reserve(1)?;

@@ -5,14 +5,14 @@ use Rattle.fol_core.proofs.ends.end_tick.Goals as goal
 
 pub drop_due-requires : goal.drop_due-requires
 drop_due-requires c = let m = c.requires.may in record {
-  out = step.taken c.args.tables.now c.args.tick.now m.opening m.history m.room m.stands m.out;
-  order = step.in_order c.args.tables.now c.args.tick.now m.opening m.history m.room m.stands m.out;
+  out = step.taken c.args.tables.now c.args.tick.now m.opening m.history m.stands m.at;
+  order = step.in_order c.args.tables.now c.args.tick.now m.opening m.history m.stands m.at;
 }
 
 pub overflow_add-body : goal.overflow_add-body
 overflow_add-body c =
     let m = c.requires.may in
-    let b = step.bound c.args.tables.now c.args.tick.now m.opening m.history m.room m.stands m.out in
+    let b = step.bound c.args.tables.now c.args.tick.now m.opening m.history m.stands m.at in
     let counter = ap (λ (x : RegionData). x.tick) c.replace-body.ensures.value in
     omega (arith, b, counter)
 
@@ -23,7 +23,7 @@ accept_all-requires-clause-may c =
     let body = c.replace-body.ensures.value in
     let p = c.as_slice.ensures in
     let d = rw p at c.drop_due.ensures in
-    rw (e, body) (step.may_accept c.args.tables.now c.args.tick.now m.opening m.history m.room m.stands m.out m.size m.memory c.drop_due.new.tables d)
+    rw (e, body) (step.may_accept c.args.tables.now c.args.tick.now m.opening m.history m.stands m.at m.size m.memory c.drop_due.new.tables d)
 
 pub end_region-requires : goal.end_region-requires
 end_region-requires c =
@@ -33,26 +33,26 @@ end_region-requires c =
     let p = c.as_slice.ensures in
     let d = rw p at c.drop_due.ensures in
     let acc = rw (e, body) at c.accept_all.ensures.accepted in
-    let u = acc _ _ c.args.tick.now.region 0 (step.first c.args.tables.now c.args.tick.now m.opening m.history m.room m.stands m.out m.size m.memory c.drop_due.new.tables d)
-    (step.fits_all c.args.tables.now c.args.tick.now m.opening m.history m.room m.stands m.out) in
+    let u = acc _ _ c.args.tick.now.region 0 (step.first c.args.tables.now c.args.tick.now m.opening m.history m.stands m.at m.size m.memory c.drop_due.new.tables d)
+    (step.fits_all c.args.tables.now c.args.tick.now m.opening m.history m.stands m.at) in
     let k = c.into_vec-2.ensures ∙ c.replace-chunks.ensures.value in
-    rw (k, body) (step.can_end c.args.tables.now c.args.tick.now m.opening m.history m.room m.stands m.out c.accept_all.new.tables c.accept_all.new.chunks u)
+    rw (k, body) (step.can_end c.args.tables.now c.args.tick.now m.opening m.history m.stands m.at c.accept_all.new.tables c.accept_all.new.chunks u)
 
 pub returns-clause-ended : goal.returns-clause-ended
-returns-clause-ended c o h m s out =
+returns-clause-ended c o h s out =
     let may = c.requires.may in
     let e = c.from_vec-wishes.ensures.items ∙ c.into_vec.ensures ∙ c.replace-wishes.ensures.value in
     let body = c.replace-body.ensures.value in
     let p = c.as_slice.ensures in
     let d = rw p at c.drop_due.ensures in
     let acc = rw (e, body) at c.accept_all.ensures.accepted in
-    let u = acc _ _ c.args.tick.now.region 0 (step.first c.args.tables.now c.args.tick.now o h m s out may.size may.memory c.drop_due.new.tables d)
-    (step.fits_all c.args.tables.now c.args.tick.now o h m s out) in
+    let u = acc _ _ c.args.tick.now.region 0 (step.first c.args.tables.now c.args.tick.now o h s out may.size may.memory c.drop_due.new.tables d)
+    (step.fits_all c.args.tables.now c.args.tick.now o h s out) in
     let ends = rw body at c.end_region.ensures in
-    step.fits_end c.args.tables.now c.args.tick.now o h m s out c.accept_all.new.tables c.accept_all.new.chunks u c.end_region.new.tables ends
+    step.fits_end c.args.tables.now c.args.tick.now o h s out c.accept_all.new.tables c.accept_all.new.chunks u c.end_region.new.tables ends
 
 pub returns-clause-event : goal.returns-clause-event
-returns-clause-event c o h m s out =
+returns-clause-event c o h s out =
     let may = c.requires.may in
     let e = c.from_vec-wishes.ensures.items ∙ c.into_vec.ensures ∙ c.replace-wishes.ensures.value in
     let body = c.replace-body.ensures.value in
@@ -60,9 +60,9 @@ returns-clause-event c o h m s out =
     let p = c.as_slice.ensures in
     let d = rw p at c.drop_due.ensures in
     let ans = rw (e, body) at c.accept_all.ensures.answers in
-    let a = ans _ _ c.args.tick.now.region 0 (step.first c.args.tables.now c.args.tick.now o h m s out may.size may.memory c.drop_due.new.tables d)
-    (step.fits_all c.args.tables.now c.args.tick.now o h m s out) in
-    rw (body, ran) (step.end_is c.args.tables.now c.args.tick.now o h m s out c.args.accepts.items c.accept_all.new.answers.items c.of.result c.requires.empty a c.of.ensures)
+    let a = ans _ _ c.args.tick.now.region 0 (step.first c.args.tables.now c.args.tick.now o h s out may.size may.memory c.drop_due.new.tables d)
+    (step.fits_all c.args.tables.now c.args.tick.now o h s out) in
+    rw (body, ran) (step.end_is c.args.tables.now c.args.tick.now o h s out c.args.accepts.items c.accept_all.new.answers.items c.of.result c.requires.empty a c.of.ensures)
 
 pub returns-clause-course : goal.returns-clause-course
 returns-clause-course c = ap (λ k. k.size) c.end_region.ensures.course ∙ c.accept_all.ensures.size ∙ ap (λ k. k.size) c.drop_due.ensures.course

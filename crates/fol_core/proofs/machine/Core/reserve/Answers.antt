@@ -1,5 +1,52 @@
-use Rattle.fol_core.proofs.GatheredBags.{ready_free}
+use Rattle.std.proofs.Common.{refl, arith}
+use Rattle.fol_core.proofs.Ahead.{gathered_ahead, given_ahead}
+use Rattle.fol_core.proofs.GatheredBags.{owes_as_before, ready_free}
+use Rattle.fol_core.proofs.Rooms.{same_room}
 use Rattle.fol_core.proofs.machine.Core.reserve.Goals as goal
 
+pub invariant_of-self : goal.invariant_of-self
+invariant_of-self c = (
+  rw c.in_err-grow_history.ensures.entries c.self.invariant.0,
+  tt,
+  same_room c.self.inside.tables.course _ _ _ _ _ _ refl c.in_err-grow_history.ensures.len c.in_err-grow_history.ensures.capacity c.self.invariant.2,
+)
+
+pub invariant_of-self-in_err-make_room : goal.invariant_of-self-in_err-make_room
+invariant_of-self-in_err-make_room c = (
+  rw (c.in_ok-grow_history.ensures.entries, c.in_err-make_room.ensures.same) c.self.invariant.0,
+  tt,
+  λ on. omega (arith, c.in_ok-grow_history.ensures.room, c.count.ensures.count, c.in_err-make_room.ensures.count),
+)
+
+pub due_list-requires-clause-given : goal.due_list-requires-clause-given
+due_list-requires-clause-given c = let given = rw (← c.self.view_is) at c.requires.given in given_ahead _ _ _ _ c.self.invariant.0 c.args.id given.above given.below
+
 pub due_list-requires-clause-free : goal.due_list-requires-clause-free
-due_list-requires-clause-free c = λ x. ready_free _ _ _ c.self.invariant.0 c.args.id x
+due_list-requires-clause-free c = λ x. ready_free _ _ _ c.self.invariant.0.stands c.args.id x
+
+pub invariant_of-self-in_err-due : goal.invariant_of-self-in_err-due
+invariant_of-self-in_err-due c = (
+  rw (c.in_ok-grow_history.ensures.entries, c.in_ok-make_room.ensures.same)
+      (gathered_ahead _ _ _ _ c.self.invariant.0 c.due_list.new.store c.in_err-due.ensures.things c.in_err-due.ensures.next c.in_err-due.ensures.bags),
+  tt,
+  λ on. omega (arith, c.in_ok-grow_history.ensures.room, c.count.ensures.count, c.in_ok-make_room.ensures.count),
+)
+
+pub invariant_of-self-2 : goal.invariant_of-self-2
+invariant_of-self-2 c =
+    let got = c.in_ok-due.ensures in
+    let given = rw (← c.self.view_is) at c.requires.given in
+    let same = owes_as_before _ _ _ c.args.id got.bags in (
+      rw (c.in_ok-grow_history.ensures.entries, c.in_ok-make_room.ensures.same)
+          (gathered_ahead _ _ _ _ c.self.invariant.0 c.due_list.new.store got.things got.next got.bags),
+      record {
+        given = given_ahead _ _ _ _ c.self.invariant.0 c.args.id given.above given.below;
+        size = c.in_ok-grow_history.ensures.size;
+        history = omega (arith, c.in_ok-grow_history.ensures.room, c.count.ensures.count, c.in_ok-make_room.ensures.count);
+        mark = c.in_ok-make_room.ensures.room;
+        empty = got.room.empty;
+        whole = λ x. got.room.whole (rw same at x);
+        due = λ x. got.room.room (rw same at x);
+      },
+      λ on. omega (arith, c.in_ok-grow_history.ensures.room, c.count.ensures.count, c.in_ok-make_room.ensures.count),
+    )
