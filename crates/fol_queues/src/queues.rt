@@ -85,7 +85,8 @@ impl Queues {
         due::count_due(&self.tasks, now)
     }
 
-    /// Moves the tasks whose deadline is at most `now` into `out`, in order of number. Takes no memory.
+    /// Moves the tasks whose deadline is at most `now` into `out`, in order of number. Takes no memory, and the room that they had is
+    /// free for as many others.
     pub fn take_due(&mut self, now: u64, out: &mut Vec<Task>)
         requires empty { out.old.items ≡ [] }
         requires room { due_count now self.old ≤ vec_capacity out.old }
@@ -96,7 +97,7 @@ impl Queues {
         ensures order { Rising out.new.items }
         ensures len { len_of self.new + length out.new.items ≡ len_of self.old }
         ensures count { length out.new.items ≡ due_count now self.old }
-        ensures spare { self.old.spare ≤ self.new.spare }
+        ensures spare { self.old.spare + length out.new.items ≤ self.new.spare }
     {
         walks::move_due(&mut self.tasks, now, out);
         out.sort_unstable_by_key(|task| task.number);
