@@ -15,12 +15,13 @@ use Rattle.fol_model.specs.GridState.{at_chunk, empty, is_ready}
 use Rattle.fol_model.specs.Begin.{begin}
 use Rattle.fol_model.specs.Drop.{drop_hold}
 use Rattle.fol_model.specs.Release.{release}
+use Rattle.fol_model.specs.Rules.{Rules}
 use Rattle.fol_laws.proofs.SmallSteps.{begin_keeps, drop_keeps, empty_keeps}
 use Rattle.fol_laws.proofs.ReleaseKeeps.{release_keeps}
 use Rattle.fol_sections.specs.Table.{IsEmpty, IsSame, holds_of, loaded_count, presence_of, removed}
 use Rattle.fol_sections.specs.declared.answers.Removed.TheVariants.{Gone}
 use Rattle.fol_sections.specs.Table as sections
-use Rattle.fol_regions.specs.Answers.{begun_state, remove_answer, some_id}
+use Rattle.fol_regions.specs.Answers.{begun_state, remove_answer, some_id, unbegun}
 use Rattle.fol_region_tables.specs.Book.{Book, HasRoomFor, IsAlike, IsBook, KeepsRoom, SetsState, owner_of, state_of, waits_of, is_live}
 use Rattle.fol_lists.specs.Numbered.{total}
 use Rattle.fol_regions.specs.declared.dead_bounds.Known.{Known}
@@ -120,6 +121,22 @@ module _ (grid : Grid) (s : sections.Table) (b : Book) (events : ℕ) (k : IsKep
       room = r;
     }
 
+  -- ---- another state of one region
+  module _ (d : Book) (id : ℕ) (value : State) (sets : SetsState b d id value) where
+    pub set_kept : Rules (grid_of s d) → IsKept grid s d events
+    set_kept rules = record {
+      same = k.same;
+      numbers = k.numbers;
+      rules = rules;
+      presence = λ q. k.presence q ∙ ap (λ f. nat_lt 0 (f q)) (sym sets.owner);
+      spare = k.spare;
+      room = record { pages = omega (arith, k.room.pages, sets.rooms.free); ahead = omega (arith, k.room.ahead, sets.rooms.ahead, sets.rooms.ahead_room); behind = omega (arith, k.room.behind, sets.rooms.behind, sets.rooms.behind_room) };
+    }
+
+    pub set_bounds : (most : List Known) → BoundsDead (grid_of s b) (most_in most) → BoundsDead (grid_of s d) (most_in most)
+    unfolding grid_of
+    set_bounds most = bounds_same (grid_of s b) (grid_of s d) most refl sets.owner refl
+
   -- ---- a tick begins
   module _ (d : Book) (id : ℕ) (ready : state_of b id ≡ Ready) (sets : SetsState b d id Ticking) where
     begun_is : grid_of s d ≡ begin (grid_of s b) id
@@ -131,22 +148,20 @@ module _ (grid : Grid) (s : sections.Table) (b : Book) (events : ℕ) (k : IsKep
     at_id = ready
 
     pub begun_kept : IsKept grid s d events
-    begun_kept = record {
-      same = k.same;
-      numbers = k.numbers;
-      rules = let g = begun_is in rw g (begin_keeps (grid_of s b) id k.rules at_id);
-      presence = λ q. k.presence q ∙ ap (λ f. nat_lt 0 (f q)) (sym sets.owner);
-      spare = k.spare;
-      room = record { pages = omega (arith, k.room.pages, sets.rooms.free); ahead = omega (arith, k.room.ahead, sets.rooms.ahead, sets.rooms.ahead_room); behind = omega (arith, k.room.behind, sets.rooms.behind, sets.rooms.behind_room) };
-    }
-
-    pub begun_bounds : (most : List Known) → BoundsDead (grid_of s b) (most_in most) → BoundsDead (grid_of s d) (most_in most)
-    unfolding grid_of
-    begun_bounds most = bounds_same (grid_of s b) (grid_of s d) most refl sets.owner refl
+    begun_kept = set_kept d id Ticking sets (let g = begun_is in rw g (begin_keeps (grid_of s b) id k.rules at_id))
 
     pub begun_state_is : grid_of s d ≡ begun_state (grid_of s b) id
     unfolding grid_of
     begun_state_is = let r = ready in begun_is ∙ rw r refl
+
+  -- ---- a Begin is taken back
+  module _ (d : Book) (id : ℕ) (sets : SetsState b d id Ready) where
+    pub unbegun_is : grid_of s d ≡ unbegun (grid_of s b) id
+    unfolding grid_of unbegun
+    unbegun_is = grid_is (grid_of s d) (unbegun (grid_of s b) id) refl refl sets.owner sets.state sets.waits sets.next
+
+    pub unbegun_kept : Rules (unbegun (grid_of s b) id) → IsKept grid s d events
+    unbegun_kept rules = set_kept d id Ready sets (let g = unbegun_is in rw g rules)
 
   -- ---- a tick ends
   module _ (e : sections.Table) (d : Book) (id : ℕ) (ticks : (grid_of s b).state id ≡ Ticking) (state : grid_of e d ≡ release (grid_of s b) id) (presence : IsPresence e d) (rooms : KeepsRoom b d)

@@ -2,7 +2,8 @@
 use Rattle.std.specs.Prelude.{ℕ, ◌<◌, ◌&&◌, nat_eq, nat_lt, if◌then◌else◌, Option, Some, None}
 use Rattle.fol_model.specs.declared.places.ChunkPos.{ChunkPos}
 use Rattle.fol_model.specs.declared.regions.State.{State}
-use Rattle.fol_model.specs.GridState.{GridState, is_ready, present_count}
+use Rattle.fol_model.specs.declared.regions.State.TheVariants.{Ready}
+use Rattle.fol_model.specs.GridState.{GridState, is_ready, present_count, with_state}
 use Rattle.fol_model.specs.Add.{is_full, wanted}
 use Rattle.fol_model.specs.Begin.{begin}
 use Rattle.fol_regions.specs.declared.answers.AddAnswer.{AddAnswer}
@@ -26,6 +27,10 @@ begin_answer g r = if is_ready (g.state r) then begins.Begun else begins.NotRead
 -- a region that is not Ready stays as it is
 abbrev pub begun_state : GridState → ℕ → GridState
 begun_state g r = if is_ready (g.state r) then begin g r else g
+
+-- a region that ticks is Ready again
+unfoldable pub unbegun : GridState → ℕ → GridState
+unbegun g r = record g { state = with_state g.state r Ready }
 
 -- the id was given out to a region
 pub record IsGiven (g : GridState) (id : ℕ) : Type 0 where

@@ -16,7 +16,7 @@ ghost use Rattle.fol_model.specs.Outputs.{is_chunk_of, chunk_count};
 ghost use Rattle.fol_regions.specs.Changes.{add_change, release_change};
 ghost use Rattle.fol_regions.specs.DeadBounds.{most_in};
 ghost use Rattle.fol_regions.specs.Touched.{is_touched};
-ghost use Rattle.fol_regions.specs.Answers.{IsGiven, add_answer, remove_answer, begin_answer, begun_state, some_id, state_answer};
+ghost use Rattle.fol_regions.specs.Answers.{IsGiven, add_answer, remove_answer, begin_answer, begun_state, some_id, state_answer, unbegun};
 
 use crate::add::hold;
 use crate::chunks::list_chunks;
@@ -220,6 +220,18 @@ impl Regions {
             }
             _ => Begun::NotReady(state),
         }
+    }
+
+    /// Takes a `begin` back: a Ticking region is Ready again, which the rules allow where no region waits for it. Takes no memory.
+    pub fn unbegin(&mut self, id: u64)
+        requires ticks { (grid_state self.old).state id ≡ Ticking }
+        requires rules { Rules (unbegun (grid_state self.old) id) }
+        ensures state { grid_state self.new ≡ unbegun (grid_state self.old) id }
+        ensures last { self.new.last ≡ self.old.last }
+        ensures spare { self.new.spare ≡ self.old.spare }
+    {
+        self.tables.keeps_states();
+        self.tables.set_state(id, State::Ready);
     }
 
     /// Ends the tick of a Ticking region; `spare` is at least 1. Takes no memory.
