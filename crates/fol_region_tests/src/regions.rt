@@ -175,7 +175,7 @@ fn a_region_falls_apart(rt: HostRuntime) {
     drop(regions);
 }
 
-/// The Ready regions that an event on a chunk with z 0 may touch are these.
+/// The regions that an event on a chunk with z 0 may touch are these.
 fn touched_are(rt: &impl Abort, alloc: Global, regions: &Regions, x: i32, ids: &[u64]) {
     let c = ChunkPos { x, z: 0 };
     assert!(rt; c.in_range());
@@ -192,19 +192,22 @@ fn near_ones_are_touched(rt: &impl Abort, alloc: Global, regions: &Regions) {
     touched_are(rt, alloc, regions, 40, &[]);
 }
 
-/// A region that ticks is not among them.
-fn ready_ones_are_touched(rt: &impl Abort, alloc: Global, regions: &Regions) {
-    touched_are(rt, alloc, regions, 3, &[1]);
-    touched_are(rt, alloc, regions, 6, &[]);
+/// A region that ticks is touched, and so is one that waits for it, but not one that is part of another by then.
+fn others_are_touched(rt: &impl Abort, alloc: Global, regions: &mut Regions) {
+    begin(rt, regions, 2);
+    touched_are(rt, alloc, regions, 3, &[1, 2]);
+    load(rt, regions, 3);
+    touched_are(rt, alloc, regions, 0, &[1]);
+    release(rt, regions, 2);
+    touched_are(rt, alloc, regions, 0, &[2]);
 }
 
 #[test]
-fn an_event_touches_the_ready_regions_near_it(rt: HostRuntime) {
+fn an_event_touches_the_regions_near_it(rt: HostRuntime) {
     let mut regions = table(&rt, rt.alloc());
     load(&rt, &mut regions, 0);
     load(&rt, &mut regions, 6);
     near_ones_are_touched(&rt, rt.alloc(), &regions);
-    begin(&rt, &mut regions, 2);
-    ready_ones_are_touched(&rt, rt.alloc(), &regions);
+    others_are_touched(&rt, rt.alloc(), &mut regions);
     drop(regions);
 }

@@ -1,19 +1,16 @@
--- The Ready regions near a chunk that an event on it may touch.
+-- The regions near a chunk that an event on it may touch.
 use Rattle.std.proofs.Common.{◌≡◌, ℕ, ◌+◌, ◌≤◌, ◌<◌, refl, sym, ◌∙◌, ap, arith, Bool, true, false, cond, not, ◌&&◌, ◌||◌, inl, inr}
-use Rattle.std.specs.Prelude.{◌≢◌, filter, nat_abs, nat_eq, nat_lt}
+use Rattle.std.specs.Prelude.{filter, nat_abs, nat_eq, nat_lt}
 use Rattle.std.proofs.Math.Bool.{or-false}
-use Rattle.std.proofs.lemmas.Bool.{cases_Bool, true≢false, and_parts, and_from, or_cases, or_right, lt-ltb, le-leb, leb-true}
+use Rattle.std.proofs.lemmas.Bool.{cases_Bool, and_parts, and_from, or_cases, or_right, lt-ltb, ltb-true, le-leb, leb-true}
 use Rattle.fol_model.specs.declared.grids.Grid.{Grid}
 use Rattle.fol_model.specs.declared.places.ChunkPos.{ChunkPos}
 use Rattle.fol_model.specs.declared.places.SectionPos.{SectionPos}
-use Rattle.fol_model.specs.declared.regions.State.{State}
-use Rattle.fol_model.specs.declared.regions.State.TheVariants.{Dead}
 use Rattle.fol_model.specs.Add.{is_full, is_near}
 use Rattle.fol_model.specs.Geometry.{is_chunk, is_section, is_within, section_of}
 use Rattle.fol_model.specs.GridNumbers.{IsGrid}
-use Rattle.fol_model.specs.GridState.{is_ready}
-use Rattle.fol_model.specs.Rules.{Rules}
 use Rattle.fol_model.specs.Universe.{numbers_below}
+use Rattle.fol_laws.specs.LateBegin.{ground, draws_in}
 use Rattle.fol_laws.proofs.AllSections.{some_section-is, some_section-gives}
 use Rattle.fol_laws.proofs.Distances.{no_distance, self_distance}
 use Rattle.fol_laws.proofs.FloorDivision.{around_in_limits}
@@ -21,16 +18,12 @@ use Rattle.fol_laws.proofs.Tests.{same_answer}
 use Rattle.fol_sections.specs.Table as sections
 use Rattle.fol_sections.specs.Table.{is_full_for, missing_count}
 use Rattle.fol_sections.proofs.Margins.{section_near}
-use Rattle.fol_region_tables.specs.Book.{Book, owner_of, state_of}
-use Rattle.fol_region_tables.proofs.Chosen.{filter_like, filter_twice}
+use Rattle.fol_region_tables.specs.Book.{Book, owner_of}
+use Rattle.fol_region_tables.proofs.Chosen.{filter_like}
 use Rattle.fol_regions.specs.Near.{is_close}
 use Rattle.fol_regions.specs.Released.{IsPresence, grid_of}
 use Rattle.fol_regions.specs.Touched.{is_touched}
 use Rattle.fol_regions.proofs.HoldSteps as hold
-
--- a Ready region is not Dead
-alive : (x : State) → is_ready x ≡ true → x ≢ Dead
-alive x ready dead = true≢false (sym ready ∙ ap is_ready dead)
 
 module _ (owner : SectionPos → ℕ) (home : SectionPos) (limits : is_section home ≡ true) (r : ℕ) (some : 0 < r) where
   -- the region of a section is near it, however small the radius
@@ -52,7 +45,7 @@ home_section grid c ok limits = around_in_limits grid c (section_of grid c) ok l
 pub home_near : (grid : Grid) (c : ChunkPos) → IsGrid grid → is_chunk c ≡ true → (nat_abs (section_of grid c).x ≤ 1000008) × (nat_abs (section_of grid c).z ≤ 1000008)
 home_near grid c ok limits = section_near (section_of grid c) (home_section grid c ok limits)
 
-module _ (s : sections.Table) (b : Book) (presence : IsPresence s b) (rules : Rules (grid_of s b)) (ok : IsGrid s.grid) (c : ChunkPos) (limits : is_chunk c ≡ true) where
+module _ (s : sections.Table) (b : Book) (presence : IsPresence s b) (ok : IsGrid s.grid) (c : ChunkPos) (limits : is_chunk c ≡ true) where
   at_home : is_section (section_of s.grid c) ≡ true
   at_home = home_section s.grid c ok limits
 
@@ -67,20 +60,20 @@ module _ (s : sections.Table) (b : Book) (presence : IsPresence s b) (rules : Ru
   near_touched true false r some = close_alone (owner_of b) (section_of s.grid c) at_home r some ∙ sym (or-false _)
   near_touched false w r some = close_alone (owner_of b) (section_of s.grid c) at_home r some ∙ sym (or-false _)
 
-  ready_touched : (r : ℕ) → (is_ready (state_of b r) && is_close (owner_of b) (section_of s.grid c) (cond (not (is_full_for s c) && not (nat_eq (missing_count s c) 0)) (s.grid.create + s.grid.merge) 0) r) ≡ is_touched (grid_of s b) c r
+  touched_is : (r : ℕ) → is_close (owner_of b) (section_of s.grid c) (cond (not (is_full_for s c) && not (nat_eq (missing_count s c) 0)) (s.grid.create + s.grid.merge) 0) r ≡ is_touched (grid_of s b) c r
   unfolding grid_of is_near
-  ready_touched r = elim (cases_Bool (is_ready (state_of b r))) [
+  touched_is r = elim (cases_Bool (nat_lt 0 r)) [
     | inl e ↦
-        let near = near_touched (not (is_full_for s c)) (not (nat_eq (missing_count s c) 0)) r (rules.given r (alive (state_of b r) e)) in
+        let near = near_touched (not (is_full_for s c)) (not (nat_eq (missing_count s c) 0)) r (ltb-true 0 r e) in
         let same = ap (λ x. not x && (not (nat_eq (missing_count s c) 0) && is_near (grid_of s b) c r)) (hold.full_same s b presence c)
         ∙ ap (λ n. not (is_full (grid_of s b) c) && (not (nat_eq n 0) && is_near (grid_of s b) c r)) (hold.wanted_same s b presence c) in
-        rw e (near ∙ ap (λ x. nat_eq (owner_of b (section_of s.grid c)) r || x) same)
+        near ∙ ap (λ x. nat_eq (owner_of b (section_of s.grid c)) r || x) same ∙ sym (ap (λ x. x && (ground (grid_of s b) r c || draws_in (grid_of s b) c r)) e)
     | inr e ↦ rw e refl
   ]
 
-  -- the Ready ones of the regions that were found
+  -- the regions that were found
   pub touched_are : (reach : ℕ) → reach ≡ cond (not (is_full_for s c) && not (nat_eq (missing_count s c) 0)) (s.grid.create + s.grid.merge) 0
-      → filter (λ r. is_ready (state_of b r)) (filter (is_close (owner_of b) (section_of s.grid c) reach) (numbers_below b.next)) ≡ filter (is_touched (grid_of s b) c) (numbers_below b.next)
+      → filter (is_close (owner_of b) (section_of s.grid c) reach) (numbers_below b.next) ≡ filter (is_touched (grid_of s b) c) (numbers_below b.next)
   touched_are reach e =
-      ap (λ (n : ℕ). filter (λ r. is_ready (state_of b r)) (filter (is_close (owner_of b) (section_of s.grid c) n) (numbers_below b.next))) e
-      ∙ filter_twice (λ r. is_ready (state_of b r)) _ (numbers_below b.next) ∙ filter_like _ _ ready_touched (numbers_below b.next)
+      ap (λ (n : ℕ). filter (is_close (owner_of b) (section_of s.grid c) n) (numbers_below b.next)) e
+      ∙ filter_like _ _ touched_is (numbers_below b.next)

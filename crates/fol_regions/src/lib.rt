@@ -3,7 +3,7 @@
 //! A [`Regions`] stands for a state of the grid: how many holds each chunk has, which region owns each section, what each region
 //! may do, and which region waits to be merged into which. `add`, `remove`, `begin` and `release` are the steps of that state,
 //! `unbegin` takes a `begin` back, and `last` says which regions an `add` or a `release` made, ended, merged and split. `touched` says
-//! beforehand which Ready ones an event on a chunk may touch. Every value keeps the rules of regions.
+//! beforehand which ones an event on a chunk may touch. Every value keeps the rules of regions.
 //!
 //! An event costs what is near it: the regions within the create and merge radius of a chunk, or the released region and those
 //! that join it. Dead regions cost nothing. No event takes memory: `new` takes it for 16,384 sections, and `reserve` for events.

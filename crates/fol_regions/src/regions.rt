@@ -319,8 +319,9 @@ impl Regions {
         self.tables.live(alloc)
     }
 
-    /// The Ready regions that an event on a chunk may touch, rising: the one that owns its section and, where an `add` of the chunk now
-    /// would make sections present, those near it. Looks where `add` does, never at all regions, and takes memory while it looks.
+    /// The regions that an event on a chunk may touch, rising, whether they are Transient, Ready or Ticking: the one that owns its section
+    /// and, where an `add` of the chunk now would make sections present, those near it. Looks where `add` does, never at all regions, and
+    /// takes memory for it.
     pub fn touched(&self, alloc: Global, c: ChunkPos) -> Result<Vec<u64>, AllocError>
         requires in_range { IsTrue (is_chunk c) }
         ensures { IfOk result (λ ids. ids.items ≡ filter (is_touched (grid_state self.now) c)

@@ -1,45 +1,18 @@
-//! The Ready regions that an event on a chunk may touch.
+//! The regions that an event on a chunk may touch.
 
 ghost use Rattle.std.specs.Prelude.{◌≡◌, ◌+◌, IsTrue, IfOk, filter, if◌then◌else◌};
 ghost use Rattle.fol_model.specs.Geometry.{is_chunk};
 ghost use Rattle.fol_model.specs.GridNumbers.{IsGrid};
-ghost use Rattle.fol_model.specs.GridState.{is_ready};
-ghost use Rattle.fol_model.specs.Rules.{Rules};
 ghost use Rattle.fol_model.specs.Universe.{numbers_below};
-ghost use Rattle.fol_region_tables.specs.Book.{state_of};
 ghost use Rattle.fol_regions.specs.Released.{IsPresence, grid_of};
 ghost use Rattle.fol_regions.specs.Touched.{is_touched};
 
 use crate::add::reach;
 use crate::near::NearRegions;
-use fol_model::{ChunkPos, Grid, State, section_of};
+use fol_model::{ChunkPos, Grid, section_of};
 use fol_region_tables::Tables;
 use fol_sections::Sections;
 use std::alloc::{AllocError, Global};
-
-/// Whether a region is Ready.
-fn is_ready(tables: &Tables, id: u64) -> bool
-    ensures { result ≡ is_ready (state_of tables.now id) }
-{
-    match tables.state(id) {
-        State::Ready => true,
-        _ => false,
-    }
-}
-
-/// The Ready ones of some regions, in their order.
-fn ready_among(alloc: Global, tables: &Tables, ids: &[u64]) -> Result<Vec<u64>, AllocError>
-    ensures { IfOk result (λ ready. ready.items
-        ≡ filter (λ r. is_ready (state_of tables.now r)) ids.now) }
-{
-    let mut ready = Vec::with_capacity(alloc, ids.len())?;
-    for id in ids {
-        if is_ready(tables, *id) {
-            ready.push(*id)?;
-        }
-    }
-    Ok(ready)
-}
 
 /// How far round the section of a chunk a region may be for an event on the chunk to touch it: where an added hold makes sections
 /// present, as far as that reaches, and else no further than the section itself.
@@ -50,7 +23,7 @@ fn touch_reach(grid: &Grid, fills: bool) -> u8
     if fills { reach(grid) } else { 0 }
 }
 
-/// The Ready regions that an event on a chunk may touch, rising. Looks where an added hold does.
+/// The regions that an event on a chunk may touch, rising. Looks where an added hold does.
 pub fn list_touched(
     alloc: Global,
     grid: &Grid,
@@ -59,7 +32,6 @@ pub fn list_touched(
     c: ChunkPos,
 ) -> Result<Vec<u64>, AllocError>
     requires presence { IsPresence sections.now tables.now }
-    requires rules { Rules (grid_of sections.now tables.now) }
     requires same { grid.now ≡ sections.now.grid }
     requires numbers { IsGrid sections.now.grid }
     requires in_range { IsTrue (is_chunk c) }
@@ -69,5 +41,5 @@ pub fn list_touched(
     let fills = sections.will_fill(alloc, c)?;
     let mut near = NearRegions::new(alloc)?;
     near.find(tables, section_of(grid, c), touch_reach(grid, fills));
-    ready_among(alloc, tables, near.ids())
+    Ok(near.into_ids())
 }
