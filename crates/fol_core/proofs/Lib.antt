@@ -61,6 +61,7 @@ pub mod AheadTicks
 pub mod AheadBegins
 pub mod AheadQuiet
 pub mod AheadEnds
+pub mod AheadTouched
 pub mod DueLists
 pub mod BeginKept
 pub mod BeginTick

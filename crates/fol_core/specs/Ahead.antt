@@ -1,15 +1,18 @@
 -- The tables run ahead of the history: in them a region has begun whose tick is out before a Begin of it is recorded.
-use Rattle.std.specs.Prelude.{ℕ, ◌≡◌, ◌+◌, Bool, true, false, ◌||◌, List, [], ◌∷◌, ◌++◌, length, Some}
+use Rattle.std.specs.Prelude.{ℕ, ◌≡◌, ◌+◌, Bool, true, false, ◌&&◌, ◌||◌, List, [], ◌∷◌, ◌++◌, length, Some}
 use Rattle.fol_model.specs.declared.openings.Opening.{Opening}
 use Rattle.fol_model.specs.declared.events.Entry.{Entry}
 use Rattle.fol_model.specs.declared.events.Event.TheVariants.{Begin}
+use Rattle.fol_model.specs.declared.places.ChunkPos.{ChunkPos}
 use Rattle.fol_model.specs.GridNumbers.{IsGrid}
+use Rattle.fol_model.specs.GridState.{is_ready}
 use Rattle.fol_model.specs.Counting.{count_below}
 use Rattle.fol_model.specs.ActionStep.{at_id}
 use Rattle.fol_model.specs.Job.{Job}
 use Rattle.fol_model.specs.World.{World}
 use Rattle.fol_model.specs.Run.{Run, world}
 use Rattle.fol_laws.specs.Growth.{answered}
+use Rattle.fol_laws.specs.LateBegin.{draws_in, ground}
 use Rattle.fol_early_laws.specs.EarlyBegins.{IsAhead}
 use Rattle.fol_core.specs.declared.tables.Tables.{Tables}
 use Rattle.fol_core.specs.Hands.{owner_of, since, went}
@@ -48,6 +51,10 @@ pub record StandsAhead (o : Opening) (h : List Entry) (p : ℕ → Bool) (t : Ta
   pub stands : Stands o runs.ahead.entries t
 
 -- ---- what the calls promise
+
+-- the region is Ready, and an event on the chunk may touch it: it owns the section of the chunk, or an added hold would draw it in
+abbrev pub may_touch : World → ChunkPos → ℕ → Bool
+may_touch w c r = is_ready (w.grid.state r) && (ground w.grid r c || draws_in w.grid c r)
 
 -- no region is prepared
 abbrev pub NonePrepared : Meaning → Type 0

@@ -1,7 +1,10 @@
-//! Ticks that are made before their Begins are recorded.
+//! Ticks that are made before their Begins are recorded, and what an event may touch meanwhile.
 
-ghost use Rattle.std.specs.Prelude.{◌≡◌, true, false, length};
-ghost use Rattle.fol_core.specs.Ahead.{Learns, Prepares};
+ghost use Rattle.std.specs.Prelude.{◌≡◌, true, false, filter, length, IfOk, IsTrue};
+ghost use Rattle.fol_model.specs.Geometry.{is_chunk};
+ghost use Rattle.fol_model.specs.GridState.{is_ready};
+ghost use Rattle.fol_model.specs.Universe.{numbers_below};
+ghost use Rattle.fol_core.specs.Ahead.{Learns, Prepares, may_touch};
 ghost use Rattle.fol_core.specs.Answers.{is_free, is_over};
 ghost use Rattle.fol_core.specs.Meaning.{IsReadyToBegin, is_prepared, world_of};
 ghost use Rattle.fol_core.specs.Ticks.{IsTick};
@@ -9,9 +12,36 @@ ghost use Rattle.fol_core.specs.Ticks.{IsTick};
 use crate::begins::{due_room, hand_out, tick_of};
 use crate::machine::Core;
 use fol_data::Tick;
-use fol_model::{Entry, Event};
+use fol_model::{ChunkPos, Entry, Event, State};
+use std::alloc::AllocError;
 
 impl Core {
+    /// The Ready regions, prepared ones among them, that an event on this chunk may touch, rising: the one that owns the section of the
+    /// chunk and, where an added hold would make sections present, those near it. Looks where a load does, never at all regions. Fails
+    /// only when out of memory.
+    pub fn touched(&self, c: ChunkPos) -> Result<Vec<u64>, AllocError>
+        requires in_range { IsTrue (is_chunk c) }
+        ensures { IfOk result (λ ids. ids.items ≡ filter (may_touch (world_of self.now) c)
+            (numbers_below (world_of self.now).grid.next)) }
+    {
+        let mut ids = self.tables.regions.touched(self.alloc, c)?;
+        ids.retain(|id| self.is_ready(*id));
+        Ok(ids)
+    }
+
+    /// Whether a region is Ready after the history.
+    fn is_ready(&self, id: u64) -> bool
+        ensures { result ≡ is_ready ((world_of self.now).grid.state id) }
+    {
+        if self.marks.has(id) {
+            return true;
+        }
+        match self.tables.regions.state(id) {
+            Some(State::Ready) => true,
+            _ => false,
+        }
+    }
+
     /// Makes the tick of a Ready region that owes one, before its Begin is recorded: that of a Begin at this place, by worker 0. Nothing is
     /// recorded. The region is prepared until `learn` records its Begin, and till then no call may touch it. It has to be ready to
     /// begin, by `reserve`. Takes no memory.
