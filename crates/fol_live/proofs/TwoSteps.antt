@@ -1,23 +1,22 @@
 -- A turn in which the core did two things, as two turns with nothing between.
 use Rattle.std.proofs.Common.{◌≡◌, ℕ, false, refl, sym, ◌∙◌, ap, List, [], ◌++◌, length, append_assoc}
 use Rattle.std.proofs.lemmas.List.{append-nil, append_cancel_left}
-use Rattle.std.specs.Prelude.{Result, Ok, Err, IfOk, IfErr, OnOk, OnErr}
+use Rattle.std.specs.Prelude.{Result, Ok, Err, IfOk, OnErr}
 use Rattle.std.specs.declared.alloc.AllocError.{AllocError}
 use Rattle.fol_model.specs.declared.events.Entry.{Entry}
 use Rattle.fol_data.specs.declared.tick.Tick.{Tick}
 use Rattle.fol_core.specs.Answers.{end_event}
-use Rattle.fol_core.specs.Meaning.{Meaning, Records, Stays, world_of}
+use Rattle.fol_core.specs.Meaning.{Meaning, Stays, world_of}
 use Rattle.fol_core.specs.Ticks.{SameTick}
 use Rattle.fol_lock.specs.Log.{Extends}
 use Rattle.fol_lock.specs.Seat.{Continues, IsIdle, LockId, at_turn}
 use Rattle.fol_lock.proofs.Logs.{Extends-more, given_by-append, given_by-own}
 use Rattle.fol_seat_laws.specs.Signed.{own_of}
-use Rattle.fol_live.specs.declared.answers.LiveBegin.{LiveBegin}
 use Rattle.fol_live.specs.declared.answers.Renewal.{Renewal}
-use Rattle.fol_live.specs.Calls.{EndedAndBegan, ReleasesAndBegins}
+use Rattle.fol_live.specs.Calls.{ReleasesAndBegins}
 use Rattle.fol_live.specs.Kept.{Keeps}
-use Rattle.fol_live.specs.Results.{EndsAndBegins, LiveBegins, begun_in}
-use Rattle.fol_live.specs.Seat.{HasFront, IsSeat, Shown, opening_of}
+use Rattle.fol_live.specs.Results.{EndsAndBegins, begun_in}
+use Rattle.fol_live.specs.Seat.{HasFront, Shown}
 use Rattle.fol_live.proofs.Called.{begins, releases}
 use Rattle.fol_live.proofs.Grown.{grew_begin, grew_one, grew_same}
 use Rattle.fol_live.proofs.Taken.{Done, Grew, IsIdleSeat, SeatOfLock, Visit, by_of, done, done_here, idle_seat, log_grows, looks, view}
@@ -123,7 +122,7 @@ module _ {s t : SeatOfLock} {m : Meaning} (n : Meaning) (tick left : Tick) (l : 
   begun next e = grew_begin e.ended n tick.worker (begun_in left next.begun) e.begun e.refused
 
   refused : Stays m n → Visit s t m n tick.worker
-  refused same = visited l after (grew_same m n tick.worker same.opening same.history)
+  refused same = visited l after (grew_same m n tick.worker same)
 
   -- what `give` asks for
   pub turn_grows : (r : Result Renewal AllocError) → IfOk r (λ next. EndsAndBegins m n tick left next) → OnErr r (Stays m n) → Extends by_of t.number t.seen n.history

@@ -38,4 +38,4 @@ HasFront front s = front ≡ length s.seen
 
 -- what a core would stand for that has just the history that the seat has seen
 abbrev pub meaning_of : Shown → Meaning
-meaning_of s = record { opening = s.opening; history = s.seen; room = None }
+meaning_of s = record { opening = s.opening; history = s.seen; prepared = []; room = None }

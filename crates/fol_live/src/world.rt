@@ -4,6 +4,7 @@ ghost use Rattle.std.specs.Prelude.{◌≡◌, ◌≢◌, ◌≤◌, [], length,
 ghost use Rattle.fol_model.specs.Geometry.{is_chunk};
 ghost use Rattle.fol_model.specs.Limits.{is_action, is_delay, may_post};
 ghost use Rattle.fol_model.specs.Outputs.{owner_rows};
+ghost use Rattle.fol_core.specs.Ahead.{NonePrepared};
 ghost use Rattle.fol_core.specs.Answers.{CloseRecords, FinishRecords, LoadRecords, PostRecords, StopRecords, UnloadRecords, close_result, end_event, finish_result, is_over, load_result, post_result, unload_result};
 ghost use Rattle.fol_core.specs.Meaning.{Records, Stays, world_of};
 ghost use Rattle.fol_core.specs.Quiet.{Passes};
@@ -21,8 +22,8 @@ use std::marker::Model;
 /// How many ticks all phases may have together.
 const MOST_TICKS: u32 = 10_000;
 
-/// A core whose history is a run, in which each entry is recorded by the seat whose number it names. It is boxed, so that a turn of
-/// the lock moves a pointer.
+/// A core whose history is a run, in which each entry is recorded by the seat whose number it names, and in which no region is prepared.
+/// It is boxed, so that a turn of the lock moves a pointer.
 #[derive(Drop)]
 pub struct World {
     core: Box<Core>,
@@ -30,13 +31,13 @@ pub struct World {
 
 impl Model for World {
     ghost use Rattle.fol_core.specs.Meaning.{Meaning};
-    ghost use Rattle.fol_live.specs.Kept.{Keeps};
+    ghost use Rattle.fol_live.specs.Kept.{IsKept};
 
     ghost Value = { Meaning };
 
     ghost view = { λ w. w.core.value };
 
-    ghost invariant = { λ w. Keeps w.core.value.opening w.core.value.history };
+    ghost invariant = { λ w. IsKept w.core.value };
 }
 
 impl Kept for World {
@@ -334,6 +335,7 @@ impl World {
     pub(crate) fn into_core(self) -> Core
         ensures same { result ≡ self }
         ensures keeps { Keeps self.opening self.history }
+        ensures none { NonePrepared result }
     {
         let World { core } = self;
         Box::into_inner(core)

@@ -3,3 +3,4 @@ pub mod BegunTicks
 pub mod FinishedTicks
 pub mod OpenTicks
 pub mod ToldAgain
+pub mod Unprepared

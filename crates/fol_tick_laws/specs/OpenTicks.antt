@@ -1,10 +1,8 @@
 -- Ticks that are open at once.
-use Rattle.std.specs.Prelude.{ℕ, ◌≡◌, ◌≢◌, false, List, ◌∷◌, ◌++◌, length}
-use Rattle.fol_model.specs.declared.events.Event.TheVariants.{Begin}
-use Rattle.fol_model.specs.declared.events.Entry.{Entry}
+use Rattle.std.specs.Prelude.{ℕ, ◌≡◌, ◌≢◌, false, List, length}
 use Rattle.fol_model.specs.declared.events.Event.{Event}
 use Rattle.fol_model.specs.GridNumbers.{IsGrid}
-use Rattle.fol_model.specs.OpenTick.{NoEnd, is_end}
+use Rattle.fol_model.specs.OpenTick.{is_end}
 use Rattle.fol_model.specs.Run.{Run, world}
 use Rattle.fol_data.specs.declared.tick.Tick.{Tick}
 use Rattle.fol_tick.specs.Calls.{HostCall}

@@ -13,24 +13,24 @@ pub give-requires-clause-log : goal.give-requires-clause-log
 give-requires-clause-log g c =
     let m : Meaning = c.take-turn.result.state in
     let keeps = subst (λ (w : Meaning). Keeps w.opening w.history) c.state_ref.ensures c.owner_rows-answer.ensures.keeps in
-    let v = visit m m c.seat.invariant.0 refl c.take-turn.ensures.state c.take-turn.ensures.seat refl keeps keeps (grew_same m m _ refl refl) in
+    let v = visit m m c.seat.invariant.0 refl c.take-turn.ensures.state c.take-turn.ensures.seat refl keeps keeps (grew_same m m _ (record { opening = refl; history = refl; prepared = refl })) in
     log_grows v
 
 pub returns : goal.returns
 returns g c =
     let m : Meaning = c.take-turn.result.state in
     let keeps = subst (λ (w : Meaning). Keeps w.opening w.history) c.state_ref.ensures c.owner_rows-answer.ensures.keeps in
-    let v = visit m m c.seat.invariant.0 refl c.take-turn.ensures.state c.take-turn.ensures.seat refl keeps keeps (grew_same m m _ refl refl) in
+    let v = visit m m c.seat.invariant.0 refl c.take-turn.ensures.state c.take-turn.ensures.seat refl keeps keeps (grew_same m m _ (record { opening = refl; history = refl; prepared = refl })) in
     let told = c.owners_after.ensures in
     let reached : c.front-front.result ≡ length m.history = c.front-front.ensures ∙ ap (λ (w : Meaning). length w.history) c.state_ref-2.ensures in
     let rows = subst (λ (w : Meaning). IfOk c.owner_rows-answer.result (λ v. v.items ≡ owner_rows (world_of w))) c.state_ref.ensures c.owner_rows-answer.ensures.rows in
-    lists_owners (done v c.give.ensures.idle c.give.ensures.number c.give.ensures.origin c.give.ensures.seen c.give.ensures.mine c.seat.view_is c.requires.own) c.owners_after.result (record { opening = refl; history = refl })
+    lists_owners (done v c.give.ensures.idle c.give.ensures.number c.give.ensures.origin c.give.ensures.seen c.give.ensures.mine c.seat.view_is c.requires.own) c.owners_after.result (record { opening = refl; history = refl; prepared = refl })
     (IfOk-weaker c.owners_after.result _ _ (λ o e. e ∙ reached) told.front) (told.rows (owner_rows (world_of m)) rows)
 
 pub invariant_of-seat : goal.invariant_of-seat
 invariant_of-seat g c =
     let m : Meaning = c.take-turn.result.state in
     let keeps = subst (λ (w : Meaning). Keeps w.opening w.history) c.state_ref.ensures c.owner_rows-answer.ensures.keeps in
-    let v = visit m m c.seat.invariant.0 refl c.take-turn.ensures.state c.take-turn.ensures.seat refl keeps keeps (grew_same m m _ refl refl) in
+    let v = visit m m c.seat.invariant.0 refl c.take-turn.ensures.state c.take-turn.ensures.seat refl keeps keeps (grew_same m m _ (record { opening = refl; history = refl; prepared = refl })) in
     idle_seat v c.give.ensures.idle c.give.ensures.number c.give.ensures.origin c.give.ensures.seen c.give.ensures.mine c.front-front.result
     (c.front-front.ensures ∙ ap (λ (w : Meaning). length w.history) c.state_ref-2.ensures)
