@@ -15,13 +15,17 @@ use Rattle.fol_model.specs.declared.events.Loaded.{Loaded}
 use Rattle.fol_model.specs.declared.events.Loaded.TheVariants as loads
 use Rattle.fol_model.specs.GridNumbers.{IsGrid}
 use Rattle.fol_model.specs.OpenTick.{NoEnd, is_end}
-use Rattle.fol_model.specs.QueuedTask.{begun}
+use Rattle.fol_model.specs.Job.{Job}
+use Rattle.fol_model.specs.QueuedTask.{begun, queued_in}
 use Rattle.fol_model.specs.Run.{Allowed, Run, world}
-use Rattle.fol_model.specs.World.{World}
+use Rattle.fol_model.specs.World.{World, due}
+use Rattle.fol_laws.specs.LateBegin.{NoneTouches}
+use Rattle.fol_laws.proofs.TickingKept.{due_same}
 use Rattle.fol_laws.proofs.WholeRuns.{Good, good_after, good_run}
 use Rattle.fol_data.specs.declared.tick.Tick.{Tick}
 use Rattle.fol_tick.specs.Calls.{HostCall}
 use Rattle.fol_tick.specs.Runs.{Finishes, MayRun}
+use Rattle.fol_core.specs.Ahead.{Learns}
 use Rattle.fol_core.specs.Answers.{Begins, IsGiven, LoadRecords, PhaseRecords, PostRecords, end_event, is_over, is_owing, state_result}
 use Rattle.fol_core.specs.Meaning.{Meaning, Records, Stays, world_of}
 use Rattle.fol_core.specs.Ticks.{IsOut, IsTick}
@@ -89,13 +93,6 @@ open_posted m n k c d x (Ok (postings.Full present wanted)) records stays t is =
 open_posted m n k c d x (Ok (postings.Over y)) records stays t is = open_same m n records.opening records.history t is
 open_posted m n k c d x (Err back) records stays t is = open_same m n stays.opening stays.history t is
 
-pub grid_posted : (m n : Meaning) (k : ℕ) (c : ChunkPos) (d : ℕ) (x : Action) (r : Result Posting Action) → IfOk r (λ a. PostRecords m n k c d x a)
-    → OnErr r (Stays m n) → IsGrid m.opening.grid → IsGrid n.opening.grid
-grid_posted m n k c d x (Ok (postings.Posted number)) records stays grid = rw records.opening grid
-grid_posted m n k c d x (Ok (postings.Full present wanted)) records stays grid = rw records.opening grid
-grid_posted m n k c d x (Ok (postings.Over y)) records stays grid = rw records.opening grid
-grid_posted m n k c d x (Err back) records stays grid = rw stays.opening grid
-
 pub open_phased : (m n : Meaning) (k ticks : ℕ) (a : Phase) → PhaseRecords m n k ticks a → KeepsOpen m n
 open_phased m n k ticks phases.Opened records t is = open_more m n k _ t records refl is
 open_phased m n k ticks phases.InPhase stays t is = open_same m n stays.opening stays.history t is
@@ -160,6 +157,58 @@ opens m n by k r tick begins =
         runs_on = tt;
       };
       is = rw begins.3.opening own;
+    }
+
+-- which tasks a Begin takes is the same for each worker
+due_by_any : (w : World) (j k r : ℕ) → due (begun w j r) r ≡ due (begun w k r) r
+unfolding begun
+due_by_any w j k r = due_same r (begun w k r) (begun w j r) w.next_job (λ n. refl)
+
+jobs_by_any : (w : World) (j k r : ℕ) → (begun w j r).jobs ≡ (begun w k r).jobs
+unfolding begun
+jobs_by_any w j k r = refl
+
+-- the tick of a Begin is that of a Begin by another worker, but for its worker
+is_of_other : (w : World) (place j k r : ℕ) (tick : Tick) → IsTick w place j r tick → IsTick w place k tick.region (record tick { worker = k })
+is_of_other w place j k r tick is =
+    record {
+      worker = refl;
+      region = refl;
+      begun = is.begun;
+      of = record {
+        chunks = is.of.chunks;
+        due = is.of.due ∙ due_by_any w tick.worker k tick.region;
+        counter = is.of.counter;
+        owed = is.of.owed;
+        queued = is.of.queued ∙ ap (λ (f : ℕ → Option Job). λ n. queued_in w.grid tick.region (f n)) (jobs_by_any w tick.worker k tick.region);
+      };
+      contents = is.contents;
+      ran = is.ran;
+      wishes = is.wishes;
+      next = is.next;
+      moved = is.moved;
+    }
+
+-- where the Begin of a tick that was made before it is learnt, the tick is open
+pub learnt_opens : (made old new : Meaning) (between : List Entry) (by k r : ℕ) (tick : Tick) → IsTick (world_of made) (length made.history) 0 r tick → Allowed (world_of made) (Begin k r)
+    → old.opening ≡ made.opening → old.history ≡ made.history ++ between → NoneTouches (world_of made) r between → Learns old new by k r → IsOpen new (record tick { worker = k })
+learnt_opens made old new between by k r tick given may opening history calm learns =
+    let is = is_of_other (world_of made) (length made.history) 0 k r tick given in
+    let region = given.region in
+    let same : new.opening ≡ made.opening = learns.opening ∙ opening in
+    let e : Entry = record { by = by; event = Begin k r } in
+    record {
+      made = record {
+        before = made.history;
+        between = between;
+        since = [];
+        by = by;
+        begin = rw region (learns.history ∙ ap (λ h. h ++ e ∷ []) history);
+        allowed = rw (same, region) may;
+        calm = rw (same, region) calm;
+        runs_on = tt;
+      };
+      is = rw same is;
     }
 
 -- an open tick may run

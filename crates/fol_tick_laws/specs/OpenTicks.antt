@@ -1,15 +1,19 @@
 -- Ticks that are open at once.
-use Rattle.std.specs.Prelude.{ℕ, ◌≡◌, ◌≢◌, false, List, length}
+use Rattle.std.specs.Prelude.{ℕ, ◌≡◌, ◌≢◌, false, List, ◌++◌, length}
+use Rattle.fol_model.specs.declared.events.Entry.{Entry}
 use Rattle.fol_model.specs.declared.events.Event.{Event}
+use Rattle.fol_model.specs.declared.events.Event.TheVariants.{Begin}
 use Rattle.fol_model.specs.GridNumbers.{IsGrid}
 use Rattle.fol_model.specs.OpenTick.{is_end}
-use Rattle.fol_model.specs.Run.{Run, world}
+use Rattle.fol_model.specs.Run.{Allowed, Run, world}
+use Rattle.fol_laws.specs.LateBegin.{NoneTouches}
 use Rattle.fol_data.specs.declared.tick.Tick.{Tick}
 use Rattle.fol_tick.specs.Calls.{HostCall}
 use Rattle.fol_tick.specs.Runs.{Finishes, MayRun}
+use Rattle.fol_core.specs.Ahead.{Learns}
 use Rattle.fol_core.specs.Answers.{Begins}
 use Rattle.fol_core.specs.declared.answers.BeginAnswer.TheVariants.{Got}
-use Rattle.fol_core.specs.Meaning.{Meaning, Records}
+use Rattle.fol_core.specs.Meaning.{Meaning, Records, world_of}
 use Rattle.fol_core.specs.Ticks.{IsBegun, IsOut, IsTick}
 
 -- the tick is open in the history, and none of its tasks has run
@@ -30,6 +34,12 @@ KeepsOthers old new r = (t : Tick) → t.region ≢ r → IsOpen old t → IsOpe
 -- the tick that a Begin gives out is open
 abbrev pub BegunTickIsOpen : Type 0
 BegunTickIsOpen = (old new : Meaning) (by worker region : ℕ) (tick : Tick) → Begins old new by worker region (Got tick) → IsOpen new tick
+
+-- so is the tick that was made before its Begin was recorded, once that is learnt, by the worker that the Begin names: where the Begin was
+-- allowed when the tick was made, and nothing that was recorded since touched the region
+abbrev pub LearntTickIsOpen : Type 0
+LearntTickIsOpen = (made old new : Meaning) (between : List Entry) (by worker region : ℕ) (tick : Tick) → IsTick (world_of made) (length made.history) 0 region tick → Allowed (world_of made) (Begin worker region)
+    → old.opening ≡ made.opening → old.history ≡ made.history ++ between → NoneTouches (world_of made) region between → Learns old new by worker region → IsOpen new (record tick { worker = worker })
 
 -- an entry that is no End of its region leaves a tick open
 abbrev pub OnlyItsEndClosesATick : Type 0

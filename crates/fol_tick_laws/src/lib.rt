@@ -7,7 +7,7 @@
 //! Each law is the contract of a function with an empty body. It serves whoever runs the ticks of a core.
 #![tactic(auto)]
 
-ghost use Rattle.fol_tick_laws.specs.OpenTicks.{BegunTickIsOpen, FinishedTickIsOut, OnlyItsEndClosesATick, OpenTickMayRun};
+ghost use Rattle.fol_tick_laws.specs.OpenTicks.{BegunTickIsOpen, FinishedTickIsOut, LearntTickIsOpen, OnlyItsEndClosesATick, OpenTickMayRun};
 
 #[cfg(test)]
 mod tests;
@@ -15,6 +15,11 @@ mod tests;
 /// The tick that a Begin gives out is open.
 pub fn begun_tick_is_open()
     ensures { BegunTickIsOpen }
+{}
+
+/// So is the tick that was made before its Begin was recorded, once the Begin is.
+pub fn learnt_tick_is_open()
+    ensures { LearntTickIsOpen }
 {}
 
 /// It stays open at every entry but the End of its region.

@@ -1,6 +1,7 @@
 //! Small worlds, event by event: what becomes of the regions beside ticks that are open.
 
 ghost use Rattle.std.specs.Prelude.{◌≡◌, ◌≢◌};
+ghost use Rattle.fol_core.specs.Ahead.{NonePrepared};
 ghost use Rattle.fol_core.specs.Answers.{Begins, end_event};
 ghost use Rattle.fol_core.specs.Meaning.{Meaning, Records, world_of};
 ghost use Rattle.fol_core.specs.Ticks.{IsOut};
@@ -26,6 +27,9 @@ const AWAY: ChunkPos = ChunkPos { x: 6, z: 0 };
 /// The chunk between both, which is near to each.
 const BETWEEN: ChunkPos = ChunkPos { x: 3, z: 0 };
 
+/// A chunk that is near to none.
+const FAR: ChunkPos = ChunkPos { x: 50, z: 0 };
+
 /// Nothing but sections of one chunk, with a create radius and a merge radius of 1.
 fn opening(rt: &impl Abort, alloc: Global) -> Opening {
     let grid = Grid::of(0, 1, 1, 2, 1, 6).expect(rt, "the grid is within the limits");
@@ -37,7 +41,7 @@ fn opening(rt: &impl Abort, alloc: Global) -> Opening {
     }
 }
 
-/// A core in which ticks may be open. Contracts see its meaning.
+/// A core in which ticks may be open and no region is prepared. Contracts see its meaning.
 #[derive(Drop)]
 struct Busy {
     core: Core,
@@ -45,13 +49,14 @@ struct Busy {
 
 impl Model for Busy {
     ghost use Rattle.fol_model.specs.GridNumbers.{IsGrid};
+    ghost use Rattle.fol_core.specs.Ahead.{NonePrepared};
     ghost use Rattle.fol_core.specs.Meaning.{Meaning};
 
     ghost Value = { Meaning };
 
     ghost view = { λ s. s.core };
 
-    ghost invariant = { λ s. IsGrid s.core.opening.grid };
+    ghost invariant = { λ s. IsGrid s.core.opening.grid × NonePrepared s.core };
 }
 
 impl Busy {
@@ -113,6 +118,14 @@ impl Busy {
         assert!(rt; self.core.phase_ticks() < 10_000);
         match self.core.open_phase(0, 1) {
             Ok(answer) => assert_eq!(rt; answer, Phase::Opened),
+            Err(_) => panic!(rt; "memory"),
+        }
+    }
+
+    /// Closes the phase, where that can be.
+    fn close_phase(&mut self, rt: &impl Abort) -> Close {
+        match self.core.close_phase(0) {
+            Ok(answer) => answer,
             Err(_) => panic!(rt; "memory"),
         }
     }
@@ -190,7 +203,8 @@ impl Busy {
 }
 
 /// The world is closed: one region is left, with all sections and chunks, after one tick.
-fn closing_of(rt: &impl Abort, alloc: Global, core: Core, id: u64, owed: u32) -> Closing {
+fn closing_of(rt: &impl Abort, alloc: Global, busy: Busy, id: u64, owed: u32) -> Closing {
+    let Busy { core } = busy;
     let closing = core.closing(alloc).expect(rt, "memory");
     let row = RegionRow {
         id,
@@ -246,8 +260,7 @@ fn the_first_tick_ends_last(rt: HostRuntime) {
     );
     busy.end(&rt, alloc, first);
     busy.states_are(&rt, [State::Ready, State::Dead, State::Dead].map(Some));
-    let Busy { core } = busy;
-    task_rests(&rt, &closing_of(&rt, alloc, core, 1, 0));
+    task_rests(&rt, &closing_of(&rt, alloc, busy, 1, 0));
 }
 
 #[test]
@@ -262,11 +275,9 @@ fn a_region_beside_a_tick_waits_for_its_end(rt: HostRuntime) {
         _ => panic!(&rt; "region 2 waits for region 1"),
     }
     busy.end(&rt, alloc, tick);
-    let Busy { mut core } = busy;
-    assert_eq!(rt; core.next_owing(1), Some(1));
-    let answer = core.close_phase(0).expect(&rt, "memory");
-    assert_eq!(rt; answer, Close::NotYet(1));
-    closing_of(&rt, alloc, core, 1, 1);
+    assert_eq!(rt; busy.core.next_owing(1), Some(1));
+    assert_eq!(rt; busy.close_phase(&rt), Close::NotYet(1));
+    closing_of(&rt, alloc, busy, 1, 1);
 }
 
 /// A phase of three ticks, in which nothing happens in region 1: two of them are passed over, and then the one that is left.
@@ -289,10 +300,55 @@ fn ticks_in_which_nothing_happens_are_passed_over(rt: HostRuntime) {
     busy.open_phase(&rt);
     let tick = busy.begin(&rt, alloc, 1, 1);
     busy.end(&rt, alloc, tick);
+    assert_eq!(rt; busy.close_phase(&rt), Close::Closed);
     let Busy { mut core } = busy;
-    match core.close_phase(0) {
-        Ok(answer) => assert_eq!(rt; answer, Close::Closed),
-        Err(_) => panic!(&rt; "memory"),
-    }
     passes_three(&rt, &mut core);
+}
+
+/// An event on this chunk may touch these Ready regions.
+fn touches(rt: &impl Abort, core: &Core, chunk: ChunkPos, regions: &[u64]) {
+    assert!(rt; chunk.in_range());
+    match core.touched(chunk) {
+        Ok(touched) => assert_eq!(rt; touched.as_slice(), regions),
+        Err(_) => panic!(rt; "memory"),
+    }
+}
+
+/// Makes the tick of region 1, and then records its Begin by worker 1, to whom the tick is given.
+fn begins_late(rt: &impl Abort, alloc: Global, core: &mut Core) -> Tick
+    requires none { NonePrepared core.old }
+    ensures opened { IsOpen core.new result }
+    ensures opening { core.new.opening ≡ core.old.opening }
+    ensures none { NonePrepared core.new }
+{
+    assert!(rt; core.state(1).is_some());
+    match core.reserve(alloc, 1) {
+        Ok(()) => {}
+        Err(_) => panic!(rt; "memory"),
+    }
+    assert!(rt; !core.is_over());
+    assert!(rt; core.next_owing(1) == Some(1));
+    let mut tick = core.prepare(1);
+    assert_eq!(rt; (tick.worker, tick.begun), (0, 3));
+    assert_eq!(rt; tick.chunks.as_slice(), [ORIGIN].as_slice());
+    assert_eq!(rt; core.state(1), Some(State::Ready));
+    touches(rt, core, BETWEEN, &[1, 2]);
+    core.learn(0, 1, 1);
+    assert_eq!(rt; core.state(1), Some(State::Ticking));
+    tick.worker = 1;
+    tick
+}
+
+#[test]
+fn a_tick_is_made_before_its_begin_is_recorded(rt: HostRuntime) {
+    let alloc = rt.alloc();
+    let mut busy = Busy::start(&rt, alloc);
+    touches(&rt, &busy.core, BETWEEN, &[1, 2]);
+    touches(&rt, &busy.core, ORIGIN, &[1]);
+    touches(&rt, &busy.core, FAR, &[]);
+    let tick = begins_late(&rt, alloc, &mut busy.core);
+    touches(&rt, &busy.core, BETWEEN, &[2]);
+    busy.end(&rt, alloc, tick);
+    assert_eq!(&rt; busy.core.history().len(), 5);
+    busy.states_are(&rt, [Some(State::Ready), Some(State::Ready), None]);
 }

@@ -5,7 +5,7 @@ use Rattle.fol_tick_laws.proofs.tests.Busy.end.Goals as goal
 pub run_tick-requires : goal.run_tick-requires
 run_tick-requires g c =
     let is : IsOpen c.self.inside.core c.args.tick = rw (← c.self.view_is) at c.requires in
-    may_run_open c.self.inside.core c.args.tick c.self.invariant c.history-entries.ensures.run is
+    may_run_open c.self.inside.core c.args.tick c.self.invariant.0 c.history-entries.ensures.run is
 
 pub give_back-requires : goal.give_back-requires
 give_back-requires g c =

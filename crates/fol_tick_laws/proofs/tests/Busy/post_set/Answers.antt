@@ -2,6 +2,7 @@ use Rattle.std.proofs.Common.{refl}
 use Rattle.fol_model.specs.Geometry.{chunk_of, is_block, is_chunk}
 use Rattle.fol_model.specs.Limits.{is_delay}
 use Rattle.fol_tick_laws.proofs.OpenTicks.{open_posted}
+use Rattle.fol_tick_laws.proofs.Unprepared.{calm_posted}
 use Rattle.fol_tick_laws.proofs.tests.Busy.post_set.Goals as goal
 
 pub post-requires-clause-in_range : goal.post-requires-clause-in_range
@@ -18,3 +19,6 @@ post-requires-clause-action g c = refl
 
 pub returns : goal.returns
 returns g c = rw (← c.self.view_is) (open_posted c.self.inside.core c.post.new.self _ _ _ _ c.post.result c.post.ensures.recorded c.post.ensures.refused)
+
+pub invariant_of-self : goal.invariant_of-self
+invariant_of-self g c = calm_posted c.self.inside.core c.post.new.self _ _ _ _ c.post.result c.post.ensures.recorded c.post.ensures.refused c.self.invariant
