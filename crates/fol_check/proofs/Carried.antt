@@ -18,7 +18,7 @@ use Rattle.fol_model.specs.World.{World}
 use Rattle.fol_model.specs.Legal.{Order, is_of, order, orders_of, worker_of}
 use Rattle.fol_core.specs.Answers.{LoadRecords, PostRecords, UnloadRecords, posting_of}
 use Rattle.fol_core.specs.declared.answers.Posting.{Posting}
-use Rattle.fol_core.specs.Meaning.{Meaning, world_of}
+use Rattle.fol_core.specs.Meaning.{Meaning, is_prepared, world_of}
 use Rattle.fol_core.specs.Meaning as meaning
 use Rattle.fol_check.specs.Next.{IsNext, next_order}
 use Rattle.fol_check.specs.Standing.{Records, Stands}
@@ -42,6 +42,7 @@ module _ (s t u : Replay) (e : Event) (carries : Carries s t u) (recorded : mean
       record {
         opening = ap (λ (m : Meaning). m.opening) same ∙ recorded.opening;
         history = ap (λ (m : Meaning). m.history) same ∙ recorded.history;
+        prepared = ap is_prepared same ∙ recorded.prepared;
         run = carries.run;
         script = ap (λ (x : Replay). x.script) carries.then_is ∙ carries.script;
       }

@@ -17,10 +17,11 @@ use Rattle.fol_laws.proofs.LongerRuns.{world_more}
 use Rattle.fol_laws.proofs.OwnedRuns.{untouched_along}
 use Rattle.fol_laws.proofs.WholeRuns.{Good, good_run}
 use Rattle.fol_core.specs.Meaning as meaning
-use Rattle.fol_core.specs.Meaning.{Meaning, world_of}
+use Rattle.fol_core.specs.Meaning.{Meaning, is_prepared, world_of}
 use Rattle.fol_seat_laws.specs.Turns.{Turns}
 use Rattle.fol_seat_laws.proofs.Turning.{turned, turns_more}
 use Rattle.fol_tick_laws.proofs.OpenTicks.{open_more}
+use Rattle.fol_tick_laws.proofs.Unprepared.{still_none}
 use Rattle.fol_check.specs.Asked.{HasTick, IsAt, doing_at}
 use Rattle.fol_check.specs.Next.{IsNext, entry_of, next_order}
 use Rattle.fol_check.specs.Standing.{Records, Stands}
@@ -72,6 +73,7 @@ next_is s e st so =
 pub record Grows (s u : Replay) (e : Event) : Type 0 where
   pub opening : u.core.opening ≡ s.core.opening
   pub history : u.core.history ≡ s.core.history ++ entry_of e ∷ []
+  pub prepared : is_prepared u.core ≡ is_prepared s.core
   pub run : Run u.core.opening u.core.history
   pub script : u.script ≡ s.script
 
@@ -101,7 +103,7 @@ module _ (s u : Replay) (e : Event) (st : Stands s) (g : Grows s u e) where
   world_now = ap (λ (o : Opening). world o u.core.history) g.opening ∙ ap (world m.opening) g.history ∙ world_more (start m.opening) m.history (entry_of e)
 
   core_records : meaning.Records s.core u.core (worker_of e) e
-  core_records = record { opening = g.opening; history = g.history }
+  core_records = record { opening = g.opening; history = g.history; prepared = g.prepared }
 
   -- another worker stays at what it was at
   pub still_tick : (k : ℕ) (o : Option Open) → ((p : Open) → o ≡ Some p → is_end p.tick.region e ≡ false) → HasTick m k o → HasTick u.core k o
@@ -140,6 +142,7 @@ module _ (s u : Replay) (e : Event) (st : Stands s) (g : Grows s u e) where
         stands = record {
           grid = rw g.opening st.grid;
           run = g.run;
+          unprepared = still_none s.core u.core g.prepared st.unprepared;
           next = rw script next;
           commands = rw (script, g.history) (orders_with m.history (entry_of e) ∙ ap (λ (os : List Order). os ++ orders_of e) st.commands ∙ taken);
           callers = rw g.history (all_with (λ (x : Entry). is_of 64 x.event) m.history (entry_of e) st.callers of);

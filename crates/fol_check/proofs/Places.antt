@@ -31,7 +31,7 @@ use Rattle.fol_core.specs.Answers.{Begins, end_event}
 use Rattle.fol_core.specs.Ticks.{IsOut}
 use Rattle.fol_tick_laws.proofs.OpenTicks.{may_run_open, out_when_run}
 use Rattle.fol_data.specs.declared.tick.Tick.{Tick}
-use Rattle.fol_core.specs.Meaning.{Meaning, Stays, world_of}
+use Rattle.fol_core.specs.Meaning.{Meaning, Stays, is_prepared, world_of}
 use Rattle.fol_core.specs.Meaning as meaning
 use Rattle.fol_core.specs.declared.answers.BeginAnswer.TheVariants.{Got}
 use Rattle.fol_check.specs.Asks.{ask_in, told_by}
@@ -103,6 +103,7 @@ load_kept s t u (suc k) c a st kept records notes run has on =
     let g : Grows s u (events.Load (suc k) c a) = record {
       opening = ap (λ (m : Meaning). m.opening) notes.core ∙ records.opening;
       history = ap (λ (m : Meaning). m.history) notes.core ∙ records.history;
+      prepared = ap is_prepared notes.core ∙ records.prepared;
       run = run;
       script = notes.script ∙ kept.script;
     } in
@@ -117,6 +118,7 @@ unload_kept s t u (suc k) c a st kept records notes run has on =
     let g : Grows s u (events.Unload (suc k) c a) = record {
       opening = ap (λ (m : Meaning). m.opening) notes.core ∙ records.opening;
       history = ap (λ (m : Meaning). m.history) notes.core ∙ records.history;
+      prepared = ap is_prepared notes.core ∙ records.prepared;
       run = run;
       script = notes.script ∙ kept.script;
     } in
@@ -133,6 +135,7 @@ begun_kept s u m worker k r p own low st stays begins idles same_asks none run s
     let g : Grows s u (events.Begin (suc k) r) = record {
       opening = mine.3.opening ∙ stays.opening;
       history = mine.3.history ∙ (let same = stays.history in rw same refl);
+      prepared = mine.3.prepared ∙ stays.prepared;
       run = run;
       script = script;
     } in

@@ -4,15 +4,17 @@ use Rattle.std.specs.Prelude.{vec_len}
 use Rattle.fol_model.specs.declared.openings.Opening.{Opening}
 use Rattle.fol_model.specs.declared.scripts.Command.{Command}
 use Rattle.fol_model.specs.GridNumbers.{IsGrid}
+use Rattle.fol_core.specs.Ahead.{NonePrepared}
 use Rattle.fol_check.specs.Standing.{Starts}
 use Rattle.fol_check.specs.declared.replay.Replay.{Replay}
 
-pub starts : (s : Replay) (o : Opening) (commands : List Command) → IsGrid o.grid → s.core.opening ≡ o → s.core.history ≡ [] → s.script ≡ commands → s.next ≡ 0 → vec_len s.workers ≡ 64
+pub starts : (s : Replay) (o : Opening) (commands : List Command) → IsGrid o.grid → s.core.opening ≡ o → s.core.history ≡ [] → NonePrepared s.core → s.script ≡ commands → s.next ≡ 0 → vec_len s.workers ≡ 64
     → ((k : ℕ) → get_or s.workers.items k None ≡ None) → Starts s o commands
-starts s o commands grid opening empty script next count none = record {
+starts s o commands grid opening empty unprepared script next count none = record {
   stands = record {
     grid = rw opening grid;
     run = rw empty tt;
+    unprepared = unprepared;
     next = rw next (omega arith);
     commands = rw (empty, next) refl;
     callers = rw empty refl;

@@ -212,6 +212,7 @@ module _ (s u : Replay) (k : ℕ) (p : Open) (st : Stands s) (low : k < 64) (her
       record {
         opening = recorded.opening;
         history = recorded.history ∙ (rw (own_event, worker) refl);
+        prepared = recorded.prepared;
       }
 
   own_allowed : Allowed v (end_event v (suc k) p.tick.region done.log.ran)
@@ -237,6 +238,7 @@ module _ (s u : Replay) (k : ℕ) (p : Open) (st : Stands s) (low : k < 64) (her
       let g : Grows s u (events.End (suc k) p.tick.region t ran accepts) = record {
         opening = records_own.opening;
         history = records_own.history ∙ (rw is_event refl);
+        prepared = records_own.prepared;
         run = run;
         script = script;
       } in

@@ -14,6 +14,7 @@ use Rattle.fol_model.specs.declared.events.Event.{Event}
 use Rattle.fol_model.specs.declared.events.Event.TheVariants.{End}
 use Rattle.fol_model.specs.declared.tasks.Ran.{Ran}
 use Rattle.fol_tick.specs.declared.list_host.HostAnswer.{HostAnswer}
+use Rattle.fol_core.specs.Ahead.{NonePrepared}
 use Rattle.fol_core.specs.Meaning.{world_of}
 use Rattle.fol_check.specs.Asked.{IsAt}
 use Rattle.fol_check.specs.Next.{IsNext, entry_of}
@@ -21,10 +22,12 @@ use Rattle.fol_check.specs.declared.asks.Ask.{Ask}
 use Rattle.fol_check.specs.declared.asks.Open.{Open}
 use Rattle.fol_check.specs.declared.replay.Replay.{Replay}
 
--- the history of the core is the beginning of one of the script, and the replay says how far the script and each worker have come in it
+-- the history of the core is the beginning of one of the script, and the replay says how far the script and each worker have come in it; no
+-- region is prepared
 pub record Stands (s : Replay) : Type 0 where
   pub grid : IsGrid s.core.opening.grid
   pub run : Run s.core.opening s.core.history
+  pub unprepared : NonePrepared s.core
   pub next : s.next ≤ length s.script
   pub commands : orders s.core.history ≡ take s.next (map order s.script)
   pub callers : IsTrue (list_all (λ (e : Entry). is_of 64 e.event) s.core.history)

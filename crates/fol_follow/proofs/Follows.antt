@@ -26,7 +26,7 @@ down_flat w r ran = refl
 
 pub visit_tells_the_end : VisitTellsTheEnd
 visit_tells_the_end m tick here ok run out are = λ id.
-    let at : AtEnd (world_of m) (since m.opening m.history) tick = at_end m.opening ok m.history run tick (out_at_begin m.opening ok m.history run m.room tick out) in
+    let at : AtEnd (world_of m) (since m.opening m.history) tick = at_end m.opening ok m.history run tick (out_at_begin m ok run tick out) in
     are.each id
     ∙ ap (λ (f : Flat). if is_known m.opening id then option_map (λ (s : Standing). s.at) (f.standing id) else None)
     (at.contents ∙ ap (within ((world_of m).recorded tick.region)) (down_flat (world_of m) tick.region tick.log.ran))

@@ -52,7 +52,7 @@ module _ (old now new : Shown) (t : Turn old now new) where
   finished_still told over = ap (λ (m : Opening × List Entry). (world m.0 m.1).finished) (λ i. (told.opening i, told.history i)) ∙ over
 
 stays : (s u : Shown) → Unchanged (meaning_of s) (meaning_of u) → Stays (meaning_of s) (meaning_of u)
-stays s u told = record { opening = told.opening; history = told.history }
+stays s u told = record { opening = told.opening; history = told.history; prepared = told.prepared }
 
 -- Over is the answer of a finished world alone
 over_finished : (w : World) (c : ChunkPos) (x y : Action) → Over y ≡ post_result w c x → w.finished ≡ true

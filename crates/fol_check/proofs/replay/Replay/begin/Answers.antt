@@ -4,6 +4,7 @@ use Rattle.fol_core.specs.Meaning.{world_of}
 use Rattle.fol_check.specs.declared.asks.Open.{Open}
 use Rattle.fol_check.proofs.Answered.{ready_given}
 use Rattle.fol_check.proofs.Places.{begun_kept, none_is, read_at, rules_of}
+use Rattle.fol_tick_laws.proofs.Unprepared.{still_none}
 use Rattle.fol_check.proofs.replay.Replay.begin.Goals as goal
 
 pub returns-then-is_none : goal.returns-then-is_none
@@ -11,6 +12,9 @@ returns-then-is_none c = λ is.
     let given = ready_given (world_of c.args.self.now.core) c.args.region c.state.result (rules_of c.args.self.now c.requires.stands) c.state.ensures is.allowed.0 in
     let never : true ≡ false = sym given ∙ c.if-is_none.ensures in
     cc
+
+pub begin-requires-clause-free : goal.begin-requires-clause-free
+begin-requires-clause-free c = still_none c.args.self.now.core c.reserve.new.self c.reserve.ensures.same.prepared c.requires.stands.unprepared c.args.region
 
 pub returns-in_ok-held-in-Got : goal.returns-in_ok-held-in-Got
 returns-in_ok-held-in-Got c =

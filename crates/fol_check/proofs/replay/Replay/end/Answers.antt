@@ -7,6 +7,7 @@ use Rattle.fol_core.specs.Meaning.{world_of}
 use Rattle.fol_check.specs.declared.replay.Replay.{Replay}
 use Rattle.fol_check.proofs.Places.{end_goes, end_needs, is_out, may_end, read_at}
 use Rattle.fol_check.proofs.Ending.{given_in}
+use Rattle.fol_tick_laws.proofs.Unprepared.{spares_all}
 use Rattle.fol_check.proofs.replay.Replay.end.Goals as goal
 
 pub returns-then-not-may_end : goal.returns-then-not-may_end
@@ -38,7 +39,10 @@ release-requires c =
     let read : get_or c.args.self.now.workers.items (c.args.worker - 1) None ≡ c.index_mut.result.now = read_at c.args.self.now.workers.items (c.args.worker - 1) c.index_mut.result.now None inside c.index_mut.ensures.value in
     let there : get_or c.args.self.now.workers.items (c.args.worker - 1) None ≡ Some c.in-Some.held = read ∙ sym c.take.ensures.value ∙ c.in-Some.is in
     let run = c.in_ok-done.ensures in
-    record { out = is_out c.args.self.now (c.args.worker - 1) c.in-Some.held c.in_ok-done.done run.calls (omega arith) c.requires.stands there run.finishes }
+    record {
+      out = is_out c.args.self.now (c.args.worker - 1) c.in-Some.held c.in_ok-done.done run.calls (omega arith) c.requires.stands there run.finishes;
+      spares = spares_all c.args.self.now.core _ c.requires.stands.unprepared;
+    }
 
 pub returns : goal.returns
 returns c =

@@ -11,4 +11,4 @@ returns-in-Finished c =
     let same = c.commands.ensures in
     let last = rw same at c.if-self-commands.false in
     let most = c.requires.stands.next in
-    finished c.args.self.now _ c.requires.stands (record { opening = recorded.opening; history = recorded.history; run = c.history-entries.ensures.run; script = refl }) (omega arith) refl refl
+    finished c.args.self.now _ c.requires.stands (record { opening = recorded.opening; history = recorded.history; prepared = recorded.prepared; run = c.history-entries.ensures.run; script = refl }) (omega arith) refl refl

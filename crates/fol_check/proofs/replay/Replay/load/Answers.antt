@@ -5,10 +5,14 @@ use Rattle.fol_check.specs.declared.replay.Replay.{Replay}
 use Rattle.fol_check.proofs.Growing.{next_at, next_within, unordered}
 use Rattle.fol_check.proofs.Carried.{carried, load_carried}
 use Rattle.fol_seat_laws.proofs.Phases.{phase_loaded}
+use Rattle.fol_tick_laws.proofs.Unprepared.{spares_all}
 use Rattle.fol_check.proofs.replay.Replay.load.Goals as goal
 
 pub returns-then-not-loads : goal.returns-then-not-loads
 returns-then-not-loads c = unordered c.args.self.now (load_chunk c.args.chunk) c.commands.result.now c.loads.result c.commands.ensures c.loads.ensures (events.Load 0 c.args.chunk c.args.answer) c.if-not-loads.true refl
+
+pub load-requires-clause-spares : goal.load-requires-clause-spares
+load-requires-clause-spares c = spares_all c.args.self.now.core _ c.requires.stands.unprepared
 
 pub carried_out-requires : goal.carried_out-requires
 carried_out-requires c = record { some = next_within c.args.self.now (load_chunk c.args.chunk) c.commands.result.now c.loads.result c.commands.ensures c.loads.ensures c.if-not-loads.false }

@@ -5,10 +5,14 @@ use Rattle.fol_check.specs.declared.replay.Replay.{Replay}
 use Rattle.fol_check.proofs.Growing.{next_at, next_within, unordered}
 use Rattle.fol_check.proofs.Carried.{carried, unload_carried}
 use Rattle.fol_seat_laws.proofs.Phases.{phase_unloaded}
+use Rattle.fol_tick_laws.proofs.Unprepared.{spares_all}
 use Rattle.fol_check.proofs.replay.Replay.unload.Goals as goal
 
 pub returns-then-not-unloads : goal.returns-then-not-unloads
 returns-then-not-unloads c = unordered c.args.self.now (unload_chunk c.args.chunk) c.commands.result.now c.unloads.result c.commands.ensures c.unloads.ensures (events.Unload 0 c.args.chunk c.args.answer) c.if-not-unloads.true refl
+
+pub unload-requires-clause-spares : goal.unload-requires-clause-spares
+unload-requires-clause-spares c = spares_all c.args.self.now.core _ c.requires.stands.unprepared
 
 pub carried_out-requires : goal.carried_out-requires
 carried_out-requires c = record { some = next_within c.args.self.now (unload_chunk c.args.chunk) c.commands.result.now c.unloads.result c.commands.ensures c.unloads.ensures c.if-not-unloads.false }

@@ -2,10 +2,14 @@ use Rattle.std.proofs.Common.{refl, ◌∙◌}
 use Rattle.fol_check.specs.declared.replay.Replay.{Replay}
 use Rattle.fol_check.proofs.Carried.{unload_carried}
 use Rattle.fol_check.proofs.Places.{unload_kept, unload_not_asked}
+use Rattle.fol_tick_laws.proofs.Unprepared.{spares_all}
 use Rattle.fol_check.proofs.replay.Replay.unload_in_tick.Goals as goal
 
 pub returns-then-not-asks : goal.returns-then-not-asks
 returns-then-not-asks c = unload_not_asked c.args.self.now c.args.caller c.args.chunk c.args.answer c.asks.result c.requires.stands c.requires.worker c.asks.ensures c.if-not-asks.true
+
+pub unload-requires-clause-spares : goal.unload-requires-clause-spares
+unload-requires-clause-spares c = spares_all c.args.self.now.core _ c.requires.stands.unprepared
 
 pub returns : goal.returns
 returns c =
