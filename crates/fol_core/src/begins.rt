@@ -55,9 +55,9 @@ impl Core {
         Ok(())
     }
 
-    /// Begins the tick of a region that is not prepared and is ready to begin, by `reserve`. Over exactly where Finish or Stop stands in the history;
-    /// else NotReady exactly where its state is not Ready; else NotOwing exactly where it owes no tick. Only Got is recorded. A
-    /// refusal changes nothing, the readiness for a Begin included. Takes no memory.
+    /// Begins the tick of a region that is not prepared and is ready to begin, by `reserve`. Over exactly where Finish or Stop stands in
+    /// the history; else NotReady exactly where its state is not Ready; else NotOwing exactly where it owes no tick. Only Got is
+    /// recorded. A refusal changes nothing, the readiness for a Begin included. Takes no memory.
     pub fn begin(&mut self, by: u32, worker: u32, id: u64) -> BeginAnswer
         requires ready { IsReadyToBegin self.old id }
         requires free { is_prepared self.old id ≡ false }

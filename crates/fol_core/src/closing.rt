@@ -47,8 +47,8 @@ struct ThingRows {
 }
 
 impl Core {
-    /// The rows of the world after the history, with the opening and the history; no region is prepared. Ticking exactly where a region ticks, with the
-    /// lowest such one. All is dropped after a fault.
+    /// The rows of the world after the history, with the opening and the history; no region is prepared. Ticking exactly where a region
+    /// ticks, with the lowest such one. All is dropped after a fault.
     pub fn closing(self, alloc: Global) -> Result<Closing, CloseFault>
         requires none { NonePrepared self }
         ensures rows { IfOk result (λ c. Outputs self.opening self.history c) }

@@ -2,7 +2,8 @@
 //! makes a shared world of it. Nothing here waits or starts a thread.
 //!
 //! Each call returns what the world after the history says, and adds the entry that it says. The tables inside are the world after
-//! the history, so no call replays it.
+//! the history, so no call replays it; where ticks were made before their Begins are recorded, they are the world in which these regions
+//! have begun already.
 //!
 //! The calls that a user makes first, in this order:
 //! 1. `Core::start` makes a core of an opening.
@@ -10,7 +11,9 @@
 //! 3. `Core::open_phase` lets each region owe so many ticks; `Core::reserve` and then `Core::begin` give the tick of one.
 //! 4. `Core::release` takes a tick back that `fol_tick::run_tick` has run. `Core::end` does the same where the tick stands, and
 //!    `Core::begin_next` then puts the next one there.
-//! 5. `Core::close_phase` and `Core::finish` end a phase and the history, and `Core::closing` gives all that stands at the end.
+//! 5. `Core::prepare` gives the tick of a region before its Begin is recorded, and `Core::learn` records that Begin; in between no call may
+//!    touch the region, and `Core::touched` says what an event on a chunk may touch.
+//! 6. `Core::close_phase` and `Core::finish` end a phase and the history, and `Core::closing` gives all that stands at the end.
 #![tactic(auto)]
 
 mod agenda;

@@ -24,8 +24,8 @@ const PARTS: u64 = 1820;
 const WISHES: u64 = u32::MAX as u64;
 
 impl Core {
-    /// Ends a tick that was given out and that is finished; its wishes touch no prepared region. Returns the new length of the history. If memory runs out, the tick is
-    /// handed back, and nothing has changed, but the readiness for a Begin may be lost.
+    /// Ends a tick that was given out and that is finished; its wishes touch no prepared region. Returns the new length of the history.
+    /// If memory runs out, the tick is handed back, and nothing has changed, but the readiness for a Begin may be lost.
     pub fn release(&mut self, alloc: Global, tick: Tick) -> Result<u64, Tick>
         requires out { IsOut self.old tick }
         requires spares { Spares self.old (wishes_touch
