@@ -102,7 +102,7 @@ room_less t u v k made n room left few tickets spare entities = record {
   tasks = omega (arith, room.tasks, spare);
   slots = omega (arith, room.slots, left.slots, few);
   tickets = rw tickets room.tickets;
-  agenda = omega (arith, room.agenda, left.agenda_len, left.agenda_capacity);
+  agenda = omega (arith, room.agenda, left.agenda.len, left.agenda.capacity);
   entities = omega (arith, room.entities, entities);
 }
 
@@ -256,7 +256,7 @@ module _ (t : Tables) (v : Contents) (w : World) (since : ℕ → ℕ) (r n : �
         tasks = omega (arith, u.room.tasks, holds.spare, queues.spare);
         slots = omega (arith, u.room.slots, left.slots, few, queues.slots);
         tickets = let e = queues.tickets ∙ tickets in rw e u.room.tickets;
-        agenda = let e = queues.agenda in rw e (omega (arith, u.room.agenda, left.agenda_len, left.agenda_capacity));
+        agenda = let e = queues.agenda in rw e (omega (arith, u.room.agenda, left.agenda.len, left.agenda.capacity));
         entities = omega (arith, u.room.entities);
       };
       contents = u.contents;

@@ -1,6 +1,7 @@
 -- What the tables stand for while regions are prepared: what they tell of the world after the history, and how they follow an entry more, a
 -- region more that is prepared, and the Begin of one.
 use Rattle.std.proofs.Common.{◌≡◌, ℕ, ◌<◌, refl, sym, ◌∙◌, ap, subst, arith, Bool, true, false, inl, inr, not, ◌&&◌, ◌||◌, List, [], ◌∷◌, ◌++◌}
+use Rattle.std.specs.Global.{Vec}
 use Rattle.std.specs.Prelude.{nat_lt}
 use Rattle.std.proofs.Math.Path.{fun_ext}
 use Rattle.std.proofs.lemmas.Bool.{cases_Bool, cases_eq, and_parts, ltb-true, or_parts, true≢false, false_from_ne_true}
@@ -37,7 +38,7 @@ run_as : (o : Opening) (h : List Entry) (p q : ℕ → Bool) → p ≡ q → Ahe
 run_as o h p q e a = record { entries = a.entries; run = a.run; is = rw (sym e) a.is; goes = rw (sym e) a.goes; size = rw (sym e) a.size }
 
 -- set and set again
-at_again : (p : ℕ → Bool) (id : ℕ) (b c : Bool) → p id ≡ b → at_id (at_id p id c) id b ≡ p
+pub at_again : {X : Type 0} (p : ℕ → X) (id : ℕ) (b c : X) → p id ≡ b → at_id (at_id p id c) id b ≡ p
 at_again p id b c h = fun_ext (λ r. elim (cases_eq r id) [
   | inl e ↦ ap (at_id (at_id p id c) id b) e ∙ at_here (at_id p id c) id b ∙ sym h ∙ ap p (sym e)
   | inr d ↦ at_other (at_id p id c) id b r d ∙ at_other p id c r d
@@ -216,6 +217,18 @@ module _ (o : Opening) (h : List Entry) (p : ℕ → Bool) (t : Tables) (s : Sta
   -- ---- the same tables but for memory
   pub same_ahead : (u : Tables) → SameTables t u → StandsAhead o h p u
   same_ahead u e = record { runs = s.runs; stands = same_stands o s.runs.ahead.entries t u e s.stands }
+
+  -- ---- the same, but for the memory of the stack
+  pub places_ahead : (a : Vec ℕ) → a.items ≡ t.agenda.items → StandsAhead o h p (record t { agenda = a })
+  places_ahead a e = let f = s.stands.fits in record {
+    runs = s.runs;
+    stands = record {
+      grid = s.stands.grid;
+      run = s.stands.run;
+      fits = record { grid = f.grid; regions = f.regions; stored = f.stored; tickets = f.tickets; agenda = rw e f.agenda; course = f.course };
+      size = s.stands.size;
+    };
+  }
 
   -- ---- the same, but that bags were gathered
   pub gathered_ahead : (k : Stock) → SameThings t.store k → next_of k ≡ next_of t.store → ((r : ℕ) → Gathered (grid_state t.regions) r (bag_of t.store r) (bag_of k r)) → StandsAhead o h p (record t { store = k })

@@ -75,7 +75,7 @@ module _ (w : World) (sound : SoundWorld w) (r : ℕ) (ran : List Ran) (ticks : 
       ap (queued_in z.grid r) ((all_older v (ticked w r ran).wishes).jobs n l) ∙ kept_still r v.grid z.grid k.sections k.grid (v.jobs n) ∙ down_queue n
 
 -- ---- they are on the recorded chunks
-abbrev chunk_in : ChunkPos → Option Job → ChunkPos
+abbrev pub chunk_in : ChunkPos → Option Job → ChunkPos
 chunk_in c None = c
 chunk_in c (Some a) = a.chunk
 

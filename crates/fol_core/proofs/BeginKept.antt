@@ -36,7 +36,7 @@ use Rattle.fol_core.specs.Bags.{AreBut, IsBagOf}
 use Rattle.fol_core.specs.Begun.{due_task, left_job}
 use Rattle.fol_core.specs.Hands.{at_rest, in_hands, since}
 use Rattle.fol_core.specs.declared.machine.Room.{Room}
-use Rattle.fol_core.specs.Room.{HasRoom, room_of}
+use Rattle.fol_core.specs.Room.{HasPlace, HasRoom, room_of}
 use Rattle.fol_regions.specs.Answers.{state_answer}
 use Rattle.std.specs.Global.{Vec}
 use Rattle.std.specs.Prelude.{vec_len, vec_capacity}
@@ -51,7 +51,7 @@ use Rattle.fol_core.proofs.LoadKept.{SameMarks}
 use Rattle.fol_core.proofs.Longer.{good_of}
 use Rattle.fol_core.proofs.UnsettledBags.{exact_bag, have_bags}
 
-state_else : (g : GridState) (id r : ℕ) → r ≢ id → (begin g id).state r ≡ g.state r
+pub state_else : (g : GridState) (id r : ℕ) → r ≢ id → (begin g id).state r ≡ g.state r
 unfolding begin
 state_else g id r d = let z : nat_eq id r ≡ false = ne_eqb id r (λ e. d (sym e)) in rw z refl
 
@@ -162,9 +162,9 @@ module _ (o : Opening) (h : List Entry) (t : Tables) (s : Stands o h t) (id : �
       begin_due ts rises e = due_is_list (begun (world o h) worker id) id (λ n. due_task (is_recorded (bag_of t.store id).chunks) n (at_rest (world o h).grid (since o h) n ((world o h).jobs n)))
           (λ n. due_is (world o h).grid id ready positive (since o h) n (world o h).next_job (is_recorded (bag_of t.store id).chunks) recs ((world o h).jobs n) (loaded_job n) (other_taker n))
           (λ n x k. due_number (is_recorded (bag_of t.store id).chunks) n (at_rest (world o h).grid (since o h) n ((world o h).jobs n)) x k)
+          (λ n l. let none = good.sound.numbers n l in rw none refl)
           ts rises
           (λ n. ap (λ (f : ℕ → Option Task). f n) e ∙ ap (due_task (is_recorded (bag_of t.store id).chunks) n) (rest_at n))
-          (λ n l. let none = good.sound.numbers n l in rw none refl)
 
       pub begin_fits : (u : Tables) (d : Course) → grid_state u.regions ≡ begin (grid_state t.regions) id → flat_of u.store ≡ outside (is_recorded (bag_of t.store id).chunks) (flat_of t.store)
           → jobs_of u.store ≡ (λ n. option_filter (λ j. not (is_recorded (bag_of t.store id).chunks j.chunk)) (jobs_of t.store n)) → bag_of u.store ≡ at_id (bag_of t.store) id (taken_out (bag_of t.store id))
@@ -204,6 +204,7 @@ pub record RoomFor (t : Tables) (v : Vec Entry) (id early marks : ℕ) : Type 0 
   pub size : t.course.size < 2 ^ 50
   pub history : vec_len v + 2 + early ≤ vec_capacity v
   pub mark : id < marks
+  pub place : HasPlace t.agenda id early
   pub settled : owes (grid_state t.regions) (bag_of t.store) id ≡ true → (bag_of t.store id).listed ≡ true
 
 pub room_for : (room : Option Room) (t : Tables) (v : Vec Entry) (id early marks : ℕ) → HasRoom room t v early marks → room_of room ≡ Some id → RoomFor t v id early marks
@@ -212,6 +213,7 @@ room_for (Some room) t v id early marks r e = record {
   size = r.size;
   history = r.history;
   mark = let P : ℕ → Type 0 = λ n. n < marks in subst P (same_Some room.id id e) r.mark;
+  place = let P : ℕ → Type 0 = λ n. HasPlace t.agenda n early in subst P (same_Some room.id id e) r.place;
   settled = let P : ℕ → Type 0 = λ n. owes (grid_state t.regions) (bag_of t.store) n ≡ true → is_whole (bag_of t.store n) ≡ true in
       λ o. (and_parts (bag_of t.store id).listed (bag_of t.store id).calm (subst P (same_Some room.id id e) r.whole o)).0;
 }

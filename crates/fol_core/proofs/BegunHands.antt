@@ -93,7 +93,7 @@ module _ (g : GridState) (id : ℕ) (ready : g.state id ≡ Ready) (positive : 0
       grow true = refl
       grow false = refl
 
-  went_quiet : (f : ℕ → ℕ) (c : ChunkPos) (n : ℕ) → owner_of g c ≡ id → went g f c n ≡ false
+  pub went_quiet : (f : ℕ → ℕ) (c : ChunkPos) (n : ℕ) → owner_of g c ≡ id → went g f c n ≡ false
   unfolding went
   went_quiet f c n e = let k = quiet c e in rw k refl
 

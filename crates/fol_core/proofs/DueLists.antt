@@ -80,12 +80,17 @@ module _ (v : World) (id : ℕ) (f : ℕ → Option Task) (is : (n : ℕ) → ta
         ]
       ]
 
-  -- the list that rises and has just these tasks
-  pub due_is_list : (ts : List Task) → Rising ts → ((n : ℕ) → task_in ts n ≡ f n) → ((n : ℕ) → v.next_job ≤ n → f n ≡ None) → ts ≡ due_below v id v.next_job
-  due_is_list ts r h none = rising_same ts (due_below v id v.next_job) r (due_rising v id v.next_job) (λ n. h n ∙ elim (cases_Bool (nat_lt n v.next_job)) [
-    | inl l ↦ sym (below v.next_job n ∙ rw l refl)
-    | inr l ↦ none n (ltb-false n v.next_job l) ∙ sym (below v.next_job n ∙ rw l refl)
-  ])
+  module _ (none : (n : ℕ) → v.next_job ≤ n → f n ≡ None) where
+    -- the due task of each number
+    pub due_has : (n : ℕ) → task_in (due_below v id v.next_job) n ≡ f n
+    due_has n = elim (cases_Bool (nat_lt n v.next_job)) [
+      | inl l ↦ below v.next_job n ∙ (rw l refl)
+      | inr l ↦ let k = none n (ltb-false n v.next_job l) in below v.next_job n ∙ (rw (l, k) refl)
+    ]
+
+    -- the list that rises and has just these tasks
+    pub due_is_list : (ts : List Task) → Rising ts → ((n : ℕ) → task_in ts n ≡ f n) → ts ≡ due_below v id v.next_job
+    due_is_list ts r h = rising_same ts (due_below v id v.next_job) r (due_rising v id v.next_job) (λ n. h n ∙ sym (due_has n))
 
 pub due_number : (rec : Recorded) (n : ℕ) (o : Option Job) (t : Task) → due_task rec n o ≡ Some t → t.number ≡ n
 due_number rec n None t e = absurd (cc)

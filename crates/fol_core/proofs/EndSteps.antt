@@ -85,12 +85,12 @@ abbrev taker_in : Job → Option Job → ℕ
 taker_in i None = i.taker
 taker_in i (Some j) = j.taker
 
-within_twice : (rec : Recorded) (f : Flat) → within rec f ≡ within rec (within rec f)
+pub within_twice : (rec : Recorded) (f : Flat) → within rec f ≡ within rec (within rec f)
 within_twice rec f = flat_ext (within rec f) (within rec (within rec f))
     (λ b. elim (cases_Bool (rec (chunk_of b))) [ inl e ↦ rw e refl | inr e ↦ rw e refl ])
     (λ id. filter_twice rec (f.standing id))
 
-queued_was : (g : GridState) (r : ℕ) (x : Option Job) (j : Job) → queued_in g r x ≡ Some j → (x ≡ Some j) × (j.taker ≡ 0)
+pub queued_was : (g : GridState) (r : ℕ) (x : Option Job) (j : Job) → queued_in g r x ≡ Some j → (x ≡ Some j) × (j.taker ≡ 0)
 unfolding queued_in
 queued_was g r None j h = absurd (cc)
 queued_was g r (Some i) j h = elim (cases_Bool (is_queued_in g r i)) [
@@ -337,26 +337,31 @@ module _ (t : Tables) (tick : Tick) (o : Opening) (h : List Entry) (s : Stands o
     pub can_release : CanRelease t2.store t2.agenda.items (grid_state t2.regions) r (tick.body.tick + 1) tick.body.owed
     can_release = rw (u.midway.regions, counter_now, owed_now) can_now
 
+    pub heirs_few : length (heirs (release (grid_state t2.regions) r) (release_change (grid_state t2.regions) r) r) ≤ 1820
+    heirs_few = rw u.midway.regions to.few_heirs
+
     pub agenda_room : vec_len t2.agenda + length (heirs (release (grid_state t2.regions) r) (release_change (grid_state t2.regions) r) r) ≤ vec_capacity t2.agenda
-    agenda_room = rw u.midway.regions (omega (arith, to.few_heirs, u.room.agenda))
+    agenda_room = omega (arith, heirs_few, u.room.agenda)
 
     pub can_end : CanEnd t2 r tick.chunks body
     can_end = record {
-      ticks = ticks_still;
+      comes = record {
+        ticks = ticks_still;
+        out = still_taken;
+        chunks = its_chunks;
+        grid = u.midway.grid ∙ ap (λ (i : GridState). i.grid) (sym u.midway.regions);
+        follows = rw u.midway.regions back_follows;
+        bound = bound;
+        in_time = are_in_time;
+        contents_there = contents_there;
+        tasks_there = tasks_there;
+        contents_apart = contents_apart;
+        tasks_apart = jobs_apart;
+        held = are_held;
+      };
       spare = omega (arith, u.room.regions);
       few_ids = few_ids;
-      out = still_taken;
-      chunks = its_chunks;
-      grid = u.midway.grid ∙ ap (λ (i : GridState). i.grid) (sym u.midway.regions);
       rules = rw u.midway.regions u.ends.ending.sound.rules;
-      follows = rw u.midway.regions back_follows;
-      bound = bound;
-      in_time = are_in_time;
-      contents_there = contents_there;
-      tasks_there = tasks_there;
-      contents_apart = contents_apart;
-      tasks_apart = jobs_apart;
-      held = are_held;
       can = can_release;
       room = agenda_room;
     }

@@ -49,7 +49,7 @@ module _ (t u : Tables) (r : ℕ) (places : List ChunkPos) (body : RegionData) (
       let n = back.next in
       let a = back.agenda in
       rw e (record {
-        ticks = can.ticks;
+        ticks = can.comes.ticks;
         spare = can.spare;
         few_ids = can.few_ids;
         after = after;
@@ -72,6 +72,7 @@ module _ (t u : Tables) (r : ℕ) (places : List ChunkPos) (body : RegionData) (
         → ((h r).here ≡ true) × Settle (release (grid_state x) r) after (parted_in (release (grid_state x) r) (release_change (grid_state x) r) r h)) (sym e) settles));
     next = let n = rel.next in let m = back.next in let n' : next_of v.store ≡ next_of u.store + length (parts_in (release (grid_state t.regions) r) (release_change (grid_state t.regions) r) r) = rw e at n in n' ∙ ap (λ (x : ℕ). x + length (parts_in (release (grid_state t.regions) r) (release_change (grid_state t.regions) r) r)) m;
     agenda = rel.agenda;
+    stack = let a = back.agenda in rw (e, a) at rel.stack;
     grid = rel.grid ∙ back.grid;
     tickets = rel.tickets ∙ back.tickets;
     course = rel.course ∙ back.course;

@@ -84,3 +84,6 @@ pub mod QuietHands
 pub mod QuietBags
 pub mod QuietKept
 pub mod QuietRuns
+pub mod UndoneTasks
+pub mod OwedMost
+pub mod UndoneTicks

@@ -8,7 +8,7 @@ use Rattle.std.proofs.Math.Seq.{get_or-append_right}
 use Rattle.std.proofs.lemmas.List.{get_or-set_same, get_or-set_other, length-set}
 use Rattle.fol_model.specs.ActionStep.{at_id}
 use Rattle.fol_model.specs.Counting.{count_below}
-use Rattle.fol_laws.proofs.CountBelow.{count_less, count_next}
+use Rattle.fol_laws.proofs.CountBelow.{count_less, count_next, count_zero}
 use Rattle.fol_laws.proofs.FunctionsChanged.{at_here, at_other}
 use Rattle.fol_core.specs.Meaning.{mark, mark_count}
 
@@ -52,6 +52,10 @@ mark_below marks id on = elim (cases_lt id (length marks)) [
   | inl l ↦ l
   | inr l ↦ absurd (true≢false (sym on ∙ get_or-eq_default marks false l))
 ]
+
+pub count_off : (marks : List Bool) → ((r : ℕ) → mark marks r ≡ false) → mark_count marks ≡ 0
+unfolding mark_count
+count_off marks none = count_zero (mark marks) (length marks) none
 
 pub count_none : mark_count [] ≡ 0
 unfolding mark_count count_below

@@ -5,22 +5,21 @@ use Rattle.std.specs.Option.{option_or}
 use Rattle.std.proofs.lemmas.Bool.{cases_Bool, eqb-true, eqb-false, eq-eqb, ne_eqb, lt-ltb, true≢false}
 use Rattle.fol_model.specs.declared.places.ChunkPos.{ChunkPos}
 use Rattle.fol_model.specs.declared.places.SectionPos.{SectionPos}
-use Rattle.fol_model.specs.declared.places.BlockPos.{BlockPos}
 use Rattle.fol_model.specs.declared.regions.State.TheVariants.{Transient, Ready, Ticking, Dead}
-use Rattle.fol_model.specs.Geometry.{section_of, chunk_of}
+use Rattle.fol_model.specs.Geometry.{section_of}
 use Rattle.fol_model.specs.GridNumbers.{IsGrid}
 use Rattle.fol_model.specs.GridState.{GridState, is_ticking}
 use Rattle.fol_model.specs.Release.{release, must_wait, cleans, is_part_id, parts}
 use Rattle.fol_model.specs.Rules.{Rules}
-use Rattle.fol_model.specs.ActionStep.{Flat, Recorded, Standing}
+use Rattle.fol_model.specs.ActionStep.{Flat, Recorded}
 use Rattle.fol_model.specs.Job.{Job}
 use Rattle.fol_laws.proofs.AddTarget.{is_ticking-true}
 use Rattle.fol_laws.proofs.GridFields.{ticking_release}
 use Rattle.fol_laws.proofs.ReleaseKeeps.{grid_release, release_ticking_sections}
 use Rattle.fol_model.specs.QueuedTask.{queued_in}
-use Rattle.fol_chunks.specs.Contents.{within, outside, joined, option_filter}
+use Rattle.fol_chunks.specs.Contents.{within, outside, joined}
 use Rattle.fol_core.specs.Hands.{owner_of, ticker, in_hands, went, at_rest}
-use Rattle.fol_core.proofs.Flats.{flat_ext}
+use Rattle.fol_core.proofs.Flats.{joined_back}
 
 module _ (g : GridState) (r : ℕ) (rules : Rules g) (ok : IsGrid g.grid) (ticks : g.state r ≡ Ticking) where
   some : 0 < r
@@ -161,25 +160,5 @@ module _ (g : GridState) (r : ℕ) (rules : Rules g) (ok : IsGrid g.grid) (ticks
     unfolding in_hands
     in_hands_there c k = let t = ticker_of c (own c k) in let p : nat_lt 0 r ≡ true = lt-ltb 0 r some in rw (t, p, k) refl
 
-    blocks_back : (f : Flat) (b : BlockPos) → (joined (outside (in_hands g recorded) f) (within (recorded r) f)).blocks b ≡ (outside (in_hands (release g r) recorded) f).blocks b
-    blocks_back f b = let a = hands_after (chunk_of b) in elim (cases_Bool (recorded r (chunk_of b))) [
-      | inl k ↦ let i = in_hands_there (chunk_of b) k in rw (a, i, k) refl
-      | inr k ↦ elim (cases_Bool (in_hands g recorded (chunk_of b))) [
-        | inl i ↦ rw (a, i, k) refl
-        | inr i ↦ elim (cases_Bool (nat_eq (f.blocks b) 0)) [
-          | inl z ↦ let e : f.blocks b ≡ 0 = eqb-true _ _ z in rw (a, i, k, e) refl
-          | inr z ↦ rw (a, i, k, z) refl
-        ]
-      ]
-    ]
-
-    stands_back : (o : Option Standing) → option_or (option_filter (λ (s : Standing). not (in_hands g recorded (chunk_of s.at))) o) (option_filter (λ (s : Standing). recorded r (chunk_of s.at)) o)
-        ≡ option_filter (λ (s : Standing). not (in_hands (release g r) recorded (chunk_of s.at))) o
-    stands_back None = refl
-    stands_back (Some s) = let a = hands_after (chunk_of s.at) in elim (cases_Bool (recorded r (chunk_of s.at))) [
-      | inl k ↦ let i = in_hands_there (chunk_of s.at) k in rw (a, i, k) refl
-      | inr k ↦ elim (cases_Bool (in_hands g recorded (chunk_of s.at))) [ inl i ↦ rw (a, i, k) refl | inr i ↦ rw (a, i) refl ]
-    ]
-
     pub flat_back : (f : Flat) → joined (outside (in_hands g recorded) f) (within (recorded r) f) ≡ outside (in_hands (release g r) recorded) f
-    flat_back f = flat_ext _ _ (blocks_back f) (λ id. stands_back (f.standing id))
+    flat_back = joined_back (in_hands g recorded) (in_hands (release g r) recorded) (recorded r) hands_after in_hands_there

@@ -1,12 +1,14 @@
 -- The memory that a Stop and the Begins of prepared regions need stays.
-use Rattle.std.proofs.Common.{◌≡◌, ℕ, ◌+◌, ◌≤◌, ◌<◌, sym, ◌∙◌, ap, arith, false, ◌||◌}
+use Rattle.std.proofs.Common.{◌≡◌, ℕ, ◌+◌, ◌≤◌, ◌<◌, sym, ◌∙◌, ap, arith, false, inl, inr, ◌||◌}
 use Rattle.std.specs.Prelude.{Option, Some, None, vec_len, vec_capacity}
 use Rattle.std.specs.Global.{Vec}
 use Rattle.fol_model.specs.declared.events.Entry.{Entry}
 use Rattle.fol_core.specs.declared.machine.Room.{Room}
 use Rattle.fol_core.specs.declared.tables.Course.{Course}
 use Rattle.fol_core.specs.declared.tables.Tables.{Tables}
-use Rattle.fol_core.specs.Room.{HasRoom}
+use Rattle.fol_core.specs.Agenda.{GrowsBy, IsTop}
+use Rattle.fol_core.specs.Room.{AgendaRoom, HasPlace, HasRoom}
+use Rattle.fol_core.specs.Same.{SameTables}
 
 -- over the lengths and the capacities of two histories
 pub same_room : (c d : Course) (l m a b k : ℕ) → d ≡ c → m ≡ l → a ≤ b → ((c.finished || c.stopped) ≡ false → l + k < a) → (d.finished || d.stopped) ≡ false → m + k < b
@@ -19,6 +21,22 @@ room_left d l m a b k e q r s n x = omega arith
 pub room_left_by_two : (d : Course) (l m n a b s k e : ℕ) → k ≡ e → l + 3 + k ≤ a → m ≡ l + 1 → b ≡ a → n ≡ m + 1 → s ≡ b → (d.finished || d.stopped) ≡ false → n + e < s
 room_left_by_two d l m n a b s k e q r one same two still x = omega arith
 
+-- ---- the places of the stack
+
+pub same_places : (t u : Tables) (k : ℕ) → SameTables t u → AgendaRoom t.agenda k → AgendaRoom u.agenda k
+same_places t u k same room = omega (arith, same.agenda_len, same.agenda_capacity, room)
+
+-- a stack that had memory for n regions more than those that may come back
+pub places_left : (n : ℕ) (a b : Vec ℕ) (k early : ℕ) → k ≡ early → vec_len a + n + k ≤ vec_capacity a → GrowsBy n a b → AgendaRoom b early
+places_left n a b k early e room grows = omega (arith, e, room, grows.len, grows.capacity)
+
+-- once the region is prepared for which there was a place
+pub place_taken : (a b : Vec ℕ) (id k early : ℕ) → AgendaRoom a k → HasPlace a id k → vec_len b ≤ vec_len a → vec_capacity b ≡ vec_capacity a → (IsTop a.items id → vec_len b < vec_len a) → early ≡ k + 1 → AgendaRoom b early
+place_taken a b id k early room place len capacity top e = elim place [
+  | inl l ↦ omega (arith, l, len, capacity, e)
+  | inr is ↦ omega (arith, room, top is, capacity, e)
+]
+
 -- where the Begin of a prepared region is recorded, what the next Begin needs stays
 pub learnt_room : (room : Option Room) (t : Tables) (v w : Vec Entry) (early rest marks : ℕ) → HasRoom room t v early marks → vec_len w ≡ vec_len v + 1 → vec_capacity w ≡ vec_capacity v → early ≡ rest + 1 → HasRoom room t w rest marks
 learnt_room None t v w early rest marks r l c e = tt
@@ -27,6 +45,7 @@ learnt_room (Some room) t v w early rest marks r l c e = record {
   size = r.size;
   history = omega (arith, r.history, l, c, e);
   mark = r.mark;
+  place = elim r.place [ inl l ↦ inl (omega (arith, l, e)) | inr top ↦ inr top ];
   empty = r.empty;
   whole = r.whole;
   due = r.due;

@@ -70,6 +70,12 @@ pub record Prepares (old new : Meaning) (id : ℕ) : Type 0 where
   pub history : new.history ≡ old.history
   pub prepared : is_prepared new ≡ at_id (is_prepared old) id true
 
+-- the region is prepared no more, and nothing else has changed
+pub record Withdraws (old new : Meaning) (id : ℕ) : Type 0 where
+  pub opening : new.opening ≡ old.opening
+  pub history : new.history ≡ old.history
+  pub prepared : is_prepared new ≡ at_id (is_prepared old) id false
+
 -- the Begin of a prepared region by this worker is recorded, and the region is prepared no more
 pub record Learns (old new : Meaning) (by worker id : ℕ) : Type 0 where
   pub opening : new.opening ≡ old.opening

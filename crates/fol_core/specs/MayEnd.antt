@@ -26,5 +26,6 @@ pub record HasGrownToEnd (t : Tables) (h : Vec Entry) (tick : Tick) (accepts : V
   pub size : t.course.size + (1 + length tick.log.wishes) ≤ 2 ^ 50
   pub history : vec_len h + 2 + early ≤ vec_capacity h
   pub memory : HasRoomFor t tick.body.chunks (length tick.log.wishes)
+  pub places : vec_len t.agenda + (length tick.log.wishes + 1820) + early ≤ vec_capacity t.agenda
   pub empty : accepts.items ≡ []
   pub answers : length tick.log.wishes ≤ vec_capacity accepts

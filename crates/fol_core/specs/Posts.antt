@@ -1,5 +1,5 @@
 -- A task more on a chunk that is held for it.
-use Rattle.std.specs.Prelude.{ℕ, ◌≡◌, ◌+◌, ◌≤◌, ◌<◌, ◌^◌, Some, IsNone, vec_len, vec_capacity}
+use Rattle.std.specs.Prelude.{ℕ, ◌≡◌, ◌+◌, ◌≤◌, ◌<◌, ◌^◌, Some, IsNone}
 use Rattle.fol_model.specs.declared.places.ChunkPos.{ChunkPos}
 use Rattle.fol_model.specs.declared.actions.Action.{Action}
 use Rattle.fol_model.specs.ActionStep.{at_id}
@@ -7,6 +7,7 @@ use Rattle.fol_model.specs.Job.{queued}
 use Rattle.fol_store.specs.Bag.{Stirred}
 use Rattle.fol_store.specs.Stock.{bag_of, flat_of, jobs_of, next_of}
 use Rattle.fol_core.specs.declared.tables.Tables.{Tables}
+use Rattle.fol_core.specs.Agenda.{GrowsBy}
 
 -- the next task can be queued
 pub record CanQueue (t : Tables) (delay : ℕ) : Type 0 where
@@ -34,5 +35,4 @@ pub record Queues (old new : Tables) (c : ChunkPos) (delay : ℕ) (action : Acti
 pub record LeavesRoom (old new : Tables) (made : ℕ) : Type 0 where
   pub regions : old.regions.spare ≤ new.regions.spare + 1
   pub slots : old.store.slots ≤ new.store.slots + made
-  pub agenda_len : vec_len new.agenda ≤ vec_len old.agenda + 1
-  pub agenda_capacity : vec_capacity new.agenda ≡ vec_capacity old.agenda
+  pub agenda : GrowsBy 1 old.agenda new.agenda

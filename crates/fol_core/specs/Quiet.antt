@@ -15,7 +15,7 @@ use Rattle.fol_store.specs.Passing.{nearer}
 use Rattle.fol_store.specs.Stock.{Stock, bag_of, due_of, flat_of, jobs_of, next_of}
 use Rattle.fol_regions.specs.Table.{grid_state}
 use Rattle.fol_core.specs.declared.tables.Tables.{Tables}
-use Rattle.fol_core.specs.Agenda.{IsAgenda, owes}
+use Rattle.fol_core.specs.Agenda.{GrowsBy, IsAgenda, owes}
 use Rattle.fol_core.specs.Meaning.{Meaning, is_prepared, world_of}
 
 -- the Begin of a tick, and behind it its End with this counter, in which no task ran
@@ -60,6 +60,7 @@ pub record PassesTick (old new : Tables) (id : ℕ) : Type 0 where
   pub next : next_of new.store ≡ next_of old.store
   pub regions : new.regions ≡ old.regions
   pub agenda : IsAgenda new.agenda.items (grid_state new.regions) (bag_of new.store)
+  pub stack : GrowsBy 0 old.agenda new.agenda
   pub grid : new.grid ≡ old.grid
   pub tickets : new.tickets ≡ old.tickets
   pub course : new.course ≡ old.course

@@ -22,7 +22,7 @@ use Rattle.fol_data.specs.Rests.{IsInTime, rests_of}
 use Rattle.fol_regions.specs.Table.{grid_state}
 use Rattle.fol_core.specs.declared.tables.Tables.{Tables}
 use Rattle.fol_core.specs.Same.{SameThings}
-use Rattle.fol_core.specs.Agenda.{Covers, HaveBags, IsAgenda}
+use Rattle.fol_core.specs.Agenda.{Covers, GrowsBy, HaveBags, IsAgenda}
 use Rattle.fol_core.specs.Bags.{AreInOrder, CanJoin, Follow, Joins, KeepsUp, joined_bags}
 use Rattle.fol_core.specs.CatchingUp.{AreHeld}
 use Rattle.fol_core.specs.Follows.{Settle}
@@ -100,15 +100,12 @@ pub record Loosens (g h : GridState) (r : ℕ) (f k : ℕ → Bag) : Type 0 wher
   pub noted : (k r).listed ≡ true → (c : ChunkPos) → is_recorded (k r).since c ≡ false → is_recorded (f r).since c ≡ false
   pub loaded : (k r).listed ≡ true → (c : ChunkPos) → is_recorded (k r).since c ≡ false → is_loaded h c ≡ is_loaded g c
 
--- the region can be released: these are its chunks, and this is what comes back
-pub record CanEnd (t : Tables) (r : ℕ) (places : List ChunkPos) (body : RegionData) : Type 0 where
+-- what a worker has of the region can come back: these are its chunks, and this is its data
+pub record CanComeBack (t : Tables) (r : ℕ) (places : List ChunkPos) (body : RegionData) : Type 0 where
   pub ticks : (grid_state t.regions).state r ≡ Ticking
-  pub spare : 1 ≤ t.regions.spare
-  pub few_ids : (grid_state t.regions).next < 2 ^ 62
   pub out : (bag_of t.store r).taken ≡ true
   pub chunks : places ≡ (bag_of t.store r).chunks
   pub grid : t.grid ≡ (grid_state t.regions).grid
-  pub rules : Rules (grid_state t.regions)
   pub follows : (bag_of t.store r).listed ≡ true → KeepsUp (bag_of t.store r) (filter (is_chunk_of (grid_state t.regions) r) all_chunks)
   pub bound : body.tick ≤ 2 ^ 62
   pub in_time : (n : ℕ) → ForSome (dated body.queues n) (IsInTime body.tick)
@@ -117,6 +114,13 @@ pub record CanEnd (t : Tables) (r : ℕ) (places : List ChunkPos) (body : Region
   pub contents_apart : Apart (flat_of t.store) (contents_of body.chunks)
   pub tasks_apart : (n : ℕ) → IsTrue (is_none (jobs_of t.store n) || is_none (rests_of body n))
   pub held : AreHeld (grid_state t.regions) (λ n. option_or (jobs_of t.store n) (rests_of body n))
+
+-- the region can be released: these are its chunks, and this is what comes back
+pub record CanEnd (t : Tables) (r : ℕ) (places : List ChunkPos) (body : RegionData) : Type 0 where
+  pub comes : CanComeBack t r places body
+  pub spare : 1 ≤ t.regions.spare
+  pub few_ids : (grid_state t.regions).next < 2 ^ 62
+  pub rules : Rules (grid_state t.regions)
   pub can : CanRelease t.store t.agenda.items (grid_state t.regions) r body.tick body.owed
   pub room : vec_len t.agenda + length (heirs (release (grid_state t.regions) r) (release_change (grid_state t.regions) r) r) ≤ vec_capacity t.agenda
 
@@ -159,6 +163,7 @@ pub record Releases (old new : Tables) (r : ℕ) : Type 0 where
       → Settle (release (grid_state old.regions) r) f (bag_of new.store)
   pub next : next_of new.store ≡ next_of old.store + length (parts_in (release (grid_state old.regions) r) (release_change (grid_state old.regions) r) r)
   pub agenda : IsAgenda new.agenda.items (grid_state new.regions) (bag_of new.store)
+  pub stack : GrowsBy (length (heirs (release (grid_state old.regions) r) (release_change (grid_state old.regions) r) r)) old.agenda new.agenda
   pub grid : new.grid ≡ old.grid
   pub tickets : new.tickets ≡ old.tickets
   pub course : new.course ≡ old.course
@@ -171,6 +176,7 @@ pub record EndsRegion (old new : Tables) (r : ℕ) (body : RegionData) : Type 0 
   pub bags : Settle (release (grid_state old.regions) r) (released_bags (release (grid_state old.regions) r) (release_change (grid_state old.regions) r) r body.tick body.owed (bag_of old.store)) (bag_of new.store)
   pub next : next_of new.store ≡ next_of old.store + length (parts_in (release (grid_state old.regions) r) (release_change (grid_state old.regions) r) r)
   pub agenda : IsAgenda new.agenda.items (grid_state new.regions) (bag_of new.store)
+  pub stack : GrowsBy (length (heirs (release (grid_state old.regions) r) (release_change (grid_state old.regions) r) r)) old.agenda new.agenda
   pub grid : new.grid ≡ old.grid
   pub tickets : new.tickets ≡ old.tickets
   pub course : new.course ≡ old.course

@@ -1,5 +1,5 @@
 -- The memory that was taken for what comes next.
-use Rattle.std.specs.Prelude.{◌≡◌, ℕ, Bool, ◌+◌, ◌≤◌, ◌<◌, ◌^◌, true, false, ◌||◌, [], Option, Some, None, vec_len, vec_capacity}
+use Rattle.std.specs.Prelude.{◌≡◌, ◌⊎◌, ℕ, Bool, ◌+◌, ◌≤◌, ◌<◌, ◌^◌, true, false, ◌||◌, [], Option, Some, None, vec_len, vec_capacity}
 use Rattle.std.specs.Global.{Vec}
 use Rattle.std.specs.HashMap.{spare as room_in}
 use Rattle.fol_model.specs.declared.events.Entry.{Entry}
@@ -11,20 +11,29 @@ use Rattle.fol_store.specs.Stock.{Stock, bag_of, due_of}
 use Rattle.fol_core.specs.declared.tables.Course.{Course}
 use Rattle.fol_core.specs.declared.tables.Tables.{Tables}
 use Rattle.fol_core.specs.declared.machine.Room.{Room}
-use Rattle.fol_core.specs.Agenda.{owes}
+use Rattle.fol_core.specs.Agenda.{IsTop, owes}
 
 -- the region that it was reserved for
 abbrev pub room_of : Option Room → Option ℕ
 room_of None = None
 room_of (Some room) = Some room.id
 
--- a Begin of the region, which was given out, needs no more memory, and neither does a Stop after it, nor its mark, nor the Begins of so
--- many prepared regions
+-- the stack has a place for each of so many prepared regions, which may come back
+abbrev pub AgendaRoom : Vec ℕ → ℕ → Type 0
+AgendaRoom agenda early = vec_len agenda + early ≤ vec_capacity agenda
+
+-- it has one for this region, too, once it is prepared: what is on top goes then
+abbrev pub HasPlace : Vec ℕ → ℕ → ℕ → Type 0
+HasPlace agenda id early = (vec_len agenda + early < vec_capacity agenda) ⊎ IsTop agenda.items id
+
+-- a Begin of the region, which was given out, needs no more memory, and neither does a Stop after it, nor its mark and its place in the stack,
+-- nor the Begins of so many prepared regions
 pub record BeginRoom (room : Room) (t : Tables) (h : Vec Entry) (early marks : ℕ) : Type 0 where
   pub given : IsGiven (grid_state t.regions) room.id
   pub size : t.course.size < 2 ^ 50
   pub history : vec_len h + 2 + early ≤ vec_capacity h
   pub mark : room.id < marks
+  pub place : HasPlace t.agenda room.id early
   pub empty : room.due.items ≡ []
   pub whole : owes (grid_state t.regions) (bag_of t.store) room.id ≡ true → is_whole (bag_of t.store room.id) ≡ true
   pub due : owes (grid_state t.regions) (bag_of t.store) room.id ≡ true → due_of t.store room.id ≤ vec_capacity room.due
@@ -38,6 +47,7 @@ abbrev pub EntryRoom : Course → Vec Entry → ℕ → Type 0
 EntryRoom c h early = (c.finished || c.stopped) ≡ false → vec_len h + early < vec_capacity h
 
 -- there is memory for an entry with one hold added, for so many tasks, for a Stop after it, and for the Begins of so many prepared regions
+-- or their places in the stack
 pub record HasGrown (t : Tables) (h : Vec Entry) (wanted early : ℕ) : Type 0 where
   pub size : t.course.size < 2 ^ 50
   pub history : vec_len h + 2 + early ≤ vec_capacity h
@@ -45,7 +55,7 @@ pub record HasGrown (t : Tables) (h : Vec Entry) (wanted early : ℕ) : Type 0 w
   pub tasks : wanted ≤ t.store.spare
   pub bags : 1 ≤ t.store.slots
   pub tickets : 1 ≤ room_in t.tickets
-  pub agenda : vec_len t.agenda + 1 ≤ vec_capacity t.agenda
+  pub agenda : vec_len t.agenda + 1 + early ≤ vec_capacity t.agenda
 
 -- an empty list with room for the due tasks of a whole bag, where the region owes a tick
 pub record DueRoom (due : Vec Task) (k : Stock) (owes : Bool) (id : ℕ) : Type 0 where

@@ -1,11 +1,11 @@
 //! The stack of regions that may owe a tick.
 
-ghost use Rattle.std.specs.Prelude.{◌≡◌, ◌<◌, ◌≤◌, ◌++◌, ◌∷◌, ◌&&◌, nat_lt, ℕ, true, false, IfSome, IsNone, [], vec_len, vec_capacity};
+ghost use Rattle.std.specs.Prelude.{◌≡◌, ◌+◌, ◌<◌, ◌≤◌, ◌++◌, ◌∷◌, ◌&&◌, nat_lt, ℕ, true, false, IfSome, IsNone, [], vec_len, vec_capacity};
 ghost use Rattle.fol_model.specs.GridState.{is_ready};
 ghost use Rattle.fol_model.specs.Rules.{Rules};
 ghost use Rattle.fol_regions.specs.Table.{grid_state};
 ghost use Rattle.fol_store.specs.Stock.{bag_of};
-ghost use Rattle.fol_core.specs.Agenda.{Covers, IsAgenda, HaveBags, owes as owes_tick};
+ghost use Rattle.fol_core.specs.Agenda.{Covers, GrowsBy, IsAgenda, IsTop, HaveBags, owes as owes_tick};
 
 use fol_model::State;
 use fol_regions::Regions;
@@ -55,7 +55,10 @@ pub(crate) fn tidy_without(agenda: &mut Vec<u64>, regions: &Regions, store: &Sto
     requires state { is_ready ((grid_state regions.now).state id) ≡ false }
     requires bags { HaveBags (grid_state regions.now) (bag_of store.now) }
     requires covers { Covers agenda.old.items (grid_state regions.now) (bag_of store.now) }
-    ensures { IsAgenda agenda.new.items (grid_state regions.now) (bag_of store.now) }
+    ensures agenda { IsAgenda agenda.new.items (grid_state regions.now) (bag_of store.now) }
+    ensures len { vec_len agenda.new ≤ vec_len agenda.old }
+    ensures capacity { vec_capacity agenda.new ≡ vec_capacity agenda.old }
+    ensures top { IsTop agenda.old.items id → vec_len agenda.new < vec_len agenda.old }
 {
     if agenda.last().copied() == Some(id) {
         let _ = agenda.pop();
@@ -70,7 +73,10 @@ pub(crate) fn add(agenda: &mut Vec<u64>, regions: &Regions, store: &Store, id: u
     requires bags { HaveBags (grid_state regions.now) (bag_of store.now) }
     requires covers { Covers (agenda.old.items ++ id ∷ []) (grid_state regions.now)
         (bag_of store.now) }
-    ensures { IsAgenda agenda.new.items (grid_state regions.now) (bag_of store.now) }
+    ensures agenda { IsAgenda agenda.new.items (grid_state regions.now) (bag_of store.now) }
+    ensures stack { GrowsBy 1 agenda.old agenda.new }
+    ensures top { owes_tick (grid_state regions.now) (bag_of store.now) id ≡ true
+        → IsTop agenda.new.items id }
 {
     let is_owing = owes_in(state, store, id);
     agenda.push_reserved(id);

@@ -1,6 +1,6 @@
 //! Begins of ticks.
 
-ghost use Rattle.std.specs.Prelude.{◌≡◌, ◌+◌, ◌-◌, ◌≤◌, ℕ, not, true, false, [], filter, OnOk, OnErr, vec_capacity, IsSome, IfOk, IfSome};
+ghost use Rattle.std.specs.Prelude.{◌≡◌, ◌+◌, ◌-◌, ◌≤◌, ◌<◌, ℕ, not, true, false, [], filter, length, OnOk, OnErr, vec_len, vec_capacity, IsSome, IfOk, IfSome};
 ghost use Rattle.fol_model.specs.Universe.{all_chunks};
 ghost use Rattle.fol_model.specs.Begin.{begin};
 ghost use Rattle.fol_model.specs.FlatTick.{Rising};
@@ -13,7 +13,7 @@ ghost use Rattle.fol_chunks.specs.Contents.{flat_of as contents_of, is_recorded,
 ghost use Rattle.fol_store.specs.Bag.{is_whole, taken_out};
 ghost use Rattle.fol_store.specs.Gathered.{AreFree};
 ghost use Rattle.fol_store.specs.Stock.{bag_of, due_of, flat_of, jobs_of, next_of};
-ghost use Rattle.fol_core.specs.Agenda.{Covers, HaveBags, IsAgenda, owes as owes_tick};
+ghost use Rattle.fol_core.specs.Agenda.{Covers, HaveBags, IsAgenda, IsTop, owes as owes_tick};
 ghost use Rattle.fol_core.specs.Answers.{Begins, BeginsNext, IsGiven};
 ghost use Rattle.fol_core.specs.Room.{DueRoom};
 ghost use Rattle.fol_core.specs.Begun.{Gathered, due_task, left_job};
@@ -50,6 +50,7 @@ impl Core {
         self.room = None;
         grow_history(&mut self.history, &self.tables.course, self.marks.count())?;
         self.marks.make_room(id)?;
+        self.tables.agenda.reserve(1 + self.marks.count() as usize)?;
         let due = due_list(alloc, &self.tables.regions, &mut self.tables.store, id)?;
         self.room = Some(Room { id, due });
         Ok(())
@@ -251,6 +252,7 @@ pub(crate) fn hand_out(tables: &mut Tables, id: u64, room: Vec<Task>) -> Begun
     ensures due { task_in result.due.items ≡ λ n.
         due_task (is_recorded (bag_of tables.old.store id).chunks) n (jobs_of tables.old.store n) }
     ensures order { Rising result.due.items }
+    ensures spare { length result.due.items ≤ result.body.queues.spare }
     ensures flat { flat_of tables.new.store
         ≡ outside (is_recorded (bag_of tables.old.store id).chunks) (flat_of tables.old.store) }
     ensures jobs { jobs_of tables.new.store ≡ λ n.
@@ -262,6 +264,10 @@ pub(crate) fn hand_out(tables: &mut Tables, id: u64, room: Vec<Task>) -> Begun
     ensures regions { grid_state tables.new.regions ≡ begin (grid_state tables.old.regions) id }
     ensures agenda { IsAgenda tables.new.agenda.items (grid_state tables.new.regions)
         (bag_of tables.new.store) }
+    ensures len { vec_len tables.new.agenda ≤ vec_len tables.old.agenda }
+    ensures capacity { vec_capacity tables.new.agenda ≡ vec_capacity tables.old.agenda }
+    ensures top { IsTop tables.old.agenda.items id
+        → vec_len tables.new.agenda < vec_len tables.old.agenda }
     ensures others { (tables.new.grid ≡ tables.old.grid)
         × (tables.new.tickets.entries ≡ tables.old.tickets.entries)
         × (tables.new.course ≡ tables.old.course) }

@@ -20,14 +20,14 @@ ghost use Rattle.fol_model.specs.declared.openings.Opening.{Opening};
 ghost use Rattle.fol_model.specs.declared.events.Entry.{Entry};
 ghost use Rattle.fol_model.specs.End.{ended};
 ghost use Rattle.fol_model.specs.Run.{world};
-ghost use Rattle.fol_core.specs.Agenda.{IsAgenda};
+ghost use Rattle.fol_core.specs.Agenda.{GrowsBy, IsAgenda};
 ghost use Rattle.fol_core.specs.Bags.{AreInOrder, CanJoin, Joins};
 ghost use Rattle.fol_core.specs.Answers.{end_event};
 ghost use Rattle.fol_core.specs.Hands.{since};
 ghost use Rattle.fol_core.specs.MayEnd.{MayEnd};
 ghost use Rattle.fol_core.specs.Stands.{Fits, Stands};
 ghost use Rattle.fol_core.specs.AtEnd.{AtEnd};
-ghost use Rattle.fol_core.specs.Released.{BringsBack, CanEnd, DropsHolds, EndsRegion, Loosens, MayRelease, Releases};
+ghost use Rattle.fol_core.specs.Released.{BringsBack, CanComeBack, CanEnd, DropsHolds, EndsRegion, Loosens, MayRelease, Releases};
 ghost use Rattle.fol_core.specs.Same.{SameStock, SameThings};
 
 use crate::agenda::{add, tidy};
@@ -62,6 +62,8 @@ pub(crate) fn end_tick(
         → AtEnd (world o h) (since o h) tick.old
         → Fits tables.new (ended (world o h) tick.old.region tick.old.log.ran) (since o h) }
     ensures course { tables.new.course.size ≡ tables.old.course.size }
+    ensures stack { GrowsBy (length tick.old.log.wishes + 1820)
+        tables.old.agenda tables.new.agenda }
 {
     let worker = tick.worker;
     let region = tick.region;
@@ -148,8 +150,8 @@ pub(crate) fn end_region(
 }
 
 /// The chunks and the data of a Ticking region come back, and its bag follows the chunks that came and left meanwhile.
-fn bring_back(tables: &mut Tables, region: u64, chunks: Vec<ChunkPos>, body: RegionData)
-    requires { CanEnd tables.old region chunks.items body }
+pub(crate) fn bring_back(tables: &mut Tables, region: u64, chunks: Vec<ChunkPos>, body: RegionData)
+    requires { CanComeBack tables.old region chunks.items body }
     ensures { BringsBack tables.old tables.new region body }
 {
     tables.regions.keeps_rules();
@@ -216,7 +218,8 @@ fn state_of(regions: &Regions, region: u64) -> State
 /// Puts the regions on the stack.
 fn add_all(agenda: &mut Vec<u64>, ids: &[u64])
     requires room { vec_len agenda.old + length ids.now ≤ vec_capacity agenda.old }
-    ensures { agenda.new.items ≡ agenda.old.items ++ ids.now }
+    ensures items { agenda.new.items ≡ agenda.old.items ++ ids.now }
+    ensures stack { GrowsBy (length ids.now) agenda.old agenda.new }
 {
     for id in ids {
         agenda.push_reserved(*id);

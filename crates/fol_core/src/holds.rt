@@ -13,6 +13,7 @@ ghost use Rattle.fol_store.specs.Bag.{Bag};
 ghost use Rattle.fol_bags.specs.Clear.{HasNoTask};
 ghost use Rattle.fol_store.specs.Stock.{bag_of, jobs_of, next_of};
 ghost use Rattle.fol_laws.specs.LateBegin.{load_touches, unload_touches};
+ghost use Rattle.fol_core.specs.Agenda.{GrowsBy};
 ghost use Rattle.fol_core.specs.Ahead.{Spares};
 ghost use Rattle.fol_core.specs.Answers.{LoadRecords, UnloadRecords, load_result, unload_result};
 ghost use Rattle.fol_core.specs.Bags.{AreInOrder, CanJoin, Follow, opened_bags, unsettled_at};
@@ -91,6 +92,7 @@ fn loaded(tables: &mut Tables, c: ChunkPos) -> Loaded
     ensures tickets { (q : ChunkPos) → count_at tables.new.tickets.entries q
         ≡ tickets_after (is_full (grid_state tables.old.regions) c)
         (count_at tables.old.tickets.entries) c q }
+    ensures stack { GrowsBy 1 tables.old.agenda tables.new.agenda }
 {
     match hold(tables, c) {
         AddAnswer::Full { present, wanted } => Loaded::Full { present, wanted },
@@ -114,6 +116,7 @@ fn unloaded(tables: &mut Tables, c: ChunkPos) -> Unloaded
         then Unloaded.NoTicket else Unloaded.Lowered) }
     ensures done { Drops tables.old tables.new c
         (nat_eq (count_at tables.old.tickets.entries c) 0) }
+    ensures stack { tables.new.agenda ≡ tables.old.agenda }
 {
     if drop_hold(&mut tables.tickets, c) == 0 {
         return Unloaded::NoTicket;

@@ -11,8 +11,8 @@
 //! 3. `Core::open_phase` lets each region owe so many ticks; `Core::reserve` and then `Core::begin` give the tick of one.
 //! 4. `Core::release` takes a tick back that `fol_tick::run_tick` has run. `Core::end` does the same where the tick stands, and
 //!    `Core::begin_next` then puts the next one there.
-//! 5. `Core::prepare` gives the tick of a region before its Begin is recorded, and `Core::learn` records that Begin; in between no call may
-//!    touch the region, and `Core::touched` says what an event on a chunk may touch.
+//! 5. `Core::prepare` gives the tick of a region before its Begin is recorded; `Core::learn` records that Begin, or `Core::withdraw` takes
+//!    the tick back. In between no call may touch the region, and `Core::touched` says what an event on a chunk may touch.
 //! 6. `Core::close_phase` and `Core::finish` end a phase and the history, and `Core::closing` gives all that stands at the end.
 #![tactic(auto)]
 
@@ -35,6 +35,7 @@ mod prepared;
 mod quiet;
 mod releases;
 mod tables;
+mod undone;
 mod wishes;
 
 pub use answers::{BeginAnswer, Close, CloseFault, Finish, Next, Phase, Posting};

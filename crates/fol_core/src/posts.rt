@@ -10,6 +10,7 @@ ghost use Rattle.fol_store.specs.Bag.{Stirred};
 ghost use Rattle.fol_regions.specs.Table.{grid_state};
 ghost use Rattle.fol_store.specs.Stock.{bag_of, flat_of, jobs_of, next_of};
 ghost use Rattle.fol_laws.specs.LateBegin.{post_touches};
+ghost use Rattle.fol_core.specs.Agenda.{GrowsBy};
 ghost use Rattle.fol_core.specs.Ahead.{Spares};
 ghost use Rattle.fol_core.specs.Answers.{PostRecords, post_result, posting_of};
 ghost use Rattle.fol_core.specs.Follows.{CanHold, PostsUnless, accept_in};
@@ -82,6 +83,7 @@ pub(crate) fn posted(tables: &mut Tables, c: ChunkPos, delay: u32, action: Actio
         c }
     ensures done { PostsUnless (is_full (grid_state tables.old.regions) c) tables.old tables.new c
         delay action }
+    ensures stack { GrowsBy 1 tables.old.agenda tables.new.agenda }
 {
     match hold(tables, c) {
         AddAnswer::Full { present, wanted } => Accept::Full { present, wanted },

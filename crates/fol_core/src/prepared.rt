@@ -1,18 +1,22 @@
 //! Ticks that are made before their Begins are recorded, and what an event may touch meanwhile.
 
-ghost use Rattle.std.specs.Prelude.{◌≡◌, true, false, filter, length, IfOk, IsTrue};
+ghost use Rattle.std.specs.Prelude.{◌≡◌, ◌≤◌, true, false, [], filter, length, IfOk, IfSome, IsTrue};
 ghost use Rattle.fol_model.specs.Geometry.{is_chunk};
 ghost use Rattle.fol_model.specs.GridState.{is_ready};
 ghost use Rattle.fol_model.specs.Universe.{numbers_below};
-ghost use Rattle.fol_core.specs.Ahead.{Learns, Prepares, may_touch};
+ghost use Rattle.fol_core.specs.Ahead.{Learns, Prepares, Withdraws, may_touch};
 ghost use Rattle.fol_core.specs.Answers.{is_free, is_over};
 ghost use Rattle.fol_core.specs.Meaning.{IsReadyToBegin, is_prepared, world_of};
 ghost use Rattle.fol_core.specs.Ticks.{IsTick};
+ghost use Rattle.fol_core.specs.Undone.{IsRoomAgain};
+ghost use Rattle.fol_store.specs.Stock.{bag_of};
 
 use crate::begins::{due_room, hand_out, tick_of};
-use crate::machine::Core;
+use crate::machine::{Core, Room};
+use crate::tables::Tables;
+use crate::undone::undo;
 use fol_data::Tick;
-use fol_model::{ChunkPos, Entry, Event, State};
+use fol_model::{ChunkPos, Entry, Event, State, Task};
 use std::alloc::AllocError;
 
 impl Core {
@@ -50,6 +54,7 @@ impl Core {
         requires free { is_free self.old id ≡ true }
         requires ready { IsReadyToBegin self.old id }
         ensures tick { IsTick (world_of self.old) (length self.old.history) 0 id result }
+        ensures room { length result.due ≤ result.body.queues.spare }
         ensures prepared { Prepares self.old self.new id }
     {
         let begun = self.history.as_slice().len() as u64;
@@ -71,4 +76,37 @@ impl Core {
         let event = Event::Begin { worker, region: id };
         self.history.push_reserved(Entry { by, event });
     }
+
+    /// Takes the tick of a prepared region back, unchanged since `prepare`. The region is prepared no more, and all is as it was before
+    /// it was prepared. Returns whether the region is ready to begin again; it is not where what lies on its chunks has to be gathered
+    /// first, nor once the history is over. Takes no memory, and costs the due tasks of the tick.
+    pub fn withdraw(&mut self, tick: Tick) -> bool
+        requires prepared { is_prepared self.old tick.region ≡ true }
+        requires tick { IsTick (world_of self.old) tick.begun 0 tick.region tick }
+        requires room { length tick.due ≤ tick.body.queues.spare }
+        ensures withdrawn { Withdraws self.old self.new tick.region }
+        ensures ready { IsTrue result → IsReadyToBegin self.new tick.region }
+    {
+        let id = tick.region;
+        self.marks.remove(id);
+        let due = undo(&mut self.tables, tick);
+        self.tables.course.size -= 1;
+        self.room = room_again(&self.tables, id, due);
+        self.room.is_some()
+    }
+}
+
+/// The room for the next Begin of a region whose tick came back, with the list of its due tasks, which is empty.
+fn room_again(tables: &Tables, id: u64, due: Vec<Task>) -> Option<Room>
+    requires here { (bag_of tables.now.store id).here ≡ true }
+    requires empty { due.items ≡ [] }
+    ensures { IfSome result (IsRoomAgain tables.now id) }
+{
+    if tables.course.is_over() || !tables.store.is_whole(id) {
+        return None;
+    }
+    if tables.store.count_due(id) > due.capacity() as u64 {
+        return None;
+    }
+    Some(Room { id, due })
 }

@@ -87,7 +87,8 @@ fn grow_to_end(
     ensures entries { history.new.items ≡ history.old.items }
     ensures len { vec_len history.new ≡ vec_len history.old }
     ensures capacity { vec_capacity history.old ≤ vec_capacity history.new }
-    ensures ok { IfOk result (λ accepts. HasGrownToEnd tables.new history.new tick.new accepts early) }
+    ensures ok { IfOk result (λ accepts.
+        HasGrownToEnd tables.new history.new tick.new accepts early) }
 {
     let asked = tick.log.wishes.len();
     if asked as u64 >= WISHES
@@ -101,7 +102,9 @@ fn grow_to_end(
     tables.regions.reserve(asked as u32 + 1)?;
     grow_store(&mut tables.store, asked as u64, asked as u64 + PARTS)?;
     grow_tickets(&mut tables.tickets)?;
-    tables.agenda.reserve(asked + PARTS as usize)?;
+    tables
+        .agenda
+        .reserve(asked + PARTS as usize + early as usize)?;
     if asked > 0 {
         tick.body.chunks.reserve(asked as u64)?;
     }

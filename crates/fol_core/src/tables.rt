@@ -74,7 +74,7 @@ pub(crate) fn grow_history(
 }
 
 /// Takes the memory for an entry with one hold added, for so many tasks, for a Stop after it, and for the Begins of so many prepared
-/// regions.
+/// regions or their places in the stack.
 pub(crate) fn grow(
     tables: &mut Tables,
     history: &mut Vec<Entry>,
@@ -92,7 +92,7 @@ pub(crate) fn grow(
     tables.regions.reserve(1)?;
     tables.store.reserve(tasks, 1)?;
     tables.tickets.reserve(1)?;
-    tables.agenda.reserve(1)?;
+    tables.agenda.reserve(1 + early as usize)?;
     Ok(())
 }
 

@@ -6,6 +6,7 @@ ghost use Rattle.fol_model.specs.End.{accepted, all_accepted, answers as answers
 ghost use Rattle.fol_model.specs.Holds.{posting};
 ghost use Rattle.fol_laws.proofs.WishLimits.{WishOk};
 ghost use Rattle.fol_chunks.specs.Contents.{flat_of};
+ghost use Rattle.fol_core.specs.Agenda.{GrowsBy};
 ghost use Rattle.fol_core.specs.Returned.{StandsNowhere, returned};
 ghost use Rattle.fol_core.specs.Underway.{AreFit, IsFree, MayAccept, MayAcceptAll, Underway};
 
@@ -34,6 +35,7 @@ pub(crate) fn accept_all(
         → Underway tables.old chunks.old w since r (length wishes.items + n)
         → AreFit (w.recorded r) w wishes.items
         → answers.new.items ≡ answers.old.items ++ answers_to w wishes.items }
+    ensures stack { GrowsBy (length wishes.items) tables.old.agenda tables.new.agenda }
     ensures size { tables.new.course.size ≡ tables.old.course.size }
 {
     while let Some(wish) = wishes.pop_front() {
@@ -50,6 +52,7 @@ fn accept_one(tables: &mut Tables, chunks: &mut Chunks, wish: Wish) -> Accept
         → IsFree w wish → Underway tables.new chunks.new (accepted w wish) since r n }
     ensures answer { (w : World) (since : ℕ → ℕ) (r n : ℕ)
         → Underway tables.old chunks.old w since r (n + 1) → result ≡ posting w wish.chunk }
+    ensures stack { GrowsBy 1 tables.old.agenda tables.new.agenda }
     ensures size { tables.new.course.size ≡ tables.old.course.size }
 {
     match hold(tables, wish.chunk) {

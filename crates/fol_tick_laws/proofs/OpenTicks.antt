@@ -189,6 +189,20 @@ is_of_other w place j k r tick is =
       moved = is.moved;
     }
 
+-- the same by what the tick says itself of its place and its region
+pub by_its_own : (w : World) (place k r : ℕ) (tick : Tick) → IsTick w place k r tick → IsTick w tick.begun k tick.region tick
+by_its_own w place k r tick is = record {
+  worker = is.worker;
+  region = refl;
+  begun = refl;
+  of = is.of;
+  contents = is.contents;
+  ran = is.ran;
+  wishes = is.wishes;
+  next = is.next;
+  moved = is.moved;
+}
+
 -- where the Begin of a tick that was made before it is learnt, the tick is open
 pub learnt_opens : (made old new : Meaning) (between : List Entry) (by k r : ℕ) (tick : Tick) → IsTick (world_of made) (length made.history) 0 r tick → Allowed (world_of made) (Begin k r)
     → old.opening ≡ made.opening → old.history ≡ made.history ++ between → NoneTouches (world_of made) r between → Learns old new by k r → IsOpen new (record tick { worker = k })

@@ -3,7 +3,7 @@
 ghost use Rattle.std.specs.Prelude.{◌≡◌, ◌≢◌};
 ghost use Rattle.fol_core.specs.Ahead.{NonePrepared};
 ghost use Rattle.fol_core.specs.Answers.{Begins, end_event};
-ghost use Rattle.fol_core.specs.Meaning.{Meaning, Records, world_of};
+ghost use Rattle.fol_core.specs.Meaning.{IsReadyToBegin, Meaning, Records, world_of};
 ghost use Rattle.fol_core.specs.Ticks.{IsOut};
 ghost use Rattle.fol_tick_laws.specs.OpenTicks.{IsOpen, KeepsOpen, KeepsOthers};
 
@@ -314,7 +314,26 @@ fn touches(rt: &impl Abort, core: &Core, chunk: ChunkPos, regions: &[u64]) {
     }
 }
 
-/// Makes the tick of region 1, and then records its Begin by worker 1, to whom the tick is given.
+/// Makes the tick of region 1 and takes it back.
+fn takes_back(rt: &impl Abort, core: &mut Core)
+    requires ready { IsReadyToBegin core.old 1 }
+    requires none { NonePrepared core.old }
+    ensures opening { core.new.opening ≡ core.old.opening }
+    ensures none { NonePrepared core.new }
+    ensures ready { IsReadyToBegin core.new 1 }
+{
+    assert!(rt; !core.is_over());
+    assert!(rt; core.next_owing(1) == Some(1));
+    let early = core.prepare(1);
+    assert_eq!(rt; (early.worker, early.begun), (0, 3));
+    assert_eq!(rt; early.chunks.as_slice(), [ORIGIN].as_slice());
+    assert_eq!(rt; core.state(1), Some(State::Ready));
+    assert_eq!(rt; core.next_owing(1), Some(2));
+    touches(rt, core, BETWEEN, &[1, 2]);
+    assert!(rt; core.withdraw(early));
+}
+
+/// Makes the tick of region 1, takes it back, makes it once more, and then records its Begin by worker 1, to whom the tick is given.
 fn begins_late(rt: &impl Abort, alloc: Global, core: &mut Core) -> Tick
     requires none { NonePrepared core.old }
     ensures opened { IsOpen core.new result }
@@ -326,13 +345,12 @@ fn begins_late(rt: &impl Abort, alloc: Global, core: &mut Core) -> Tick
         Ok(()) => {}
         Err(_) => panic!(rt; "memory"),
     }
+    takes_back(rt, core);
     assert!(rt; !core.is_over());
     assert!(rt; core.next_owing(1) == Some(1));
     let mut tick = core.prepare(1);
     assert_eq!(rt; (tick.worker, tick.begun), (0, 3));
     assert_eq!(rt; tick.chunks.as_slice(), [ORIGIN].as_slice());
-    assert_eq!(rt; core.state(1), Some(State::Ready));
-    touches(rt, core, BETWEEN, &[1, 2]);
     core.learn(0, 1, 1);
     assert_eq!(rt; core.state(1), Some(State::Ticking));
     tick.worker = 1;

@@ -1,4 +1,4 @@
-use Rattle.std.proofs.Common.{◌∙◌, ap, arith}
+use Rattle.std.proofs.Common.{◌∙◌, ap, arith, vec_len, vec_capacity}
 use Rattle.fol_data.specs.declared.region_data.RegionData.{RegionData}
 use Rattle.fol_core.proofs.EndSteps as step
 use Rattle.fol_core.proofs.ends.end_tick.Goals as goal
@@ -63,6 +63,24 @@ returns-clause-event c o h s out =
     let a = ans _ _ c.args.tick.now.region 0 (step.first c.args.tables.now c.args.tick.now o h s out may.size may.memory c.drop_due.new.tables d)
     (step.fits_all c.args.tables.now c.args.tick.now o h s out) in
     rw (body, ran) (step.end_is c.args.tables.now c.args.tick.now o h s out c.args.accepts.items c.accept_all.new.answers.items c.of.result c.requires.empty a c.of.ensures)
+
+pub returns-clause-stack : goal.returns-clause-stack
+returns-clause-stack c =
+    let m = c.requires.may in
+    let e = c.from_vec-wishes.ensures.items ∙ c.into_vec.ensures ∙ c.replace-wishes.ensures.value in
+    let body = c.replace-body.ensures.value in
+    let p = c.as_slice.ensures in
+    let d = rw p at c.drop_due.ensures in
+    let acc = rw (e, body) at c.accept_all.ensures.accepted in
+    let u = acc _ _ c.args.tick.now.region 0 (step.first c.args.tables.now c.args.tick.now m.opening m.history m.stands m.at m.size m.memory c.drop_due.new.tables d)
+    (step.fits_all c.args.tables.now c.args.tick.now m.opening m.history m.stands m.at) in
+    let few = step.heirs_few c.args.tables.now c.args.tick.now m.opening m.history m.stands m.at c.accept_all.new.tables c.accept_all.new.chunks u in
+    let wished = rw e at c.accept_all.ensures.stack in
+    let ended = c.end_region.ensures.stack in
+    record {
+      len = omega (arith, few, wished.len, ended.len, ap (λ k. vec_len k) c.drop_due.ensures.agenda);
+      capacity = ended.capacity ∙ wished.capacity ∙ ap (λ k. vec_capacity k) c.drop_due.ensures.agenda;
+    }
 
 pub returns-clause-course : goal.returns-clause-course
 returns-clause-course c = ap (λ k. k.size) c.end_region.ensures.course ∙ c.accept_all.ensures.size ∙ ap (λ k. k.size) c.drop_due.ensures.course

@@ -1,4 +1,4 @@
-use Rattle.std.proofs.Common.{◌∙◌, refl}
+use Rattle.std.proofs.Common.{◌∙◌, refl, arith}
 use Rattle.fol_regions.specs.Table.{grid_state}
 use Rattle.fol_store.specs.Stock.{bag_of}
 use Rattle.fol_core.proofs.QuietBags.{owing_here, owing_some, passed_counter, passed_covers, passed_have, passed_here}
@@ -32,6 +32,7 @@ returns-clause-passed c = record {
   next = c.pass.ensures.next;
   regions = refl;
   agenda = c.tidy.ensures.agenda;
+  stack = record { len = omega (arith, c.tidy.ensures.len); capacity = c.tidy.ensures.capacity };
   grid = refl;
   tickets = refl;
   course = refl;

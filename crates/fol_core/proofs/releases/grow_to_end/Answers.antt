@@ -8,5 +8,7 @@ returns-clause-same c = record {
   store = c.grow_store.ensures.same;
   tickets = c.grow_tickets.ensures.same;
   agenda = c.reserve-3.ensures.items;
+  agenda_len = c.reserve-3.ensures.len;
+  agenda_capacity = c.reserve-3.ensures.capacity;
   course = refl;
 }

@@ -10,6 +10,8 @@ returns-clause-same c = record {
   store = record { flat = c.reserve-2.ensures.contents; jobs = c.reserve-2.ensures.tasks; bags = c.reserve-2.ensures.bags; next = c.reserve-2.ensures.next };
   tickets = λ a b. c.reserve-3.ensures.entries.2 (a, b);
   agenda = c.reserve-4.ensures.items;
+  agenda_len = c.reserve-4.ensures.len;
+  agenda_capacity = c.reserve-4.ensures.capacity;
   course = refl;
 }
 
@@ -21,5 +23,7 @@ returns-in_err-reserve-4-clause-same c = record {
   store = record { flat = c.reserve-2.ensures.contents; jobs = c.reserve-2.ensures.tasks; bags = c.reserve-2.ensures.bags; next = c.reserve-2.ensures.next };
   tickets = λ a b. c.reserve-3.ensures.entries.2 (a, b);
   agenda = c.reserve-4.ensures.items;
+  agenda_len = c.reserve-4.ensures.len;
+  agenda_capacity = c.reserve-4.ensures.capacity;
   course = refl;
 }

@@ -20,6 +20,8 @@ loop-wish-preserved c =
     record {
       may = rest_may t v x xs c.accept_one-answer.new.tables c.accept_one-answer.new.chunks one.accepted (rw popped.items at m);
       room = omega (arith, inv.room, popped.len, c.push_reserved.ensures.len, c.push_reserved.ensures.capacity);
+      places = omega (arith, rw popped.items at inv.places, one.stack.len);
+      capacity = one.stack.capacity ∙ inv.capacity;
       size = one.size ∙ inv.size;
       accepted = λ w since r n u fit.
           let k = rw popped.items at (inv.accepted w since r n u fit) in (
@@ -37,6 +39,11 @@ returns-clause-accepted c w since r n u fit =
     let none = none_left c.loop-wish.wishes.items _ (sym c.loop-wish.wishes.ok.0) c.in_default.ensures.variant.1 in
     let k = c.loop-wish.invariant.accepted w since r n u fit in
     all_done c.loop-wish.tables c.loop-wish.chunks w c.args.wishes.items since r n c.args.answers.now.items c.loop-wish.answers.items c.loop-wish.wishes.items none k.0 k.1 k.3
+
+pub returns-clause-stack : goal.returns-clause-stack
+returns-clause-stack c =
+    let inv = c.loop-wish.invariant in
+    record { len = omega (arith, inv.places); capacity = inv.capacity }
 
 pub returns-clause-answers : goal.returns-clause-answers
 returns-clause-answers c w since r n u fit =

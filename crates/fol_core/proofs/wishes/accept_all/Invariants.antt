@@ -9,6 +9,8 @@ abbrev pub invariant-loop-wish : goal.invariant-loop-wish
 invariant-loop-wish l = record {
   may : MayAcceptAll l.tables l.chunks l.wishes.items;
   room : vec_len l.answers + deque_len l.wishes ≤ vec_capacity l.answers;
+  places : vec_len l.tables.agenda + length l.wishes.items ≤ vec_len l.initial.tables.agenda + length l.initial.wishes.items;
+  capacity : vec_capacity l.tables.agenda ≡ vec_capacity l.initial.tables.agenda;
   size : l.tables.course.size ≡ l.initial.tables.course.size;
   accepted : (w : World) (since : ℕ → ℕ) (r n : ℕ) → Underway l.initial.tables l.initial.chunks w since r (length l.initial.wishes.items + n) → AreFit (w.recorded r) w l.initial.wishes.items
       → (m : World) × Underway l.tables l.chunks m since r (length l.wishes.items + n) × AreFit (m.recorded r) m l.wishes.items

@@ -33,5 +33,6 @@ returns-in-Counted c = record {
   answer = λ w since r n u.
       let f = full_not c.args.tables.now c.args.chunks.now w since r n u c.args.wish c.hold.result c.hold.ensures.answer (other_answer c.hold.result c.in-Counted.is) in
       ap accept.Posted (c.queue.ensures.number ∙ ap (λ k. k.next_job) c.hold.ensures.held.course ∙ u.midway.course.next_job) ∙ sym f.1;
+  stack = rw c.queue.ensures.queued.agenda c.hold.ensures.left.agenda;
   size = ap (λ k. k.size) c.queue.ensures.queued.course ∙ ap (λ k. k.size) c.hold.ensures.held.course;
 }

@@ -8,12 +8,15 @@ use Rattle.fol_tick_laws.proofs.OpenTicks.{learnt_opens, may_begin}
 use Rattle.fol_tick_laws.proofs.Unprepared.{none_learnt, still_none}
 use Rattle.fol_tick_laws.proofs.tests.begins_late.Goals as goal
 
+pub takes_back-requires-clause-none : goal.takes_back-requires-clause-none
+takes_back-requires-clause-none g c = still_none c.args.core.now c.reserve.new.self c.in-Ok.ensures.same.prepared c.requires.none
+
 pub learn-requires-clause-prepared : goal.learn-requires-clause-prepared
-learn-requires-clause-prepared g c = ap (λ (p : ℕ → Bool). p 1) c.prepare-tick.ensures.prepared.prepared ∙ at_here (is_prepared c.reserve.new.self) 1 _
+learn-requires-clause-prepared g c = ap (λ (p : ℕ → Bool). p 1) c.prepare-tick.ensures.prepared.prepared ∙ at_here (is_prepared c.takes_back.new.core) 1 _
 
 pub returns-clause-opened : goal.returns-clause-opened
 returns-clause-opened g c =
-    let m : Meaning = c.reserve.new.self in
+    let m : Meaning = c.takes_back.new.core in
     let n : Meaning = c.prepare-tick.new.self in
     let on : is_over (world_of m) ≡ false = search rules in
     let free : is_free m 1 ≡ true = search rules in
@@ -22,4 +25,4 @@ returns-clause-opened g c =
 
 pub returns-clause-none : goal.returns-clause-none
 returns-clause-none g c =
-    none_learnt c.reserve.new.self c.prepare-tick.new.self c.learn.new.self 1 (still_none c.args.core.now c.reserve.new.self c.in-Ok.ensures.same.prepared c.requires.none) c.prepare-tick.ensures.prepared.prepared c.learn.ensures.prepared
+    none_learnt c.takes_back.new.core c.prepare-tick.new.self c.learn.new.self 1 c.takes_back.ensures.none c.prepare-tick.ensures.prepared.prepared c.learn.ensures.prepared

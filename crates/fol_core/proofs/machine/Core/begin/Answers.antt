@@ -45,6 +45,7 @@ invariant_of-self c =
           out.others.0 out.others.1 out.others.2 c.record.ensures.size)),
       rw c.take.ensures.after tt,
       room_left c.record.new.course _ _ _ _ _ _ refl room.history c.record.ensures.len c.record.ensures.capacity,
+      omega (arith, c.self.invariant.3, out.len, out.capacity),
     )
 
 pub returns : goal.returns

@@ -68,6 +68,7 @@ invariant_of-self-2 c =
           out.others.0 out.others.1 out.others.2 c.record.ensures.size)),
       tt,
       room_left c.record.new.course _ _ _ _ _ _ c.count.ensures.count grown.room c.record.ensures.len c.record.ensures.capacity,
+      omega (arith, c.self.invariant.3, out.len, out.capacity),
     )
 
 pub returns-clause-begun : goal.returns-clause-begun
@@ -110,6 +111,7 @@ invariant_of-self c = (
   rw c.in_err-grow_history.ensures.entries c.self.invariant.0,
   tt,
   same_room c.self.inside.tables.course _ _ _ _ _ _ refl c.in_err-grow_history.ensures.len c.in_err-grow_history.ensures.capacity c.self.invariant.2,
+  c.self.invariant.3,
 )
 
 pub invariant_of-self-in_err-room : goal.invariant_of-self-in_err-room
@@ -118,4 +120,5 @@ invariant_of-self-in_err-room c = (
       (gathered_ahead _ _ _ _ c.self.invariant.0 c.owed_list.new.store c.in_err-room.ensures.things c.in_err-room.ensures.next c.in_err-room.ensures.bags),
   tt,
   λ on. omega (arith, c.in_ok-grow_history.ensures.room, c.count.ensures.count),
+  c.self.invariant.3,
 )

@@ -21,6 +21,7 @@ invariant_of-self-2 c =
           (sym c.is_over.ensures ∙ c.if-is_over.false) c.if-not-self.false calm c.args.by c.record.new.course c.record.ensures.size c.in_ok-grow_history.ensures.size)),
       tt,
       room_left c.record.new.course _ _ _ _ _ _ c.count.ensures.count c.in_ok-grow_history.ensures.room c.record.ensures.len c.record.ensures.capacity,
+      c.self.invariant.3,
     )
 
 pub returns-clause-answer : goal.returns-clause-answer
@@ -39,4 +40,5 @@ invariant_of-self c = (
   rw c.in_err-grow_history.ensures.entries c.self.invariant.0,
   tt,
   same_room c.self.inside.tables.course _ _ _ _ _ _ refl c.in_err-grow_history.ensures.len c.in_err-grow_history.ensures.capacity c.self.invariant.2,
+  c.self.invariant.3,
 )

@@ -1,4 +1,4 @@
-use Rattle.std.proofs.Common.{◌≡◌, ℕ, ◌+◌, sym, refl, ◌∙◌, true, false}
+use Rattle.std.proofs.Common.{◌≡◌, ℕ, ◌+◌, sym, refl, ◌∙◌, true, false, length}
 use Rattle.fol_model.specs.End.{run_down}
 use Rattle.fol_model.specs.Run.{world}
 use Rattle.fol_laws.specs.LateBegin.{wishes_touch}
@@ -12,7 +12,7 @@ use Rattle.fol_core.proofs.EndFacts.{at_end, worker_at}
 use Rattle.fol_core.proofs.FinishedRuns.{not_finished}
 use Rattle.fol_core.proofs.OutAtBegin.{out_at_begin}
 use Rattle.fol_core.proofs.ReleaseKept.{out_same, release_kept}
-use Rattle.fol_core.proofs.Rooms.{room_left, same_room}
+use Rattle.fol_core.proofs.Rooms.{places_left, room_left, same_places, same_room}
 use Rattle.fol_core.proofs.machine.Core.end.Goals as goal
 
 sized : (a b : Course) (n : ℕ) {m : ℕ} → b ≡ record a { size = a.size + 1 } → n ≡ m → record b { size = b.size + n } ≡ record a { size = a.size + 1 + m }
@@ -23,6 +23,7 @@ invariant_of-self c = (
   rw c.in-Err.ensures.entries (same_ahead _ _ _ _ c.self.invariant.0 _ c.in-Err.ensures.same),
   tt,
   same_room _ _ _ _ _ _ _ c.in-Err.ensures.same.course c.in-Err.ensures.len c.in-Err.ensures.capacity c.self.invariant.2,
+  same_places _ _ _ c.in-Err.ensures.same c.self.invariant.3,
 )
 
 pub end_tick-event-requires-clause-may : goal.end_tick-event-requires-clause-may
@@ -64,6 +65,7 @@ invariant_of-self-in-Ok c =
       rw (c.record.ensures.entries, c.in-Ok.ensures.entries, event) all,
       tt,
       room_left (record c.record.new.course { size = c.record.new.course.size + c.len-asked.result }) _ _ _ _ _ _ c.count-early.ensures.count c.in-Ok.ensures.ok.history c.record.ensures.len c.record.ensures.capacity,
+      places_left (length tick.log.wishes + 1820) _ _ _ _ c.count-early.ensures.count c.in-Ok.ensures.ok.places c.end_tick-event.ensures.stack,
     )
 
 pub returns-in-Ok-clause-recorded : goal.returns-in-Ok-clause-recorded

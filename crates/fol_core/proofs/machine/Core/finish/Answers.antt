@@ -11,6 +11,7 @@ invariant_of-self c =
           (finish_kept _ _ _ (none_stands _ _ _ _ c.self.invariant.0 none) (sym c.is_over.ensures ∙ c.if-is_over.false) c.args.by c.record.new.course c.record.ensures.size c.if-self.false c.if-self-ge-MOST.false)),
       tt,
       λ e. absurd (cc),
+      c.self.invariant.3,
     )
 
 pub returns-then-is_over-clause-answer : goal.returns-then-is_over-clause-answer

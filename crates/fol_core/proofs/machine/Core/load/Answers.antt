@@ -5,7 +5,7 @@ use Rattle.fol_core.proofs.Ahead.{event_ahead, finished_is, same_ahead}
 use Rattle.fol_core.proofs.AheadAnswers.{load_now, load_over, load_told}
 use Rattle.fol_core.proofs.Held.{can_hold}
 use Rattle.fol_core.proofs.LoadKept.{load_kept}
-use Rattle.fol_core.proofs.Rooms.{room_left, same_room}
+use Rattle.fol_core.proofs.Rooms.{places_left, room_left, same_places, same_room}
 use Rattle.fol_core.proofs.machine.Core.load.Goals as goal
 
 pub invariant_of-self : goal.invariant_of-self
@@ -13,6 +13,7 @@ invariant_of-self c = (
   rw c.in_err-grow.ensures.entries (same_ahead _ _ _ _ c.self.invariant.0 _ c.in_err-grow.ensures.same),
   tt,
   same_room _ _ _ _ _ _ _ c.in_err-grow.ensures.same.course c.in_err-grow.ensures.len c.in_err-grow.ensures.capacity c.self.invariant.2,
+  same_places _ _ _ c.in_err-grow.ensures.same c.self.invariant.3,
 )
 
 pub loaded-answer-requires : goal.loaded-answer-requires
@@ -31,6 +32,7 @@ invariant_of-self-2 c =
           c.loaded-answer.ensures.held c.loaded-answer.ensures.tickets c.loaded-answer.ensures.answer c.record.ensures.size off c.in_ok-grow.ensures.ok.size)),
       tt,
       room_left c.record.new.course _ _ _ _ _ _ c.count.ensures.count c.in_ok-grow.ensures.ok.history c.record.ensures.len c.record.ensures.capacity,
+      places_left 1 _ _ _ _ c.count.ensures.count c.in_ok-grow.ensures.ok.agenda c.loaded-answer.ensures.stack,
     )
 
 pub returns-then-self-clause-answer : goal.returns-then-self-clause-answer

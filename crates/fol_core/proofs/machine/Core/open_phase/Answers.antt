@@ -2,6 +2,7 @@ use Rattle.std.proofs.Common.{ap, refl, sym, ◌∙◌, arith}
 use Rattle.fol_core.specs.declared.tables.Course.{Course}
 use Rattle.fol_core.proofs.Ahead.{sum_is}
 use Rattle.fol_core.proofs.AheadAnswers.{none_outside, none_stands, phase_in_phase, phase_outside, phase_over, stands_none}
+use Rattle.fol_core.proofs.MarkCounts.{count_off}
 use Rattle.fol_core.proofs.PhaseKept.{all_here, opened_kept}
 use Rattle.fol_core.proofs.Rooms.{room_left, same_room}
 use Rattle.fol_core.proofs.machine.Core.open_phase.Goals as goal
@@ -21,6 +22,7 @@ invariant_of-self-2 c =
           c.set_owed.ensures.things c.set_owed.ensures.next c.record.new.course c.record.ensures.size)),
       tt,
       room_left c.record.new.course _ _ _ _ _ _ c.count.ensures.count c.in_ok-grow_history.ensures.room c.record.ensures.len c.record.ensures.capacity,
+      omega (arith, c.in_ok-live.live.ok, count_off c.self.inside.marks none),
     )
 
 pub returns-then-is_over-clause-answer : goal.returns-then-is_over-clause-answer
@@ -34,6 +36,7 @@ invariant_of-self c = (
   rw c.in_err-grow_history.ensures.entries c.self.invariant.0,
   tt,
   same_room c.self.inside.tables.course _ _ _ _ _ _ refl c.in_err-grow_history.ensures.len c.in_err-grow_history.ensures.capacity c.self.invariant.2,
+  c.self.invariant.3,
 )
 
 pub overflow_add-self : goal.overflow_add-self

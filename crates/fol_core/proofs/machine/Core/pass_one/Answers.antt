@@ -1,4 +1,4 @@
-use Rattle.std.proofs.Common.{refl, ◌∙◌, sym}
+use Rattle.std.proofs.Common.{refl, ◌∙◌, sym, arith}
 use Rattle.fol_regions.specs.Table.{grid_state}
 use Rattle.fol_core.specs.Quiet.{IsQuiet}
 use Rattle.fol_core.proofs.AheadQuiet.{quiet_ahead, quiet_history, quiet_then}
@@ -23,6 +23,7 @@ invariant_of-self-in-Err c = (
   rw c.in-Err.ensures.entries c.self.invariant.0,
   tt,
   same_room c.self.inside.tables.course _ _ _ _ _ _ refl c.in-Err.ensures.len c.in-Err.ensures.capacity c.self.invariant.2,
+  c.self.invariant.3,
 )
 
 pub invariant_of-self-2 : goal.invariant_of-self-2
@@ -33,6 +34,7 @@ invariant_of-self-2 c = (
       c.record.new.course c.record-2.new.course c.record.ensures.size c.record-2.ensures.size),
   tt,
   room_left_by_two c.record-2.new.course _ _ _ _ _ _ _ _ c.count.ensures.count c.in-Ok.ensures.room c.record.ensures.len c.record.ensures.capacity c.record-2.ensures.len c.record-2.ensures.capacity,
+  omega (arith, c.self.invariant.3, c.pass_tick-tick.ensures.passed.stack.len, c.pass_tick-tick.ensures.passed.stack.capacity),
 )
 
 pub returns-clause-one : goal.returns-clause-one

@@ -5,7 +5,7 @@ use Rattle.fol_core.proofs.Ahead.{event_ahead, finished_is, same_ahead}
 use Rattle.fol_core.proofs.AheadAnswers.{post_now, post_over, posting_same}
 use Rattle.fol_core.proofs.Held.{can_hold, few_jobs}
 use Rattle.fol_core.proofs.PostKept.{accept_same, fresh_number, post_kept}
-use Rattle.fol_core.proofs.Rooms.{room_left, same_room}
+use Rattle.fol_core.proofs.Rooms.{places_left, room_left, same_places, same_room}
 use Rattle.fol_core.proofs.machine.Core.post.Goals as goal
 
 pub invariant_of-self : goal.invariant_of-self
@@ -13,6 +13,7 @@ invariant_of-self c = (
   rw c.in-Err.ensures.entries (same_ahead _ _ _ _ c.self.invariant.0 _ c.in-Err.ensures.same),
   tt,
   same_room _ _ _ _ _ _ _ c.in-Err.ensures.same.course c.in-Err.ensures.len c.in-Err.ensures.capacity c.self.invariant.2,
+  same_places _ _ _ c.in-Err.ensures.same c.self.invariant.3,
 )
 
 pub invariant_of-self-in-Err-copy : goal.invariant_of-self-in-Err-copy
@@ -20,6 +21,7 @@ invariant_of-self-in-Err-copy c = (
   rw c.in-Ok.ensures.entries (same_ahead _ _ _ _ c.self.invariant.0 _ c.in-Ok.ensures.same),
   tt,
   same_room _ _ _ _ _ _ _ c.in-Ok.ensures.same.course c.in-Ok.ensures.len c.in-Ok.ensures.capacity c.self.invariant.2,
+  same_places _ _ _ c.in-Ok.ensures.same c.self.invariant.3,
 )
 
 pub posted-answer-requires-clause-can : goal.posted-answer-requires-clause-can
@@ -54,6 +56,7 @@ invariant_of-self-2 c =
           (rw c.in-Ok-copy.ensures at c.posted-answer.ensures.done))),
       tt,
       room_left c.record.new.course _ _ _ _ _ _ c.count.ensures.count c.in-Ok.ensures.ok.history c.record.ensures.len c.record.ensures.capacity,
+      places_left 1 _ _ _ _ c.count.ensures.count c.in-Ok.ensures.ok.agenda c.posted-answer.ensures.stack,
     )
 
 pub returns-then-self-clause-answer : goal.returns-then-self-clause-answer

@@ -8,6 +8,7 @@ use Rattle.fol_core.proofs.AheadBegins.{not_prepared, owing_now, tick_now}
 use Rattle.fol_core.proofs.BeginKept.{room_due, room_for, room_whole, tidy_bags, tidy_covers}
 use Rattle.fol_core.proofs.BeginTick.{begin_stands, tick_is}
 use Rattle.fol_core.proofs.GatheredBags.{ready_here}
+use Rattle.fol_core.proofs.Rooms.{place_taken}
 use Rattle.fol_core.proofs.machine.Core.prepare.Goals as goal
 
 pub hand_out-taken-requires-clause-owing : goal.hand_out-taken-requires-clause-owing
@@ -55,6 +56,7 @@ invariant_of-self c =
           out.others.0 out.others.1 out.others.2 refl),
       rw c.take.ensures.after tt,
       λ x. omega (arith, room.history, c.add.ensures.count),
+      place_taken c.self.inside.tables.agenda c.hand_out-taken.new.tables.agenda c.args.id _ _ c.self.invariant.3 room.place out.len out.capacity out.top c.add.ensures.count,
     )
 
 pub returns-clause-tick : goal.returns-clause-tick

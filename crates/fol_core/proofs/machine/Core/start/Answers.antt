@@ -8,4 +8,4 @@ pub invariant_of-result : goal.invariant_of-result
 invariant_of-result c =
     let marks = c.new.ensures in
     rw (c.in-Ok.ensures.entries, c.new-history.ensures.items, marks)
-    (stands_none _ _ _ mark_none _ (first_stands c.args.opening c.in-Ok.tables c.in-Ok.ensures.first), tt, λ e. omega (arith, c.in-Ok.ensures.room, count_none))
+    (stands_none _ _ _ mark_none _ (first_stands c.args.opening c.in-Ok.tables c.in-Ok.ensures.first), tt, λ e. omega (arith, c.in-Ok.ensures.room, count_none), omega (arith, c.in-Ok.tables.agenda.ok, count_none))

@@ -17,6 +17,7 @@ invariant_of-self c =
           (stop_kept _ _ _ s.stands on c.args.caller c.args.caller c.record.new.course c.record.ensures.size)),
       tt,
       λ e. absurd (true≢false (sym (or_right c.record.new.course.finished true refl) ∙ e)),
+      c.self.invariant.3,
     )
 
 pub returns-then-not-is_over : goal.returns-then-not-is_over

@@ -3,7 +3,7 @@ use Rattle.fol_model.specs.declared.events.Event.TheVariants.{Unload}
 use Rattle.fol_core.specs.declared.tables.Course.{Course}
 use Rattle.fol_core.proofs.Ahead.{event_ahead, finished_is, same_ahead}
 use Rattle.fol_core.proofs.AheadAnswers.{unload_over, unload_result_same, unload_same}
-use Rattle.fol_core.proofs.Rooms.{room_left, same_room}
+use Rattle.fol_core.proofs.Rooms.{room_left, same_places, same_room}
 use Rattle.fol_core.proofs.UnloadKept.{owner_drops, owner_known, owner_loses, unload_answers, unload_kept, unload_told}
 use Rattle.fol_core.proofs.machine.Core.unload.Goals as goal
 
@@ -12,6 +12,7 @@ invariant_of-self c = (
   rw c.in_err-grow.ensures.entries (same_ahead _ _ _ _ c.self.invariant.0 _ c.in_err-grow.ensures.same),
   tt,
   same_room _ _ _ _ _ _ _ c.in_err-grow.ensures.same.course c.in_err-grow.ensures.len c.in_err-grow.ensures.capacity c.self.invariant.2,
+  same_places _ _ _ c.in_err-grow.ensures.same c.self.invariant.3,
 )
 
 pub unloaded-answer-requires : goal.unloaded-answer-requires
@@ -34,6 +35,7 @@ invariant_of-self-2 c =
           c.requires.in_range c.unloaded-answer.ensures.done c.unloaded-answer.ensures.answer c.record.ensures.size off c.in_ok-grow.ensures.ok.size)),
       tt,
       room_left c.record.new.course _ _ _ _ _ _ c.count.ensures.count c.in_ok-grow.ensures.ok.history c.record.ensures.len c.record.ensures.capacity,
+      rw c.unloaded-answer.ensures.stack (same_places _ _ _ c.in_ok-grow.ensures.same c.self.invariant.3),
     )
 
 pub returns-then-self-clause-answer : goal.returns-then-self-clause-answer
