@@ -11,4 +11,4 @@ invariant_of-self c =
     let m : Meaning = c.deref_mut-core.result.now in
     let n : Meaning = c.stop.new.self in
     let none : NonePrepared m = rw c.deref_mut-core.ensures.value c.self.invariant.1 in
-    (grind (arith, common_steps), still_none m n (grew_stop m n c.args.by _ c.stop.ensures).prepared none)
+    (grind (arith, common_steps), still_none m n (grew_stop m n _ _ c.stop.ensures).prepared none)
