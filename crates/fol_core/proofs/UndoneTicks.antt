@@ -43,6 +43,7 @@ use Rattle.fol_regions.specs.Answers.{unbegun}
 use Rattle.fol_regions.specs.Table.{grid_state}
 use Rattle.fol_store.specs.Bag.{Bag}
 use Rattle.fol_store.specs.Stock.{bag_of, flat_of, jobs_of}
+use Rattle.fol_core.specs.declared.machine.Room.{Room}
 use Rattle.fol_core.specs.declared.tables.Course.{Course}
 use Rattle.fol_core.specs.declared.tables.Tables.{Tables}
 use Rattle.fol_core.specs.Agenda.{Covers, HaveBags, owes}
@@ -50,9 +51,8 @@ use Rattle.fol_core.specs.Ahead.{AheadRun, AreAmong, StandsAhead}
 use Rattle.fol_core.specs.Bags.{AreBut, IsBagOf, KeepsUp}
 use Rattle.fol_core.specs.CatchingUp.{AreHeld}
 use Rattle.fol_core.specs.Hands.{at_rest, in_hands, owner_of, since, went}
-use Rattle.fol_core.specs.declared.machine.Room.{Room}
-use Rattle.fol_core.specs.Room.{EntryRoom, HasRoom, room_of}
 use Rattle.fol_core.specs.Released.{CanComeBack, IsReturned}
+use Rattle.fol_core.specs.Room.{EntryRoom, HasRoom, room_of}
 use Rattle.fol_core.specs.Stands.{Fits, IsCourse, Stands}
 use Rattle.fol_core.specs.Ticks.{IsTick}
 use Rattle.fol_core.specs.Undone.{AreNew, IsRoomAgain, Undoes, rests_again}

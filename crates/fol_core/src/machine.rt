@@ -40,7 +40,7 @@ pub(crate) struct Room {
 /// A world and its history, which is a run of its opening.
 ///
 /// The history grows by one entry at each call that records one; it is never changed otherwise. A region is prepared from `prepare` to
-/// `learn`: its tick is out, and no Begin of it is recorded. In the tables it ticks already.
+/// `learn` or `withdraw`: its tick is out, and no Begin of it is recorded. In the tables it ticks already.
 #[derive(Drop)]
 pub struct Core {
     pub(crate) opening: Opening,

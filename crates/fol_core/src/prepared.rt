@@ -4,12 +4,12 @@ ghost use Rattle.std.specs.Prelude.{◌≡◌, ◌≤◌, true, false, [], filte
 ghost use Rattle.fol_model.specs.Geometry.{is_chunk};
 ghost use Rattle.fol_model.specs.GridState.{is_ready};
 ghost use Rattle.fol_model.specs.Universe.{numbers_below};
+ghost use Rattle.fol_store.specs.Stock.{bag_of};
 ghost use Rattle.fol_core.specs.Ahead.{Learns, Prepares, Withdraws, may_touch};
 ghost use Rattle.fol_core.specs.Answers.{is_free, is_over};
 ghost use Rattle.fol_core.specs.Meaning.{IsReadyToBegin, is_prepared, world_of};
 ghost use Rattle.fol_core.specs.Ticks.{IsTick};
 ghost use Rattle.fol_core.specs.Undone.{IsRoomAgain};
-ghost use Rattle.fol_store.specs.Stock.{bag_of};
 
 use crate::begins::{due_room, hand_out, tick_of};
 use crate::machine::{Core, Room};
@@ -47,8 +47,8 @@ impl Core {
     }
 
     /// Makes the tick of a Ready region that owes one, before its Begin is recorded: that of a Begin at this place, by worker 0. Nothing is
-    /// recorded. The region is prepared until `learn` records its Begin, and till then no call may touch it. It has to be ready to
-    /// begin, by `reserve`. Takes no memory.
+    /// recorded. The region is prepared until `learn` records its Begin or `withdraw` takes the tick back, and till then no other call
+    /// may touch it. It has to be ready to begin, by `reserve`. Takes no memory.
     pub fn prepare(&mut self, id: u64) -> Tick
         requires on { is_over (world_of self.old) ≡ false }
         requires free { is_free self.old id ≡ true }
