@@ -55,6 +55,15 @@ impl Blocks {
         self.len == 0
     }
 
+    /// How many more blocks there is room for.
+    pub fn spare(&self) -> usize
+        requires { IsKept self.now }
+        ensures { result ≡ room_of self.now }
+    {
+        let fresh = self.fresh.capacity() - self.fresh.len();
+        fresh.min(MOST_BLOCKS - self.len)
+    }
+
     /// Makes `spare` at least `n`. The blocks stay either way.
     pub fn reserve(&mut self, n: usize) -> Result<(), AllocError>
         requires { IsKept self.old }

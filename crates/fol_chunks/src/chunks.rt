@@ -66,6 +66,16 @@ impl Chunks {
         }
     }
 
+    /// How many more blocks or entities there is room for.
+    pub fn spare(&self) -> u64
+        ensures { result ≡ self.now.spare }
+    {
+        match &self.held {
+            Some(held) => held.spare(),
+            None => 0,
+        }
+    }
+
     /// Makes `spare` at least `n`. The contents stay either way.
     pub fn reserve(&mut self, n: u64) -> Result<(), AllocError>
         ensures same { flat_of self.new ≡ flat_of self.old }

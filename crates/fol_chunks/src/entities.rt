@@ -68,6 +68,15 @@ impl Entities {
         self.walking.is_empty()
     }
 
+    /// How many more entities there is room for.
+    pub fn spare(&self) -> usize
+        ensures { result ≡ self.now.spare }
+    {
+        let walking = self.walking.capacity() - self.walking.len();
+        let still = self.still.capacity() - self.still.len();
+        walking.min(still)
+    }
+
     /// Makes `spare` at least `n`, in both lists, since an entity may have a speed or none. The entities stay either way.
     pub fn reserve(&mut self, n: usize) -> Result<(), AllocError>
         ensures same { self.new.members ≡ self.old.members }

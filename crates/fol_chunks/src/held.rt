@@ -67,6 +67,15 @@ impl Held {
         self.entities.is_still()
     }
 
+    /// How many more blocks or entities there is room for.
+    pub fn spare(&self) -> u64
+        ensures { result ≡ self.now.spare }
+    {
+        let blocks = self.blocks.spare();
+        let entities = self.entities.spare();
+        blocks.min(entities) as u64
+    }
+
     /// Makes `spare` at least `n`. The contents stay either way.
     pub fn reserve(&mut self, n: u64) -> Result<(), AllocError>
         ensures same { flat_of self.new ≡ flat_of self.old }

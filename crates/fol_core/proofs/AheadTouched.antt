@@ -1,8 +1,7 @@
 -- Which regions an event may touch, and which of them are Ready, as the tables tell it while regions are prepared.
-use Rattle.std.proofs.Common.{◌≡◌, ◌≢◌, ℕ, ◌<◌, refl, sym, ◌∙◌, ap, Bool, true, false, inl, inr, ◌&&◌, ◌||◌, List}
-use Rattle.std.specs.Prelude.{nat_lt, if◌then◌else◌, filter, Option, Some, None}
+use Rattle.std.proofs.Common.{◌≡◌, ◌≢◌, ℕ, refl, sym, ◌∙◌, ap, Bool, true, false, inl, inr, ◌&&◌, List}
+use Rattle.std.specs.Prelude.{nat_lt, filter, Option, Some, None}
 use Rattle.std.proofs.lemmas.Bool.{cases_Bool, and_from, false_from_ne_true, lt-ltb, true≢false}
-use Rattle.std.proofs.lemmas.Option.{same_Some}
 use Rattle.fol_model.specs.declared.events.Entry.{Entry}
 use Rattle.fol_model.specs.declared.openings.Opening.{Opening}
 use Rattle.fol_model.specs.declared.places.ChunkPos.{ChunkPos}

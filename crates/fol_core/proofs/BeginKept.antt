@@ -1,6 +1,6 @@
 -- What the tables stand for after a Begin, and what its tick is.
 use Rattle.std.proofs.Common.{◌≡◌, ◌≢◌, ℕ, ◌+◌, ◌-◌, ◌≤◌, ◌<◌, ◌^◌, refl, sym, ◌∙◌, ap, subst, arith, true, false, inl, inr, not, ◌&&◌, ◌||◌, List, filter}
-use Rattle.std.specs.Prelude.{nat_eq, nat_lt, IfSome, Option, Some, None}
+use Rattle.std.specs.Prelude.{nat_eq, nat_lt, Option, Some, None}
 use Rattle.std.proofs.Math.Path.{fun_ext}
 use Rattle.std.proofs.lemmas.Bool.{cases_Bool, cases_eq, and_parts, ne_eqb, lt-ltb, true≢false}
 use Rattle.fol_model.specs.declared.regions.State.TheVariants.{Ready}
@@ -36,7 +36,9 @@ use Rattle.fol_core.specs.Bags.{AreBut, IsBagOf}
 use Rattle.fol_core.specs.Begun.{due_task, left_job}
 use Rattle.fol_core.specs.Hands.{at_rest, in_hands, since}
 use Rattle.fol_core.specs.declared.machine.Room.{Room}
-use Rattle.fol_core.specs.Room.{HasPlace, HasRoom, room_of}
+use Rattle.fol_core.specs.declared.machine.Room.TheVariants.{Begin, End}
+use Rattle.fol_core.specs.Meaning.{ForBegin}
+use Rattle.fol_core.specs.Room.{HasPlace, HasRoom, IsDueList, room_of}
 use Rattle.fol_regions.specs.Answers.{state_answer}
 use Rattle.std.specs.Global.{Vec}
 use Rattle.std.specs.Prelude.{vec_len, vec_capacity}
@@ -207,25 +209,31 @@ pub record RoomFor (t : Tables) (v : Vec Entry) (id early marks : ℕ) : Type 0 
   pub place : HasPlace t.agenda id early
   pub settled : owes (grid_state t.regions) (bag_of t.store) id ≡ true → (bag_of t.store id).listed ≡ true
 
-pub room_for : (room : Option Room) (t : Tables) (v : Vec Entry) (id early marks : ℕ) → HasRoom room t v early marks → room_of room ≡ Some id → RoomFor t v id early marks
+same_begin : (a b : ℕ) → ForBegin a ≡ ForBegin b → a ≡ b
+same_begin a b e = cc
+
+pub room_for : (room : Option Room) (t : Tables) (v : Vec Entry) (id early marks : ℕ) → HasRoom room t v early marks → room_of room ≡ ForBegin id → RoomFor t v id early marks
 room_for None t v id early marks r e = absurd (cc)
-room_for (Some room) t v id early marks r e = record {
+room_for (Some (End wishes accepts)) t v id early marks r e = absurd (cc)
+room_for (Some (Begin own due)) t v id early marks r e = record {
   size = r.size;
   history = r.history;
-  mark = let P : ℕ → Type 0 = λ n. n < marks in subst P (same_Some room.id id e) r.mark;
-  place = let P : ℕ → Type 0 = λ n. HasPlace t.agenda n early in subst P (same_Some room.id id e) r.place;
+  mark = let P : ℕ → Type 0 = λ n. n < marks in subst P (same_begin own id e) r.mark;
+  place = let P : ℕ → Type 0 = λ n. HasPlace t.agenda n early in subst P (same_begin own id e) r.place;
   settled = let P : ℕ → Type 0 = λ n. owes (grid_state t.regions) (bag_of t.store) n ≡ true → is_whole (bag_of t.store n) ≡ true in
-      λ o. (and_parts (bag_of t.store id).listed (bag_of t.store id).calm (subst P (same_Some room.id id e) r.whole o)).0;
+      λ o. (and_parts (bag_of t.store id).listed (bag_of t.store id).calm (subst P (same_begin own id e) r.whole o)).0;
 }
 
 -- with it the bag of the region is whole, where the region owes a tick
-pub room_whole : (room : Option Room) (t : Tables) (v : Vec Entry) (id early marks : ℕ) → HasRoom room t v early marks → room_of room ≡ Some id → owes (grid_state t.regions) (bag_of t.store) id ≡ true → is_whole (bag_of t.store id) ≡ true
+pub room_whole : (room : Option Room) (t : Tables) (v : Vec Entry) (id early marks : ℕ) → HasRoom room t v early marks → room_of room ≡ ForBegin id → owes (grid_state t.regions) (bag_of t.store) id ≡ true → is_whole (bag_of t.store id) ≡ true
 room_whole None t v id early marks r e o = absurd (cc)
-room_whole (Some room) t v id early marks r e o = let P : ℕ → Type 0 = λ n. owes (grid_state t.regions) (bag_of t.store) n ≡ true → is_whole (bag_of t.store n) ≡ true in subst P (same_Some room.id id e) r.whole o
+room_whole (Some (End wishes accepts)) t v id early marks r e o = absurd (cc)
+room_whole (Some (Begin own due)) t v id early marks r e o = let P : ℕ → Type 0 = λ n. owes (grid_state t.regions) (bag_of t.store) n ≡ true → is_whole (bag_of t.store n) ≡ true in subst P (same_begin own id e) r.whole o
 
 -- and there is room for its due tasks
-pub room_due : (room : Option Room) (t : Tables) (v : Vec Entry) (id early marks : ℕ) (due : Vec Task) → HasRoom room t v early marks → room_of room ≡ Some id → IfSome room (λ (r : Room). due ≡ r.due) → owes (grid_state t.regions) (bag_of t.store) id ≡ true → due_of t.store id ≤ vec_capacity due
-room_due None t v id early marks due r e given o = absurd (cc)
-room_due (Some room) t v id early marks due r e given o =
-    let P : ℕ → Type 0 = λ n. owes (grid_state t.regions) (bag_of t.store) n ≡ true → due_of t.store n ≤ vec_capacity room.due in
-    rw given (subst P (same_Some room.id id e) r.due o)
+pub room_due : (room : Option Room) (t : Tables) (v : Vec Entry) (id early marks : ℕ) (list : Vec Task) → HasRoom room t v early marks → room_of room ≡ ForBegin id → IsDueList room list → owes (grid_state t.regions) (bag_of t.store) id ≡ true → due_of t.store id ≤ vec_capacity list
+room_due None t v id early marks list r e given o = absurd (cc)
+room_due (Some (End wishes accepts)) t v id early marks list r e given o = absurd (cc)
+room_due (Some (Begin own due)) t v id early marks list r e given o =
+    let P : ℕ → Type 0 = λ n. owes (grid_state t.regions) (bag_of t.store) n ≡ true → due_of t.store n ≤ vec_capacity due in
+    rw given (subst P (same_begin own id e) r.due o)

@@ -2,13 +2,17 @@
 use Rattle.std.proofs.Common.{◌≡◌, ℕ, ◌+◌, ◌≤◌, ◌<◌, sym, ◌∙◌, ap, arith, false, inl, inr, ◌||◌}
 use Rattle.std.specs.Prelude.{Option, Some, None, vec_len, vec_capacity}
 use Rattle.std.specs.Global.{Vec}
+use Rattle.fol_model.specs.declared.events.Accept.{Accept}
 use Rattle.fol_model.specs.declared.events.Entry.{Entry}
+use Rattle.fol_chunks.specs.Contents.{Contents}
 use Rattle.fol_core.specs.declared.machine.Room.{Room}
+use Rattle.fol_core.specs.declared.machine.Room.TheVariants.{Begin, End}
 use Rattle.fol_core.specs.declared.tables.Course.{Course}
 use Rattle.fol_core.specs.declared.tables.Tables.{Tables}
 use Rattle.fol_core.specs.Agenda.{GrowsBy, IsTop}
-use Rattle.fol_core.specs.Room.{AgendaRoom, HasPlace, HasRoom}
+use Rattle.fol_core.specs.Room.{AgendaRoom, EndRoom, HasEndRoom, HasPlace, HasRoom}
 use Rattle.fol_core.specs.Same.{SameTables}
+use Rattle.fol_core.specs.Underway.{HasRoomFor}
 
 -- over the lengths and the capacities of two histories
 pub same_room : (c d : Course) (l m a b k : ℕ) → d ≡ c → m ≡ l → a ≤ b → ((c.finished || c.stopped) ≡ false → l + k < a) → (d.finished || d.stopped) ≡ false → m + k < b
@@ -40,7 +44,7 @@ place_taken a b id k early room place len capacity top e = elim place [
 -- where the Begin of a prepared region is recorded, what the next Begin needs stays
 pub learnt_room : (room : Option Room) (t : Tables) (v w : Vec Entry) (early rest marks : ℕ) → HasRoom room t v early marks → vec_len w ≡ vec_len v + 1 → vec_capacity w ≡ vec_capacity v → early ≡ rest + 1 → HasRoom room t w rest marks
 learnt_room None t v w early rest marks r l c e = tt
-learnt_room (Some room) t v w early rest marks r l c e = record {
+learnt_room (Some (Begin id due)) t v w early rest marks r l c e = record {
   given = r.given;
   size = r.size;
   history = omega (arith, r.history, l, c, e);
@@ -49,4 +53,34 @@ learnt_room (Some room) t v w early rest marks r l c e = record {
   empty = r.empty;
   whole = r.whole;
   due = r.due;
+}
+learnt_room (Some (End wishes accepts)) t v w early rest marks r l c e = record {
+  size = r.size;
+  history = omega (arith, r.history, l, c, e);
+  regions = r.regions;
+  tasks = r.tasks;
+  slots = r.slots;
+  tickets = r.tickets;
+  places = omega (arith, r.places, e);
+  empty = r.empty;
+  answers = r.answers;
+}
+
+-- ---- the memory for an End
+
+-- what was taken for an End is there
+pub end_room : (room : Option Room) (t : Tables) (h : Vec Entry) (early marks : ℕ) → HasRoom room t h early marks → HasEndRoom room t h early
+end_room None t h early marks r = tt
+end_room (Some (Begin id due)) t h early marks r = tt
+end_room (Some (End wishes accepts)) t h early marks r = r
+
+-- with it the wishes of a tick that can take in as many things can be accepted
+pub room_to_accept : (n : ℕ) (accepts : Vec Accept) (t : Tables) (h : Vec Entry) (early : ℕ) (v : Contents) → EndRoom n accepts t h early → n ≤ v.spare → HasRoomFor t v n
+room_to_accept n accepts t h early v r things = record {
+  regions = r.regions;
+  tasks = r.tasks;
+  slots = r.slots;
+  tickets = r.tickets;
+  agenda = omega (arith, r.places);
+  entities = things;
 }

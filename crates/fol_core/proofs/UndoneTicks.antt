@@ -44,6 +44,7 @@ use Rattle.fol_regions.specs.Table.{grid_state}
 use Rattle.fol_store.specs.Bag.{Bag}
 use Rattle.fol_store.specs.Stock.{bag_of, flat_of, jobs_of}
 use Rattle.fol_core.specs.declared.machine.Room.{Room}
+use Rattle.fol_core.specs.declared.machine.Room.TheVariants.{Begin, End}
 use Rattle.fol_core.specs.declared.tables.Course.{Course}
 use Rattle.fol_core.specs.declared.tables.Tables.{Tables}
 use Rattle.fol_core.specs.Agenda.{Covers, HaveBags, owes}
@@ -51,6 +52,7 @@ use Rattle.fol_core.specs.Ahead.{AheadRun, AreAmong, StandsAhead}
 use Rattle.fol_core.specs.Bags.{AreBut, IsBagOf, KeepsUp}
 use Rattle.fol_core.specs.CatchingUp.{AreHeld}
 use Rattle.fol_core.specs.Hands.{at_rest, in_hands, owner_of, since, went}
+use Rattle.fol_core.specs.Meaning.{ForBegin}
 use Rattle.fol_core.specs.Released.{CanComeBack, IsReturned}
 use Rattle.fol_core.specs.Room.{EntryRoom, HasRoom, room_of}
 use Rattle.fol_core.specs.Stands.{Fits, IsCourse, Stands}
@@ -87,9 +89,10 @@ queued_there g r (Some i) j e = elim (cases_Bool (nat_eq i.taker 0 && nat_eq (ow
 ]
 
 -- whose room it is
-pub room_is : (t : Tables) (id : ℕ) (room : Option Room) → IfSome room (IsRoomAgain t id) → is_some room ≡ true → room_of room ≡ Some id
+pub room_is : (t : Tables) (id : ℕ) (room : Option Room) → IfSome room (IsRoomAgain t id) → is_some room ≡ true → room_of room ≡ ForBegin id
 room_is t id None is k = absurd (true≢false (sym k))
-room_is t id (Some room) is k = ap (λ (n : ℕ). Some n) is.own
+room_is t id (Some (End wishes accepts)) is k = absurd is
+room_is t id (Some (Begin own due)) is k = ap (λ (n : ℕ). ForBegin n) is.own
 
 -- a Begin that is taken back
 back_grid : (g : GridState) (id : ℕ) → g.state id ≡ Ready → unbegun (begin g id) id ≡ g
@@ -485,7 +488,8 @@ module _ (o : Opening) (h : List Entry) (p : ℕ → Bool) (t : Tables) (s : Sta
     pub room_back : (room : Option Room) (v : Vec Entry) (early rest marks : ℕ) → IfSome room (IsRoomAgain (record u { course = d }) id) → EntryRoom t.course v early → early ≡ rest + 1 → id < marks
         → HasRoom room (record u { course = d }) v rest marks
     room_back None v early rest marks is entry one mark = tt
-    room_back (Some room) v early rest marks is entry one mark =
+    room_back (Some (End wishes accepts)) v early rest marks is entry one mark = absurd is
+    room_back (Some (Begin own due)) v early rest marks is entry one mark =
         let e = is.own in
         let on : (t.course.finished || t.course.stopped) ≡ false = sym over_back ∙ is.on in
         let going = or_parts t.course.finished t.course.stopped on in

@@ -1,5 +1,5 @@
 -- A finished tick can end.
-use Rattle.std.specs.Prelude.{ℕ, ◌≡◌, ◌+◌, ◌≤◌, ◌^◌, List, [], length, vec_len, vec_capacity}
+use Rattle.std.specs.Prelude.{ℕ, ◌+◌, ◌≤◌, ◌^◌, List, length}
 use Rattle.std.specs.Global.{Vec}
 use Rattle.fol_model.specs.declared.events.Accept.{Accept}
 use Rattle.fol_model.specs.declared.openings.Opening.{Opening}
@@ -10,6 +10,7 @@ use Rattle.fol_core.specs.declared.tables.Tables.{Tables}
 use Rattle.fol_core.specs.Stands.{Stands}
 use Rattle.fol_core.specs.AtEnd.{AtEnd}
 use Rattle.fol_core.specs.Hands.{since}
+use Rattle.fol_core.specs.Room.{EndRoom}
 use Rattle.fol_core.specs.Underway.{HasRoomFor}
 
 -- the tick is that of its End in a world for which the tables stand, and there is memory for its End
@@ -23,9 +24,5 @@ pub record MayEnd (t : Tables) (tick : Tick) : Type 0 where
 
 -- there is memory for the End of the tick, with its answers, for a Stop after it, and for the Begins of so many prepared regions
 pub record HasGrownToEnd (t : Tables) (h : Vec Entry) (tick : Tick) (accepts : Vec Accept) (early : ℕ) : Type 0 where
-  pub size : t.course.size + (1 + length tick.log.wishes) ≤ 2 ^ 50
-  pub history : vec_len h + 2 + early ≤ vec_capacity h
-  pub memory : HasRoomFor t tick.body.chunks (length tick.log.wishes)
-  pub places : vec_len t.agenda + (length tick.log.wishes + 1820) + early ≤ vec_capacity t.agenda
-  pub empty : accepts.items ≡ []
-  pub answers : length tick.log.wishes ≤ vec_capacity accepts
+  pub core : EndRoom (length tick.log.wishes) accepts t h early
+  pub things : length tick.log.wishes ≤ tick.body.chunks.spare

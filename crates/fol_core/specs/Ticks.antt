@@ -1,5 +1,5 @@
 -- The ticks that a core gives out and takes back.
-use Rattle.std.specs.Prelude.{ℕ, ◌≡◌, ◌+◌, ◌-◌, true, false, List, [], ◌∷◌, ◌++◌, filter, length}
+use Rattle.std.specs.Prelude.{ℕ, ◌≡◌, ◌+◌, ◌-◌, ◌≤◌, true, false, List, [], ◌∷◌, ◌++◌, filter, length}
 use Rattle.fol_model.specs.declared.events.Event.TheVariants.{Begin}
 use Rattle.fol_model.specs.declared.events.Entry.{Entry}
 use Rattle.fol_model.specs.declared.openings.Opening.{Opening}
@@ -16,7 +16,7 @@ use Rattle.fol_laws.specs.LateBegin.{NoneTouches}
 use Rattle.fol_queues.specs.Waiting.{jobs_of}
 use Rattle.fol_chunks.specs.Contents.{flat_of, within, is_recorded}
 use Rattle.fol_data.specs.declared.tick.Tick.{Tick}
-use Rattle.fol_core.specs.Meaning.{Meaning}
+use Rattle.fol_core.specs.Meaning.{Meaning, ForEnd}
 
 -- what a Begin in the world w, by the worker of the tick of its region, gives the tick to keep: the record of the Begin, the
 -- counter and the owed number after it, and the tasks that are queued after it, with their rests
@@ -82,3 +82,9 @@ pub record SameTick (old new : Tick) : Type 0 where
   pub log : new.log ≡ old.log
   pub next : new.next ≡ old.next
   pub moved : new.moved ≡ old.moved
+
+-- the End of the tick needs no more memory: the core's is that for as many wishes as the tick has, and what the tick has in its hands can take
+-- in as many things
+pub record IsReadyToRelease (m : Meaning) (tick : Tick) : Type 0 where
+  pub reserved : m.room ≡ ForEnd (length tick.log.wishes)
+  pub things : length tick.log.wishes ≤ tick.body.chunks.spare

@@ -1,5 +1,6 @@
 -- A tick comes back before anything of it ran.
 use Rattle.std.specs.Prelude.{ℕ, ◌≡◌, ◌+◌, ◌≤◌, ◌<◌, Bool, false, true, ◌||◌, List, [], ◌∷◌, length, Option, Some, IsNone, vec_len, vec_capacity}
+use Rattle.std.specs.Global.{Vec}
 use Rattle.std.specs.Option.{option_map, option_or}
 use Rattle.fol_model.specs.declared.openings.Opening.{Opening}
 use Rattle.fol_model.specs.declared.events.Entry.{Entry}
@@ -17,6 +18,7 @@ use Rattle.fol_store.specs.Bag.{is_whole}
 use Rattle.fol_store.specs.Stock.{bag_of, due_of, flat_of, jobs_of, next_of}
 use Rattle.fol_core.specs.declared.tables.Tables.{Tables}
 use Rattle.fol_core.specs.declared.machine.Room.{Room}
+use Rattle.fol_core.specs.declared.machine.Room.TheVariants.{Begin, End}
 use Rattle.fol_core.specs.Agenda.{GrowsBy, IsAgenda, IsTop}
 use Rattle.fol_core.specs.Ahead.{StandsAhead}
 use Rattle.fol_core.specs.Released.{IsReturned}
@@ -62,10 +64,15 @@ pub record Undoes (old new : Tables) (tick : Tick) : Type 0 where
   pub tickets : new.tickets ≡ old.tickets
   pub course : new.course ≡ old.course
 
--- the room of the region for its next Begin, once its tick came back
-pub record IsRoomAgain (t : Tables) (id : ℕ) (room : Room) : Type 0 where
+-- the room for the next Begin of a region, and the list for its due tasks, once the tick of this one came back
+pub record IsBeginAgain (t : Tables) (id of : ℕ) (list : Vec Task) : Type 0 where
   pub on : (t.course.finished || t.course.stopped) ≡ false
-  pub own : room.id ≡ id
-  pub empty : room.due.items ≡ []
+  pub own : of ≡ id
+  pub empty : list.items ≡ []
   pub whole : is_whole (bag_of t.store id) ≡ true
-  pub due : due_of t.store id ≤ vec_capacity room.due
+  pub due : due_of t.store id ≤ vec_capacity list
+
+-- what was taken is that room
+abbrev pub IsRoomAgain : Tables → ℕ → Room → Type 0
+IsRoomAgain t id (Begin own due) = IsBeginAgain t id own due
+IsRoomAgain t id (End wishes accepts) = ⊥

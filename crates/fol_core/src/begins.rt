@@ -1,6 +1,6 @@
 //! Begins of ticks.
 
-ghost use Rattle.std.specs.Prelude.{◌≡◌, ◌+◌, ◌-◌, ◌≤◌, ◌<◌, ℕ, not, true, false, [], filter, length, OnOk, OnErr, vec_len, vec_capacity, IsSome, IfOk, IfSome};
+ghost use Rattle.std.specs.Prelude.{◌≡◌, ◌+◌, ◌-◌, ◌≤◌, ◌<◌, ℕ, not, true, false, [], filter, length, OnOk, OnErr, vec_len, vec_capacity, IfOk};
 ghost use Rattle.fol_model.specs.Universe.{all_chunks};
 ghost use Rattle.fol_model.specs.Begin.{begin};
 ghost use Rattle.fol_model.specs.FlatTick.{Rising};
@@ -15,7 +15,7 @@ ghost use Rattle.fol_store.specs.Gathered.{AreFree};
 ghost use Rattle.fol_store.specs.Stock.{bag_of, due_of, flat_of, jobs_of, next_of};
 ghost use Rattle.fol_core.specs.Agenda.{Covers, HaveBags, IsAgenda, IsTop, owes as owes_tick};
 ghost use Rattle.fol_core.specs.Answers.{Begins, BeginsNext, IsGiven};
-ghost use Rattle.fol_core.specs.Room.{DueRoom};
+ghost use Rattle.fol_core.specs.Room.{DueRoom, IsDueList, IsForBegin, room_of};
 ghost use Rattle.fol_core.specs.Begun.{Gathered, due_task, left_job};
 ghost use Rattle.fol_core.specs.Meaning.{IsReadyToBegin, Stays, is_prepared, world_of};
 ghost use Rattle.fol_core.specs.Same.{SameThings};
@@ -41,7 +41,7 @@ pub(crate) struct Begun {
 
 impl Core {
     /// Takes the memory for a Begin of this region. The region is then ready to begin, until the next call that changes the core.
-    /// If memory runs out, nothing has changed, but an earlier readiness for a Begin may be lost.
+    /// If memory runs out, nothing has changed, but an earlier readiness may be lost.
     pub fn reserve(&mut self, alloc: Global, id: u64) -> Result<(), AllocError>
         requires given { IsGiven (world_of self.old) id }
         ensures ready { OnOk result (IsReadyToBegin self.new id) }
@@ -52,13 +52,13 @@ impl Core {
         self.marks.make_room(id)?;
         self.tables.agenda.reserve(1 + self.marks.count() as usize)?;
         let due = due_list(alloc, &self.tables.regions, &mut self.tables.store, id)?;
-        self.room = Some(Room { id, due });
+        self.room = Some(Room::Begin { id, due });
         Ok(())
     }
 
     /// Begins the tick of a region that is not prepared and is ready to begin, by `reserve`. Over exactly where Finish or Stop stands in
     /// the history; else NotReady exactly where its state is not Ready; else NotOwing exactly where it owes no tick. Only Got is
-    /// recorded. A refusal changes nothing, the readiness for a Begin included. Takes no memory.
+    /// recorded. A refusal changes nothing, any readiness included. Takes no memory.
     pub fn begin(&mut self, by: u32, worker: u32, id: u64) -> BeginAnswer
         requires ready { IsReadyToBegin self.old id }
         requires free { is_prepared self.old id ≡ false }
@@ -85,8 +85,8 @@ impl Core {
 
     /// Begins a tick of a Ready region that owes one and is not prepared, by a worker that records it, and puts it in place of `tick`. It
     /// is `first` where that is such a region, and else which one is free. Over exactly where Finish or Stop stands in the history, else
-    /// Idle exactly where there is no such region. Only Begun is recorded. If memory runs out, nothing has changed, but the readiness for a
-    /// Begin may be lost.
+    /// Idle exactly where there is no such region. Only Begun is recorded. If memory runs out, nothing has changed, but a readiness
+    /// may be lost.
     pub fn begin_next(
         &mut self,
         alloc: Global,
@@ -219,13 +219,14 @@ fn settle(alloc: Global, regions: &Regions, store: &mut Store, id: u64) -> Resul
     store.gather(id, &chunks)
 }
 
-/// The memory for the due tasks that was taken.
+/// The memory for the due tasks that was taken for a Begin.
 pub(crate) fn due_room(room: Option<Room>) -> Vec<Task>
-    requires there { IsSome room }
-    ensures { IfSome room (λ r. result ≡ r.due) }
+    requires { IsForBegin (room_of room) }
+    ensures { IsDueList room result }
 {
     match room {
-        Some(room) => room.due,
+        Some(Room::Begin { id: _, due }) => due,
+        Some(Room::End { .. }) => unreachable!(),
         None => unreachable!(),
     }
 }

@@ -34,8 +34,8 @@ use std::alloc::AllocError;
 
 impl Core {
     /// Adds a ticket to a chunk; this touches no prepared region. Records the load by this caller with its answer, but at Over, which
-    /// comes exactly where the history is finished, and which changes nothing, the readiness for a Begin included. If memory runs out,
-    /// nothing has changed, but the readiness may be lost.
+    /// comes exactly where the history is finished, and which changes nothing, any readiness included. If memory runs out,
+    /// nothing has changed, but a readiness may be lost.
     pub fn load(&mut self, caller: u32, c: ChunkPos) -> Result<Loaded, AllocError>
         requires in_range { IsTrue (is_chunk c) }
         requires spares { Spares self.old (load_touches (world_of self.old).grid c) }
@@ -59,8 +59,8 @@ impl Core {
     }
 
     /// Takes a ticket from a chunk; this touches no prepared region. Records the unload by this caller with its answer, but at Over,
-    /// which comes exactly where the history is finished, and which changes nothing, the readiness for a Begin included. If memory runs
-    /// out, nothing has changed, but the readiness may be lost.
+    /// which comes exactly where the history is finished, and which changes nothing, any readiness included. If memory runs
+    /// out, nothing has changed, but a readiness may be lost.
     pub fn unload(&mut self, caller: u32, c: ChunkPos) -> Result<Unloaded, AllocError>
         requires in_range { IsTrue (is_chunk c) }
         requires spares { Spares self.old (unload_touches (world_of self.old) c) }

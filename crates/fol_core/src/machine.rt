@@ -12,7 +12,7 @@ ghost use Rattle.fol_regions.specs.Table.{grid_state};
 use crate::agenda::owes;
 use crate::marks::Marks;
 use crate::tables::{Course, Tables};
-use fol_model::{Entry, Event, Grid, Opening, SectionPos, State, Task};
+use fol_model::{Accept, Entry, Event, Grid, Opening, SectionPos, State, Task};
 use fol_regions::Regions;
 use fol_store::Store;
 use std::alloc::{AllocError, Global};
@@ -29,12 +29,13 @@ const UNTOUCHED: Course = Course {
     size: 0,
 };
 
-/// The memory that the next Begin of a region needs.
+/// Memory that was taken for what comes next.
 #[derive(Drop)]
-pub(crate) struct Room {
-    pub(crate) id: u64,
-    /// For the due tasks.
-    pub(crate) due: Vec<Task>,
+pub(crate) enum Room {
+    /// For the next Begin of a region, with a list for the due tasks.
+    Begin { id: u64, due: Vec<Task> },
+    /// For an End with so many wishes, with a list for the answers.
+    End { wishes: usize, accepts: Vec<Accept> },
 }
 
 /// A world and its history, which is a run of its opening.

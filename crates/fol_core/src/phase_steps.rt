@@ -17,8 +17,8 @@ use std::alloc::AllocError;
 
 impl Core {
     /// Opens a phase of `n` ticks: every region then owes `n`. Over exactly where Finish or Stop stands in the history, else InPhase
-    /// exactly where a phase is open. Only Opened is recorded. A refusal changes nothing, the readiness for a Begin included. If
-    /// memory runs out, nothing has changed, but the readiness may be lost.
+    /// exactly where a phase is open. Only Opened is recorded. A refusal changes nothing, any readiness included. If
+    /// memory runs out, nothing has changed, but a readiness may be lost.
     pub fn open_phase(&mut self, by: u32, n: u32) -> Result<Phase, AllocError>
         requires some { 1 ≤ n }
         requires within { (world_of self.old).sum + n ≤ 10000 }
@@ -50,7 +50,7 @@ impl Core {
 
     /// Closes the phase. Over exactly where Finish or Stop stands in the history, else NoPhase exactly where no phase is open, else
     /// NotYet exactly where a region ticks, or is Ready and owes a tick, with the lowest such one. Only Closed is recorded. A refusal
-    /// changes nothing, the readiness for a Begin included. If memory runs out, nothing has changed, but the readiness may be lost.
+    /// changes nothing, any readiness included. If memory runs out, nothing has changed, but a readiness may be lost.
     pub fn close_phase(&mut self, by: u32) -> Result<Close, AllocError>
         ensures answer { IfOk result (λ a. a ≡ close_result (world_of self.old)) }
         ensures recorded { IfOk result (λ a. CloseRecords self.old self.new by a) }

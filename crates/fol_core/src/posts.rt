@@ -27,7 +27,7 @@ use fol_regions::AddAnswer;
 impl Core {
     /// Asks for a task on a chunk, in the `delay`-th tick that the chunk's region then begins; this touches no prepared region. Records
     /// the post by this caller with its answer, but at Over, which comes exactly where the history is finished, hands the action back and
-    /// changes nothing, the readiness for a Begin included. If memory runs out, which hands the action back, nothing has changed, but the
+    /// changes nothing, any readiness included. If memory runs out, which hands the action back, nothing has changed, but a
     /// readiness may be lost.
     pub fn post(
         &mut self,

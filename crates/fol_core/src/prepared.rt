@@ -108,5 +108,5 @@ fn room_again(tables: &Tables, id: u64, due: Vec<Task>) -> Option<Room>
     if tables.store.count_due(id) > due.capacity() as u64 {
         return None;
     }
-    Some(Room { id, due })
+    Some(Room::Begin { id, due })
 }

@@ -4,7 +4,7 @@ use Rattle.std.specs.Prelude.{All, Some, Option}
 use Rattle.std.specs.Option.{unwrap_or}
 use Rattle.fol_model.specs.declared.openings.Opening.{Opening}
 use Rattle.fol_model.specs.declared.events.Entry.{Entry}
-use Rattle.fol_core.specs.Meaning.{Meaning, is_prepared}
+use Rattle.fol_core.specs.Meaning.{Meaning, Nothing, is_prepared}
 use Rattle.fol_lock.specs.Log.{Extends}
 use Rattle.fol_lock.specs.Seat.{LockId, Continues, IsIdle, at_turn}
 use Rattle.fol_lock.specs.Seat as locks
@@ -29,7 +29,7 @@ IsIdleSeat s = IsSeat (opening_of s.origin) s
 
 -- without the memory that a core has in reserve
 abbrev pub bare : Meaning → Meaning
-bare m = record { opening = m.opening; history = m.history; prepared = []; room = Option.None }
+bare m = record { opening = m.opening; history = m.history; prepared = []; room = Nothing }
 
 -- the history went on by entries of the seat k, or by none, and the same regions are prepared
 pub record Grew (m n : Meaning) (k : ℕ) : Type 0 where

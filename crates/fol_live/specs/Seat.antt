@@ -3,7 +3,7 @@ use Rattle.std.specs.Prelude.{ℕ, ◌≡◌, false, List, [], length, Option, S
 use Rattle.fol_model.specs.GridNumbers.{numbers}
 use Rattle.fol_model.specs.declared.openings.Opening.{Opening}
 use Rattle.fol_model.specs.declared.events.Entry.{Entry}
-use Rattle.fol_core.specs.Meaning.{Meaning}
+use Rattle.fol_core.specs.Meaning.{Meaning, Nothing}
 use Rattle.fol_lock.specs.Seat.{LockId}
 use Rattle.fol_lock.specs.Seat as locks
 use Rattle.fol_seat_laws.specs.Signed.{own_of}
@@ -38,4 +38,4 @@ HasFront front s = front ≡ length s.seen
 
 -- what a core would stand for that has just the history that the seat has seen
 abbrev pub meaning_of : Shown → Meaning
-meaning_of s = record { opening = s.opening; history = s.seen; prepared = []; room = None }
+meaning_of s = record { opening = s.opening; history = s.seen; prepared = []; room = Nothing }

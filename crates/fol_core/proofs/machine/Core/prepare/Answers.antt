@@ -11,6 +11,9 @@ use Rattle.fol_core.proofs.GatheredBags.{ready_here}
 use Rattle.fol_core.proofs.Rooms.{place_taken}
 use Rattle.fol_core.proofs.machine.Core.prepare.Goals as goal
 
+pub due_room-room-requires : goal.due_room-room-requires
+due_room-room-requires c = (c.args.id, rw c.take.ensures.value (rw (← c.self.view_is) at c.requires.ready))
+
 pub hand_out-taken-requires-clause-owing : goal.hand_out-taken-requires-clause-owing
 hand_out-taken-requires-clause-owing c = owing_tables _ _ _ _ c.self.invariant.0 c.args.id (rw (← c.self.view_is) at c.requires.free)
 
