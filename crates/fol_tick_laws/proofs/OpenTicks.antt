@@ -28,13 +28,14 @@ use Rattle.fol_tick.specs.Runs.{Finishes, MayRun}
 use Rattle.fol_core.specs.Ahead.{Learns}
 use Rattle.fol_core.specs.Answers.{Begins, IsGiven, LoadRecords, PhaseRecords, PostRecords, end_event, is_over, is_owing, state_result}
 use Rattle.fol_core.specs.Meaning.{Meaning, Records, Stays, world_of}
-use Rattle.fol_core.specs.Ticks.{IsOut, IsTick}
+use Rattle.fol_core.specs.Ticks.{IsOut, IsTick, SameTick}
 use Rattle.fol_core.specs.declared.answers.BeginAnswer.{BeginAnswer}
 use Rattle.fol_core.specs.declared.answers.BeginAnswer.TheVariants.{Got, NotReady, NotOwing, Over}
 use Rattle.fol_core.specs.declared.answers.Phase.{Phase}
 use Rattle.fol_core.specs.declared.answers.Phase.TheVariants as phases
 use Rattle.fol_core.specs.declared.answers.Posting.{Posting}
 use Rattle.fol_core.specs.declared.answers.Posting.TheVariants as postings
+use Rattle.fol_core.proofs.ReleaseKept.{out_same}
 use Rattle.fol_tick_laws.specs.OpenTicks.{IsOpen, KeepsOpen, KeepsOthers}
 use Rattle.fol_tick_laws.proofs.BegunTicks.{may_run}
 use Rattle.fol_tick_laws.proofs.FinishedTicks.{out_since}
@@ -239,6 +240,36 @@ may_run_open m t grid run is =
 pub out_when_run : (m : Meaning) (t u : Tick) (xs : List HostCall) → IsOpen m t → Finishes t u xs → IsOut m u
 out_when_run m t u xs is done =
     out_since m.opening is.made.before t.worker t.region t u xs is.is done m is.made.between is.made.since is.made.by refl is.made.begin is.made.allowed is.made.calm is.made.runs_on
+
+-- a tick that is out stays so where nothing changes but the memory that was taken for its End
+pub out_kept : (m n : Meaning) (t u : Tick) → Stays m n → SameTick t u → IsOut m t → IsOut n u
+out_kept m n t u stays same out = let is = out_same m t u same out in record {
+  made = record {
+    before = is.made.before;
+    between = is.made.between;
+    since = is.made.since;
+    by = is.made.by;
+    begin = stays.history ∙ is.made.begin;
+    allowed = rw stays.opening is.made.allowed;
+    calm = rw stays.opening is.made.calm;
+    runs_on = is.made.runs_on;
+  };
+  place = is.place;
+  of = rw stays.opening is.of;
+  given = is.given;
+  run = rw stays.opening is.run;
+}
+
+-- and its End is the same
+pub end_kept : (m n o : Meaning) (t u : Tick) → Stays m n → SameTick t u → Records n o u.worker (end_event (world_of n) u.worker u.region u.log.ran)
+    → Records m o t.worker (end_event (world_of m) t.worker t.region t.log.ran)
+end_kept m n o t u stays same records =
+    let told : Records n o t.worker (end_event (world_of n) t.worker t.region t.log.ran) = rw (same.worker, same.region, same.log) at records in
+    record {
+      opening = records.opening ∙ stays.opening;
+      history = rw (stays.opening, stays.history) at told.history;
+      prepared = records.prepared ∙ stays.prepared;
+    }
 
 -- ---- what a query tells
 

@@ -168,15 +168,20 @@ impl Busy {
         }
     }
 
-    /// Ends a tick that has run.
+    /// Ends a tick that has run, in memory that was taken before.
     fn give_back(&mut self, rt: &impl Abort, alloc: Global, tick: Tick)
         requires { IsOut self.old tick }
         ensures { Records self.old self.new tick.worker
             (end_event (world_of self.old) tick.worker tick.region tick.log.ran) }
     {
+        let mut tick = tick;
+        match self.core.reserve_release(alloc, &mut tick) {
+            Ok(()) => {}
+            Err(_) => panic!(rt; "memory"),
+        }
         match self.core.release(alloc, tick) {
             Ok(_) => {}
-            Err(_) => panic!(rt; "memory"),
+            Err(_) => unreachable!(),
         }
     }
 
