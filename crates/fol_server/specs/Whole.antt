@@ -7,26 +7,26 @@ use Rattle.fol_follow.specs.Books.{book_id}
 use Rattle.fol_view.specs.Publications.{Listed}
 use Rattle.fol_view.specs.Writing.{Writing}
 use Rattle.fol_server.specs.declared.server.Server.{Server}
-use Rattle.fol_server.specs.declared.server.World.{World}
+use Rattle.fol_server.specs.declared.server.Dealt.{Dealt}
 use Rattle.fol_server.specs.declared.server.Map.{Map}
 use Rattle.fol_server.specs.declared.team.Crew.{Crew}
 use Rattle.fol_server.specs.Crew.{IsCrewOf}
 use Rattle.fol_server.specs.Dealt.{IsNewPage, IsNewSeat}
 
 -- all seats of the world and of the book, each new and with its own number
-pub record AllDealt (w : World) : Type 0 where
-  pub seats : seat_count w.live.lock ≡ 6
-  pub pages : seat_count w.book.lock ≡ 4
-  pub caller : IsNewSeat (live_id w.live) 0 w.caller
-  pub page : IsNewPage (book_id w.book) 0 w.page
-  pub first : IsNewSeat (live_id w.live) 1 w.first.seat
-  pub first_page : IsNewPage (book_id w.book) 1 w.first.pages
-  pub second : IsNewSeat (live_id w.live) 2 w.second.seat
-  pub second_page : IsNewPage (book_id w.book) 2 w.second.pages
-  pub third : IsNewSeat (live_id w.live) 3 w.third.seat
-  pub third_page : IsNewPage (book_id w.book) 3 w.third.pages
-  pub publisher : IsNewSeat (live_id w.live) 4 w.publisher
-  pub poster : IsNewSeat (live_id w.live) 5 w.poster
+pub record AllDealt (d : Dealt) : Type 0 where
+  pub seats : seat_count d.world.live.lock ≡ 6
+  pub pages : seat_count d.world.book.lock ≡ 4
+  pub caller : IsNewSeat (live_id d.world.live) 0 d.world.caller
+  pub page : IsNewPage (book_id d.world.book) 0 d.world.page
+  pub first : IsNewSeat (live_id d.world.live) 1 d.world.first.seat
+  pub first_page : IsNewPage (book_id d.world.book) 1 d.world.first.pages
+  pub second : IsNewSeat (live_id d.world.live) 2 d.world.second.seat
+  pub second_page : IsNewPage (book_id d.world.book) 2 d.world.second.pages
+  pub third : IsNewSeat (live_id d.world.live) 3 d.world.third.seat
+  pub third_page : IsNewPage (book_id d.world.book) 3 d.world.third.pages
+  pub publisher : IsNewSeat (live_id d.world.live) 4 d.publisher
+  pub poster : IsNewSeat (live_id d.world.live) 5 d.poster
 
 -- it has all seats of the world, all of the book, and the inbox's only sender
 pub record IsWholeCrew (server : Server) (crew : Crew) : Type 0 where

@@ -67,7 +67,13 @@ pub fn close<R: Wait>(
     } = lead;
     let Server { live, book, inbox } = server;
     let (owners, publisher) = close_view(rt, map, writer, reader);
-    let (receipts, poster) = close_inbox(rt, alloc, inbox, sender, drainer)?;
+    let visits = close_book(alloc, book, [pages, first.pages, second.pages, third.pages]);
+    let Ok((receipts, poster)) = close_inbox(rt, alloc, inbox, sender, drainer) else {
+        drop(live);
+        drop([caller, first.seat, second.seat, third.seat, publisher]);
+        drop(visits);
+        return Err(GivesUp);
+    };
     let seats = [
         caller,
         first.seat,
@@ -76,16 +82,35 @@ pub fn close<R: Wait>(
         publisher,
         poster,
     ];
-    let pages = [pages, first.pages, second.pages, third.pages];
+    let closing = close_world(alloc, live, seats);
+    sum_up(outcome, owners, receipts, visits, closing)
+}
+
+/// What came of it all, where nothing failed.
+fn sum_up(
+    outcome: Outcome,
+    owners: [SeenOwner; 3],
+    receipts: Vec<Receipt>,
+    visits: Result<BookClosing, GivesUp>,
+    closing: Result<Closing, GivesUp>,
+) -> Result<Played, GivesUp> {
     let Outcome { sent, watched } = outcome;
-    Ok(Played {
-        sent: sent?,
-        watched,
-        owners,
-        receipts,
-        visits: close_book(alloc, book, pages)?,
-        closing: close_world(alloc, live, seats)?,
-    })
+    match (sent, visits, closing) {
+        (Ok(sent), Ok(visits), Ok(closing)) => Ok(Played {
+            closing,
+            visits,
+            receipts,
+            sent,
+            watched,
+            owners,
+        }),
+        (_, visits, closing) => {
+            drop(receipts);
+            drop(visits);
+            drop(closing);
+            Err(GivesUp)
+        }
+    }
 }
 
 /// Looks at the last map, and closes the view. Until the writer tells the reader, it might still see an older one.
@@ -126,6 +151,8 @@ fn close_inbox<R: Wait>(
     ensures seat { IfOk result (λ r. r.1 ≡ drainer.seat) }
 {
     let Ok(senders) = Vec::from_array(alloc, [sender]) else {
+        drop(inbox);
+        drop(drainer);
         return Err(GivesUp);
     };
     let Closed {
@@ -144,7 +171,10 @@ fn close_book(alloc: Global, book: Book, pages: [BookSeat; 4]) -> Result<BookClo
 {
     match Vec::from_array(alloc, pages) {
         Ok(pages) => Ok(book.close(pages)),
-        Err(_) => Err(GivesUp),
+        Err(_) => {
+            drop(book);
+            Err(GivesUp)
+        }
     }
 }
 
@@ -154,6 +184,7 @@ fn close_world(alloc: Global, live: Live, seats: [Seat; 6]) -> Result<Closing, G
     requires all { AreAllSeats (seat_count live.lock) seats }
 {
     let Ok(seats) = Vec::from_array(alloc, seats) else {
+        drop(live);
         return Err(GivesUp);
     };
     match live.close(alloc, seats) {

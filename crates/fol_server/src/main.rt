@@ -12,6 +12,9 @@
 //! - `team` says which thread does what, `ending` how everything is closed, and `report` what came of it.
 //!
 //! How the threads take turns differs from run to run, and what is printed does not depend on it.
+//!
+//! A function that ends early first drops by name what it owns: each such drop is a call, which is proved once, where one that is left to the
+//! end of a block is proved field by field, at each exit anew.
 #![tactic(auto)]
 
 mod builder;
@@ -42,7 +45,9 @@ const GAVE_UP: u8 = 7;
 fn main(rt: HostRuntime) -> io::Result<ExitCode> {
     match play(&rt, rt.alloc()) {
         Ok(played) => {
-            print(&rt, &played)?;
+            let printed = print(&rt, &played);
+            drop(played);
+            printed?;
             Ok(ExitCode::SUCCESS)
         }
         Err(_) => {

@@ -31,19 +31,31 @@ fn print_world<R: Print>(rt: &R, closing: &Closing) -> io::Result<()> {
         count_ticks(closing),
         closing.tasks.as_slice().len()
     )?;
+    print_regions(rt, closing)?;
+    print_courier(rt, closing)?;
+    println!(rt; "blocks {}", closing.blocks.as_slice().len())
+}
+
+/// What each region came to.
+fn print_regions<R: Print>(rt: &R, closing: &Closing) -> io::Result<()> {
     for region in closing.regions.as_slice() {
         println!(rt;
             "region {}: ticks {}, sections {}, loaded chunks {}",
             region.id, region.tick, region.sections, region.chunks
         )?;
     }
+    Ok(())
+}
+
+/// Where the courier is.
+fn print_courier<R: Print>(rt: &R, closing: &Closing) -> io::Result<()> {
     for entity in closing.entities.as_slice() {
         match entity.place {
             Place::At(at) => println!(rt; "courier at {} {} {}", at.x, at.y, at.z)?,
             Place::Transit(_) => println!(rt; "courier on the way")?,
         }
     }
-    println!(rt; "blocks {}", closing.blocks.as_slice().len())
+    Ok(())
 }
 
 /// How many ticks there were. Which region ticked when, and by which worker, differs from run to run.

@@ -46,7 +46,8 @@ pub struct Opened {
     pub crew: Crew,
 }
 
-/// The world and the book, with all their seats.
+/// The world and the book, with the seats of the lead and of the workers.
+#[derive(Drop)]
 struct World {
     live: Live,
     book: Book,
@@ -55,11 +56,23 @@ struct World {
     first: Worker,
     second: Worker,
     third: Worker,
+}
+
+/// The same, with the seats from which the view and the inbox are opened.
+struct Dealt {
+    world: World,
     publisher: Seat,
     poster: Seat,
 }
 
+/// What leads to the world without its lock.
+struct Ways {
+    mail: Mail,
+    sight: Sight,
+}
+
 /// The inbox, with who sends to it and who posts what was sent.
+#[derive(Drop)]
 struct Mail {
     inbox: Inbox,
     sender: Sender,
@@ -80,6 +93,15 @@ pub fn open<R: Wait>(rt: &R, alloc: Global) -> Result<Opened, GivesUp>
     ensures crew { IfOk result (λ o. IsWholeCrew o.server o.crew) }
     ensures map { IfOk result (λ o. IsMapFor o.crew.lead.writer o.crew.reader o.map) }
 {
+    let Dealt {
+        world,
+        publisher,
+        poster,
+    } = open_world(alloc)?;
+    let Ok(Ways { mail, sight }) = open_ways(rt, alloc, &world.live, publisher, poster) else {
+        drop(world);
+        return Err(GivesUp);
+    };
     let World {
         live,
         book,
@@ -88,19 +110,17 @@ pub fn open<R: Wait>(rt: &R, alloc: Global) -> Result<Opened, GivesUp>
         first: worker,
         second,
         third,
-        publisher,
-        poster,
-    } = open_world(alloc)?;
+    } = world;
     let Mail {
         inbox,
         sender,
         drainer,
-    } = open_inbox(alloc, poster)?;
+    } = mail;
     let Sight {
         map,
         writer,
         reader,
-    } = open_view(rt, alloc, &live, publisher)?;
+    } = sight;
     let lead = Lead {
         caller,
         pages,
@@ -117,6 +137,36 @@ pub fn open<R: Wait>(rt: &R, alloc: Global) -> Result<Opened, GivesUp>
     };
     let server = Server { live, book, inbox };
     Ok(Opened { server, map, crew })
+}
+
+/// Opens the inbox and the view.
+fn open_ways<R: Wait>(
+    rt: &R,
+    alloc: Global,
+    live: &Live,
+    publisher: Seat,
+    poster: Seat,
+) -> Result<Ways, GivesUp>
+    requires own { publisher.lock ≡ live_id live.now }
+    requires no_tick { is_busy poster.mine ≡ false }
+    ensures sender { IfOk result (λ w. (w.mail.sender.inbox ≡ inbox_id w.mail.inbox)
+        × (w.mail.sender.number ≡ 0)) }
+    ensures drainer { IfOk result (λ w.
+        IsNewDrainer (inbox_id w.mail.inbox) 1 poster w.mail.drainer) }
+    ensures seat { IfOk result (λ w. IsSameSeat publisher w.sight.writer.seat) }
+    ensures map { IfOk result (λ w. IsMapFor w.sight.writer w.sight.reader w.sight.map) }
+{
+    let Ok(mail) = open_inbox(alloc, poster) else {
+        drop(publisher);
+        return Err(GivesUp);
+    };
+    match open_view(rt, alloc, live, publisher) {
+        Ok(sight) => Ok(Ways { mail, sight }),
+        Err(GivesUp) => {
+            drop(mail);
+            Err(GivesUp)
+        }
+    }
 }
 
 /// Opens an inbox with one sender.
@@ -166,8 +216,8 @@ fn open_view<R: Wait>(rt: &R, alloc: Global, live: &Live, publisher: Seat) -> Re
 }
 
 /// Opens the world, with six seats, and the book of visits, with four, and deals them out.
-fn open_world(alloc: Global) -> Result<World, GivesUp>
-    ensures world { IfOk result (λ w. AllDealt w) }
+fn open_world(alloc: Global) -> Result<Dealt, GivesUp>
+    ensures world { IfOk result (λ d. AllDealt d) }
 {
     let opening = opening(alloc)?;
     let BookAndSeats {
@@ -182,7 +232,7 @@ fn open_world(alloc: Global) -> Result<World, GivesUp>
     let third = next_worker(&live, &book, &mut seats, &mut pages, 3);
     let publisher = next_seat(&live, &mut seats, 4);
     let poster = next_seat(&live, &mut seats, 5);
-    Ok(World {
+    let world = World {
         live,
         book,
         caller,
@@ -190,6 +240,9 @@ fn open_world(alloc: Global) -> Result<World, GivesUp>
         first,
         second,
         third,
+    };
+    Ok(Dealt {
+        world,
         publisher,
         poster,
     })

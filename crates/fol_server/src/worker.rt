@@ -104,7 +104,10 @@ fn run<R: Wait>(rt: &R, alloc: Global, live: &Live, seat: Seat, tick: Tick) -> (
     let seat = host.into_seat();
     match ran {
         Ok(()) => (seat, Some(tick)),
-        Err(_) => (seat, None),
+        Err(_) => {
+            drop(tick);
+            (seat, None)
+        }
     }
 }
 
@@ -119,6 +122,7 @@ fn end<R: Wait>(rt: &R, alloc: Global, server: &Server, worker: &mut Worker, tic
         .visit(rt, alloc, &mut worker.pages, &tick)
         .is_err()
     {
+        drop(tick);
         return give_up(rt, server, worker);
     }
     match server.live.release(rt, alloc, &mut worker.seat, tick) {

@@ -4,7 +4,7 @@ use Rattle.fol_server.proofs.server.open.Goals as goal
 
 pub returns-clause-crew : goal.returns-clause-crew
 returns-clause-crew g c =
-    let all = c.in_ok-live.ensures.world in
+    let all = c.in_ok-world.ensures.world in
     let caller = all.caller in
     let page = all.page in
     let first = all.first in
@@ -15,9 +15,9 @@ returns-clause-crew g c =
     let third_page = all.third_page in
     let publisher = all.publisher in
     let poster = all.poster in
-    let drainer = c.in_ok-inbox.ensures.drainer in
-    let sender = c.in_ok-inbox.ensures.sender in
-    let seat = c.in_ok-map.ensures.seat in
+    let drainer = c.in-Ok.ensures.drainer in
+    let sender = c.in-Ok.ensures.sender in
+    let seat = c.in-Ok.ensures.seat in
     record {
       of = record {
         lead = record {
