@@ -1,6 +1,6 @@
 //! Letters that are sent to an inbox, beside posts that wait for the lock of the world.
 
-ghost use Rattle.std.specs.Prelude.{◌≡◌, ◌<◌, ◌≤◌, All};
+ghost use Rattle.std.specs.Prelude.{◌≡◌, ◌<◌, ◌≤◌, [], All};
 ghost use Rattle.fol_live.specs.Lives.{live_id};
 ghost use Rattle.fol_inbox.specs.Ids.{inbox_id};
 ghost use Rattle.fol_inbox.specs.Sending.{Sending};
@@ -53,6 +53,21 @@ fn time_letters<R: Threads + Wait + Sync + Clock>(
 {
     let LiveAndSeats { live, mut seats } = start(alloc, 1)?;
     let seat = take_seat(&live, &mut seats);
+    let time = time_inbox(rt, alloc, seat, threads);
+    drop(live);
+    time
+}
+
+/// How long so many threads send letters to an inbox with this seat.
+fn time_inbox<R: Threads + Wait + Sync + Clock>(
+    rt: &R,
+    alloc: Global,
+    seat: Seat,
+    threads: u32,
+) -> io::Result<Duration>
+    requires threads { (0 < threads) × (threads ≤ 64) }
+    requires new { seat.mine ≡ [] }
+{
     let Ok(
         InboxParts {
             inbox,
@@ -63,8 +78,21 @@ fn time_letters<R: Threads + Wait + Sync + Clock>(
     else {
         return Err(AllocError.into());
     };
+    let time = time_senders(rt, &inbox, &mut senders);
+    drop(inbox);
+    time
+}
+
+/// How long these senders take to send their letters.
+fn time_senders<R: Threads + Wait + Sync + Clock>(
+    rt: &R,
+    inbox: &Inbox,
+    senders: &mut [Sender],
+) -> io::Result<Duration>
+    requires { All (λ (s : Sending). s.inbox ≡ inbox_id inbox.now) senders.old }
+{
     let start = Instant::now(rt)?;
-    send_together(rt, &inbox, &mut senders);
+    send_together(rt, inbox, senders);
     start.elapsed(rt)
 }
 
@@ -98,8 +126,21 @@ fn time_posts<R: Threads + Wait + Sync + Clock>(
     requires { (0 < threads) × (threads ≤ 64) }
 {
     let LiveAndSeats { live, mut seats } = start(alloc, threads)?;
+    let time = time_seats(rt, &live, &mut seats);
+    drop(live);
+    time
+}
+
+/// How long those who have these seats take to post.
+fn time_seats<R: Threads + Wait + Sync + Clock>(
+    rt: &R,
+    live: &Live,
+    seats: &mut [Seat],
+) -> io::Result<Duration>
+    requires { All (λ seat. seat.lock ≡ live_id live.now) seats.old }
+{
     let start = Instant::now(rt)?;
-    post_together(rt, &live, &mut seats);
+    post_together(rt, live, seats);
     start.elapsed(rt)
 }
 

@@ -43,12 +43,17 @@ fn measure<R: Clock + Print>(rt: &R, alloc: Global, others: u32) -> io::Result<(
         return Ok(());
     };
     let mut regions = Regions::new(alloc, grid)?;
-    fill(&mut regions, others)?;
-    time_events(rt, &mut regions, (others + 1) * SECTIONS)
+    let timed = time_events(rt, &mut regions, others);
+    drop(regions);
+    timed
 }
 
-/// Times the events of a small region that is added to a table, which then has so many sections.
-fn time_events<R: Clock + Print>(rt: &R, regions: &mut Regions, sections: u32) -> io::Result<()> {
+/// Times the events of a small region that is added to a table with so many others.
+fn time_events<R: Clock + Print>(rt: &R, regions: &mut Regions, others: u32) -> io::Result<()>
+    requires { others ≤ 10000 }
+{
+    fill(regions, others)?;
+    let sections = (others + 1) * SECTIONS;
     let home = ChunkPos { x: FAR, z: 0 };
     load(regions, home)?;
     let holds = time_holds(rt, regions, home)?;

@@ -14,12 +14,19 @@ const TICKS: u64 = 1_000_000;
 /// Prints how many bytes a second each form of a report is made at.
 pub fn run<R: Clock + Print>(rt: &R, alloc: Global) -> io::Result<()> {
     let closing = quiet_ticks(alloc, TICKS)?;
+    let timed = time_reports(rt, alloc, &closing);
+    drop(closing);
+    timed
+}
+
+/// Prints how many bytes a second each form of the report of this closing is made at.
+fn time_reports<R: Clock + Print>(rt: &R, alloc: Global, closing: &Closing) -> io::Result<()> {
     let start = Instant::now(rt)?;
-    let text = report(alloc, &closing)?.len() as u64;
+    let text = report(alloc, closing)?.len() as u64;
     let rate = per_second(text, start.elapsed(rt)?);
     println!(rt; "report, text: {text} bytes, {rate} a second")?;
     let start = Instant::now(rt)?;
-    let form = report_json(alloc, &closing)?.len() as u64;
+    let form = report_json(alloc, closing)?.len() as u64;
     let rate = per_second(form, start.elapsed(rt)?);
     println!(rt; "report, JSON: {form} bytes, {rate} a second")
 }
@@ -46,17 +53,7 @@ pub fn bare_opening(alloc: Global) -> Opening {
 fn quiet_ticks(alloc: Global, ticks: u64) -> Result<Closing, AllocError> {
     let mut history = Sequence::new(alloc);
     for tick in 0..ticks {
-        history.push(entry(Event::Begin {
-            worker: 1,
-            region: tick,
-        }))?;
-        history.push(entry(Event::End {
-            worker: 1,
-            region: tick,
-            tick,
-            ran: Sequence::new(alloc),
-            accepts: Sequence::new(alloc),
-        }))?;
+        push_tick(alloc, &mut history, tick)?;
     }
     Ok(Closing {
         opening: bare_opening(alloc),
@@ -67,6 +64,21 @@ fn quiet_ticks(alloc: Global, ticks: u64) -> Result<Closing, AllocError> {
         entities: Sequence::new(alloc),
         blocks: Sequence::new(alloc),
     })
+}
+
+/// Puts the begin and the end of a tick behind a history.
+fn push_tick(alloc: Global, history: &mut Sequence<Entry>, tick: u64) -> Result<(), AllocError> {
+    history.push(entry(Event::Begin {
+        worker: 1,
+        region: tick,
+    }))?;
+    history.push(entry(Event::End {
+        worker: 1,
+        region: tick,
+        tick,
+        ran: Sequence::new(alloc),
+        accepts: Sequence::new(alloc),
+    }))
 }
 
 /// The first worker recorded the event.

@@ -1,6 +1,7 @@
 //! A script of some sixteen million bytes, and a world of half a million block lines in no order, read and printed.
 
 use crate::rate::per_second;
+use fol_model::{Opening, Script};
 use fol_script::{print_script, print_world, read_script, read_world};
 use std::alloc::{AllocError, Global};
 use std::fmt::Write;
@@ -26,10 +27,23 @@ fn run_script<R: Clock + Print>(rt: &R, alloc: Global) -> io::Result<()> {
     let Ok(script) = read_script(alloc, text.as_bytes(), 1) else {
         return println!(rt; "script: not read");
     };
+    let shown = show_script(rt, alloc, &script, bytes, start);
+    drop(script);
+    shown
+}
+
+/// Prints how fast a script is read, which began at this moment, and how fast it is printed.
+fn show_script<R: Clock + Print>(
+    rt: &R,
+    alloc: Global,
+    script: &Script,
+    bytes: u64,
+    start: Instant,
+) -> io::Result<()> {
     let rate = per_second(bytes, start.elapsed(rt)?);
     println!(rt; "script, read: {bytes} bytes, {rate} a second")?;
     let start = Instant::now(rt)?;
-    let printed = print_script(alloc, &script)?.len() as u64;
+    let printed = print_script(alloc, script)?.len() as u64;
     let rate = per_second(printed, start.elapsed(rt)?);
     println!(rt; "script, printed: {printed} bytes, {rate} a second")
 }
@@ -41,10 +55,23 @@ fn run_world<R: Clock + Print>(rt: &R, alloc: Global) -> io::Result<()> {
     let Ok(world) = read_world(alloc, text.as_bytes()) else {
         return println!(rt; "world: not read");
     };
+    let shown = show_world(rt, alloc, &world, bytes, start);
+    drop(world);
+    shown
+}
+
+/// Prints how fast a world is read, which began at this moment, and how fast it is printed.
+fn show_world<R: Clock + Print>(
+    rt: &R,
+    alloc: Global,
+    world: &Opening,
+    bytes: u64,
+    start: Instant,
+) -> io::Result<()> {
     let rate = per_second(bytes, start.elapsed(rt)?);
     println!(rt; "world, read: {bytes} bytes, {rate} a second")?;
     let start = Instant::now(rt)?;
-    let printed = print_world(alloc, &world)?.len() as u64;
+    let printed = print_world(alloc, world)?.len() as u64;
     let rate = per_second(printed, start.elapsed(rt)?);
     println!(rt; "world, printed: {printed} bytes, {rate} a second")
 }

@@ -54,15 +54,47 @@ fn compare<R: Threads + Wait + Sync + Clock + Print>(
     let LiveAndSeats { live, mut seats } = start(alloc, 2)?;
     let seat = take_seat(&live, &mut seats);
     let mut caller = take_seat(&live, &mut seats);
-    load(rt, &live, &mut caller, REGIONS)?;
-    let rows = live.owner_rows(rt, &mut caller)?.rows;
-    let all = u64::from(threads) * LOOKS;
+    let compared = compare_in(rt, alloc, &live, seat, &mut caller, threads);
+    drop(live);
+    compared
+}
+
+/// Look-ups by so many threads at once, in a world in which the regions are then loaded.
+fn compare_in<R: Threads + Wait + Sync + Clock + Print>(
+    rt: &R,
+    alloc: Global,
+    live: &Live,
+    seat: Seat,
+    caller: &mut Seat,
+    threads: u32,
+) -> io::Result<()>
+    requires threads { (0 < threads) × (threads ≤ 64) }
+    requires view { seat.lock ≡ live_id live.now }
+    requires caller { caller.old.lock ≡ live_id live.now }
+{
+    let rows = load_rows(rt, live, caller, REGIONS)?;
     let found = AtomicU64::new(0);
-    let view = per_second(all, time_view(rt, alloc, &live, seat, threads, &found)?);
+    let view = time_view(rt, alloc, live, seat, threads, &found);
     let rows = Mutex::new(rows);
-    let mutex = per_second(all, time_mutex(rt, alloc, threads, &rows, &found)?);
+    let mutex = time_mutex(rt, alloc, threads, &rows, &found);
     let rows = RwLock::new(rows.into_inner());
-    let rw_lock = per_second(all, time_rw_lock(rt, alloc, threads, &rows, &found)?);
+    let rw_lock = time_rw_lock(rt, alloc, threads, &rows, &found);
+    drop(rows);
+    show_looks(rt, threads, view?, mutex?, rw_lock?)
+}
+
+/// Prints how many look-ups a second so many threads made in these times.
+fn show_looks<R: Print>(
+    rt: &R,
+    threads: u32,
+    view: Duration,
+    mutex: Duration,
+    rw_lock: Duration,
+) -> io::Result<()> {
+    let all = u64::from(threads) * LOOKS;
+    let view = per_second(all, view);
+    let mutex = per_second(all, mutex);
+    let rw_lock = per_second(all, rw_lock);
     println!(rt;
         "view, threads {threads}: {view} look-ups a second, under Mutex {mutex}, under RwLock {rw_lock}"
     )
@@ -75,10 +107,41 @@ fn publish<R: Wait + Clock + Print>(rt: &R, alloc: Global, regions: u32) -> io::
     let LiveAndSeats { live, mut seats } = start(alloc, 2)?;
     let seat = take_seat(&live, &mut seats);
     let mut caller = take_seat(&live, &mut seats);
-    load(rt, &live, &mut caller, regions)?;
-    let sections = live.owner_rows(rt, &mut caller)?.rows.len();
-    let rate = per_second(REFRESHES, time_refreshes(rt, alloc, &live, seat)?);
+    let published = publish_in(rt, alloc, &live, seat, &mut caller, regions);
+    drop(live);
+    published
+}
+
+/// Publications of the owners of so many regions, in a world in which they are then loaded.
+fn publish_in<R: Wait + Clock + Print>(
+    rt: &R,
+    alloc: Global,
+    live: &Live,
+    seat: Seat,
+    caller: &mut Seat,
+    regions: u32,
+) -> io::Result<()>
+    requires regions { regions ≤ 10000 }
+    requires view { seat.lock ≡ live_id live.now }
+    requires caller { caller.old.lock ≡ live_id live.now }
+{
+    let sections = load_rows(rt, live, caller, regions)?.len();
+    let rate = per_second(REFRESHES, time_refreshes(rt, alloc, live, seat)?);
     println!(rt; "view, sections {sections}: {rate} publications a second")
+}
+
+/// The rows of the owners, once a chunk is loaded for each of so many regions.
+fn load_rows<R: Wait>(
+    rt: &R,
+    live: &Live,
+    caller: &mut Seat,
+    regions: u32,
+) -> Result<Vec<OwnerRow>, AllocError>
+    requires regions { regions ≤ 10000 }
+    requires own { caller.old.lock ≡ live_id live.now }
+{
+    load(rt, live, caller, regions)?;
+    Ok(live.owner_rows(rt, caller)?.rows)
 }
 
 /// Loads a chunk for each of so many regions.
