@@ -2,12 +2,12 @@
 
 ghost use Rattle.std.specs.Prelude.{◌≡◌, ◌++◌, [], ◌∷◌, codes, decimal, IfOk, string_bytes};
 ghost use Rattle.fol_model.specs.Nesting.{deed_of};
-ghost use Rattle.fol_model.specs.ReportWords.{action_words, block_words};
+ghost use Rattle.fol_model.specs.ReportWords.{action_words, block_words, chunk_words};
 ghost use Rattle.fol_report.specs.Spaced.{spaced};
 
 use crate::tail::Tail;
-use crate::words::{push_block, put_block, put_chunk, put_number, put_word};
-use fol_model::{Action, BlockPos};
+use crate::words::{push_block, push_chunk, put_block, put_chunk, put_number, put_word};
+use fol_model::{Action, BlockPos, ChunkPos};
 use std::alloc::AllocError;
 
 /// Puts the words of an action that has no other inside.
@@ -59,6 +59,33 @@ fn put_set(out: &mut String, at: BlockPos, id: u16) -> Result<(), AllocError>
     words.put(out)
 }
 
+/// Puts the words of a post but for those of the action that it asks for.
+fn put_posts(out: &mut String, chunk: ChunkPos, delay: u32) -> Result<(), AllocError>
+    ensures { IfOk result (λ _. string_bytes out.new
+        ≡ string_bytes out.old ++ spaced (codes "post" ∷ chunk_words chunk ++ decimal delay
+        ∷ [])) }
+{
+    let mut words = Tail::new();
+    words.push_short(delay);
+    words.push_word(b" ");
+    push_chunk(&mut words, chunk);
+    words.push_word(b" post");
+    words.put(out)
+}
+
+/// Puts how often an action is done, and how often it still is.
+fn put_every(out: &mut String, period: u32, left: u32) -> Result<(), AllocError>
+    ensures { IfOk result (λ _. string_bytes out.new
+        ≡ string_bytes out.old ++ spaced (codes "every" ∷ decimal period ∷ decimal left ∷ [])) }
+{
+    let mut words = Tail::new();
+    words.push_short(left);
+    words.push_word(b" ");
+    words.push_short(period);
+    words.push_word(b" every ");
+    words.put(out)
+}
+
 /// Puts the words of an action, from the outside in.
 #[tactic(auto, unfolding(fol_model::specs::ReportWords::action_words))]
 pub fn put_action(out: &mut String, action: &Action) -> Result<(), AllocError>
@@ -71,9 +98,7 @@ pub fn put_action(out: &mut String, action: &Action) -> Result<(), AllocError>
             delay,
             action,
         } => {
-            put_word(out, "post")?;
-            put_chunk(out, *chunk)?;
-            put_number(out, *delay)?;
+            put_posts(out, *chunk, *delay)?;
             put_action(out, action.get())
         }
         Action::Every {
@@ -81,9 +106,7 @@ pub fn put_action(out: &mut String, action: &Action) -> Result<(), AllocError>
             left,
             action,
         } => {
-            put_word(out, "every")?;
-            put_number(out, *period)?;
-            put_number(out, *left)?;
+            put_every(out, *period, *left)?;
             put_action(out, action.get())
         }
         _ => put_plain(out, action),

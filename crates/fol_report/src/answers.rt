@@ -1,6 +1,6 @@
 //! The words of answers: what a load, an unload, a post and a task came to.
 
-ghost use Rattle.std.specs.Prelude.{◌≡◌, ◌++◌, [], ◌∷◌, codes, decimal, flat_map, IfOk, string_bytes};
+ghost use Rattle.std.specs.Prelude.{◌≡◌, ◌+◌, ◌≤◌, ◌++◌, [], ◌∷◌, length, codes, decimal, flat_map, IfOk, string_bytes};
 ghost use Rattle.fol_model.specs.ReportWords.{accept_words, full_words, loaded_words, outcome_word, ran_words, unloaded_words};
 ghost use Rattle.fol_report.specs.Spaced.{spaced};
 
@@ -76,18 +76,32 @@ pub fn put_all_accepts(out: &mut String, answers: &[Accept]) -> Result<(), Alloc
     Ok(())
 }
 
-/// Puts what a task came to.
-fn put_outcome(out: &mut String, outcome: Outcome) -> Result<(), AllocError>
-    ensures { IfOk result (λ _. string_bytes out.new
-        ≡ string_bytes out.old ++ 32 ∷ outcome_word outcome) }
+/// Puts what a task came to in front of a text.
+#[inline]
+fn push_outcome(words: &mut Tail, outcome: Outcome)
+    requires { length words.old + 9 ≤ 80 }
+    ensures text { words.new ≡ (32 ∷ outcome_word outcome) ++ words.old }
+    ensures len { length words.new ≤ length words.old + 9 }
 {
     match outcome {
-        Outcome::Done => put_word(out, "done"),
-        Outcome::Foreign => put_word(out, "foreign"),
-        Outcome::Absent => put_word(out, "absent"),
-        Outcome::Full => put_word(out, "full"),
-        Outcome::NoTicket => put_word(out, "noticket"),
+        Outcome::Done => words.push_word(b" done"),
+        Outcome::Foreign => words.push_word(b" foreign"),
+        Outcome::Absent => words.push_word(b" absent"),
+        Outcome::Full => words.push_word(b" full"),
+        Outcome::NoTicket => words.push_word(b" noticket"),
     }
+}
+
+/// Puts the number and the outcome of a task that ran.
+fn put_one_ran(out: &mut String, task: Ran) -> Result<(), AllocError>
+    ensures { IfOk result (λ _. string_bytes out.new
+        ≡ string_bytes out.old ++ spaced (ran_words task)) }
+{
+    let mut words = Tail::new();
+    push_outcome(&mut words, task.outcome);
+    words.push_number(task.number);
+    words.push_word(b" ");
+    words.put(out)
 }
 
 /// Puts the number and the outcome of each task that ran.
@@ -96,8 +110,7 @@ pub fn put_all_ran(out: &mut String, ran: &[Ran]) -> Result<(), AllocError>
         ≡ string_bytes out.old ++ spaced (flat_map ran_words ran.now)) }
 {
     for task in ran {
-        put_number(out, task.number)?;
-        put_outcome(out, task.outcome)?;
+        put_one_ran(out, *task)?;
     }
     Ok(())
 }

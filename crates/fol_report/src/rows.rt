@@ -2,15 +2,15 @@
 
 ghost use Rattle.std.specs.Prelude.{◌≡◌, [], ◌∷◌, ◌++◌, codes, decimal, IfOk, string_bytes};
 ghost use Rattle.std.specs.Fmt.{signed_decimal};
-ghost use Rattle.fol_model.specs.ReportWords.{block_row_words, block_words, entity_words, owner_words, region_words, task_words};
+ghost use Rattle.fol_model.specs.ReportWords.{block_row_words, block_words, chunk_words, entity_words, owner_words, region_words, task_words};
 ghost use Rattle.fol_report.specs.Spaced.{joined};
 
 use crate::actions::put_action;
 use crate::lines::Line;
 use crate::tail::Tail;
-use crate::words::{push_block, put_block, put_number};
+use crate::words::{push_block, push_chunk, put_block, put_number};
 use fol_model::{
-    BlockAt, BlockPos, EntityRow, OwnerRow, Place, RegionRow, SectionPos, State, TaskRow,
+    BlockAt, BlockPos, ChunkPos, EntityRow, OwnerRow, Place, RegionRow, SectionPos, State, TaskRow,
 };
 use std::alloc::AllocError;
 
@@ -44,8 +44,7 @@ impl Line for TaskRow {
     ghost words = { task_words };
 
     fn put(&self, out: &mut String) -> Result<(), AllocError> {
-        let (number, at) = (self.task.number, self.task.chunk);
-        write!(out, "task {number} {} {} {}", at.x, at.z, self.rest)?;
+        put_waiting(out, self.task.number, self.task.chunk, self.rest)?;
         put_action(out, &self.task.action)
     }
 }
@@ -74,6 +73,21 @@ impl Line for BlockAt {
     fn put(&self, out: &mut String) -> Result<(), AllocError> {
         put_block_row(out, self.at, self.id)
     }
+}
+
+/// Puts what the line of a waiting task begins with: all but its action.
+fn put_waiting(out: &mut String, number: u64, at: ChunkPos, rest: u32) -> Result<(), AllocError>
+    ensures { IfOk result (λ _. string_bytes out.new
+        ≡ string_bytes out.old ++ joined (codes "task" ∷ decimal number ∷ chunk_words at
+        ++ decimal rest ∷ [])) }
+{
+    let mut line = Tail::new();
+    line.push_short(rest);
+    line.push_word(b" ");
+    push_chunk(&mut line, at);
+    line.push_number(number);
+    line.push_word(b"task ");
+    line.put(out)
 }
 
 /// Puts the line of a block with a number.

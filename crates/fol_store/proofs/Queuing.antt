@@ -43,6 +43,7 @@ module _ (s : Stock) (bags : List Slot) (spare slots id : ℕ) (r : RegionData) 
     unfolding next_of
     roomier same long spare_same slots_same = record {
       found = one_found s bags spare slots id filled e h same.things;
+      places = refl;
       arrivals = refl;
       contents = same_flat s t (one_found s bags spare slots id filled e h same.things);
       tasks = same_jobs s t (one_found s bags spare slots id filled e h same.things);

@@ -17,6 +17,7 @@ pub record SameMeaning (old new : Stock) : Type 0 where
 -- only how much more a bag can take in may differ
 pub record Roomier (old new : Stock) : Type 0 where
   pub found : (k : Key) → found new k ≡ found old k
+  pub places : new.places ≡ old.places
   pub arrivals : new.arrivals ≡ old.arrivals
   pub contents : flat_of new ≡ flat_of old
   pub tasks : jobs_of new ≡ jobs_of old

@@ -1,5 +1,6 @@
--- The tasks that a task asks for whatever the world is like.
+-- The tasks that a task asks for whatever the world is like, and what is taken for them before it runs.
 use Rattle.std.specs.Prelude.{◌-◌, Option, Some, None, nat_le, if◌then◌else◌}
+use Rattle.fol_model.specs.Deed.{Deed}
 use Rattle.fol_model.specs.Nesting.{action_of}
 use Rattle.fol_model.specs.ActionStep.{plain_of}
 use Rattle.fol_model.specs.declared.places.ChunkPos.{ChunkPos}
@@ -19,5 +20,15 @@ abbrev pub repeated_by : ChunkPos → Action → Option Wish
 repeated_by c (Every period left inner) = if nat_le 2 left then Some (record { chunk = c; delay = period; action = Every period (left - 1) inner; back = None }) else None
 repeated_by c _ = None
 
+-- the action of the task that a `Post` asks for
+abbrev pub own_in : Action → Option Action
+own_in (Post c d inner) = Some (action_of inner)
+own_in _ = None
+
+-- the action inside one that runs once more
+abbrev pub again_in : Action → Option Deed
+again_in (Every period left inner) = if nat_le 2 left then Some inner else None
+again_in _ = None
+
 abbrev pub prepared_of : Task → Prepared
-prepared_of t = record { own = posted_by (plain_of t.action); again = repeated_by t.chunk t.action }
+prepared_of t = record { own = own_in (plain_of t.action); again = again_in t.action }

@@ -1,20 +1,20 @@
-//! What a task asks for whatever the world is like, made before the tasks run.
+//! What is taken for the tasks that a task asks for whatever the world is like, before the tasks run.
 
 ghost use Rattle.std.specs.Prelude.{◌≡◌, ◌+◌, ◌<◌, ◌≤◌, ◌*◌, map, length, IfOk};
 ghost use Rattle.fol_model.specs.ActionStep.{plain_of as plain_action_of};
-ghost use Rattle.fol_tick.specs.Prepared.{prepared_of, posted_by, repeated_by};
+ghost use Rattle.fol_tick.specs.Prepared.{again_in, own_in, posted_by, prepared_of, repeated_by};
 
-use fol_model::{Action, ChunkPos, Nested, Task, Wish};
+use fol_model::{Action, Nested, Task, Wish};
 use std::alloc::{AllocError, Global};
 use std::collections::VecDeque;
 
-/// The tasks that one task asks for, but for the arrival of an entity that it sends.
+/// The actions of the tasks that one task asks for, but for the arrival of an entity that it sends.
 #[derive(Drop)]
 pub(crate) struct Prepared {
-    /// What its plain action posts.
-    pub(crate) own: Option<Wish>,
-    /// The task again.
-    pub(crate) again: Option<Wish>,
+    /// That of the task that its plain action posts.
+    pub(crate) own: Option<Action>,
+    /// The one inside its own, where it runs again.
+    pub(crate) again: Option<Nested>,
 }
 
 /// The action without the `Every` round it.
@@ -27,62 +27,48 @@ pub(crate) fn plain_of(action: &Action) -> &Action
     }
 }
 
-/// The task that an action posts.
-fn post(alloc: Global, plain: &Action) -> Result<Option<Wish>, AllocError>
-    ensures { IfOk result (λ wish. wish ≡ posted_by plain.now) }
+/// The action of the task that an action posts.
+fn own_in(alloc: Global, plain: &Action) -> Result<Option<Action>, AllocError>
+    ensures { IfOk result (λ own. own ≡ own_in plain.now) }
 {
     match plain {
         Action::Post {
-            chunk,
-            delay,
+            chunk: _,
+            delay: _,
             action,
-        } => Ok(Some(Wish {
-            chunk: *chunk,
-            delay: *delay,
-            action: action.get().copy(alloc)?,
-            back: None,
-        })),
+        } => Ok(Some(action.get().copy(alloc)?)),
         _ => Ok(None),
     }
 }
 
-/// The action again after its period, one time fewer, where it runs at least twice.
-fn repeat(alloc: Global, chunk: ChunkPos, action: &Action) -> Result<Option<Wish>, AllocError>
-    ensures { IfOk result (λ wish. wish ≡ repeated_by chunk action.now) }
+/// The action inside one that runs at least twice.
+fn again_in(alloc: Global, action: &Action) -> Result<Option<Nested>, AllocError>
+    ensures { IfOk result (λ again. again ≡ again_in action.now) }
 {
     match action {
         Action::Every {
-            period,
+            period: _,
             left,
             action: inner,
         } if *left >= 2 => {
             let copied = inner.get().copy(alloc)?;
-            Ok(Some(Wish {
-                chunk,
-                delay: *period,
-                action: Action::Every {
-                    period: *period,
-                    left: *left - 1,
-                    action: Nested::new(alloc, copied)?,
-                },
-                back: None,
-            }))
+            Ok(Some(Nested::new(alloc, copied)?))
         }
         _ => Ok(None),
     }
 }
 
-/// What a task asks for.
+/// What is taken for a task.
 fn prepared_for(alloc: Global, task: &Task) -> Result<Prepared, AllocError>
     ensures { IfOk result (λ prepared. prepared ≡ prepared_of task.now) }
 {
     Ok(Prepared {
-        own: post(alloc, plain_of(&task.action))?,
-        again: repeat(alloc, task.chunk, &task.action)?,
+        own: own_in(alloc, plain_of(&task.action))?,
+        again: again_in(alloc, &task.action)?,
     })
 }
 
-/// What each of the tasks asks for.
+/// What is taken for each of the tasks.
 pub(crate) fn prepare(alloc: Global, tasks: &[Task]) -> Result<VecDeque<Prepared>, AllocError>
     ensures { IfOk result (λ prepared. prepared.items ≡ map prepared_of tasks.now) }
 {
@@ -91,4 +77,54 @@ pub(crate) fn prepare(alloc: Global, tasks: &[Task]) -> Result<VecDeque<Prepared
         prepared.push_back(prepared_for(alloc, task)?)?;
     }
     Ok(prepared)
+}
+
+/// The task that an action posts.
+pub(crate) fn posted(plain: &Action, own: Option<Action>) -> Option<Wish>
+    requires { own ≡ own_in plain.now }
+    ensures { result ≡ posted_by plain.now }
+{
+    match plain {
+        Action::Post {
+            chunk,
+            delay,
+            action: _,
+        } => match own {
+            Some(action) => Some(Wish {
+                chunk: *chunk,
+                delay: *delay,
+                action,
+                back: None,
+            }),
+            None => unreachable!(),
+        },
+        _ => None,
+    }
+}
+
+/// The task again after its period, one time fewer, where it runs at least twice.
+pub(crate) fn repeated(task: &Task, again: Option<Nested>) -> Option<Wish>
+    requires { again ≡ again_in task.now.action }
+    ensures { result ≡ repeated_by task.now.chunk task.now.action }
+{
+    match &task.action {
+        Action::Every {
+            period,
+            left,
+            action: _,
+        } => match again {
+            Some(inner) => Some(Wish {
+                chunk: task.chunk,
+                delay: *period,
+                action: Action::Every {
+                    period: *period,
+                    left: *left - 1,
+                    action: inner,
+                },
+                back: None,
+            }),
+            None => None,
+        },
+        _ => None,
+    }
 }

@@ -8,13 +8,13 @@ ghost use Rattle.fol_model.specs.ActionStep.{stands, at_id, standing_of, plain_o
 ghost use Rattle.fol_chunks.specs.Contents.{flat_of, is_recorded};
 ghost use Rattle.fol_tick.specs.Calls.{HostCall, is_hosted, outcome_of_load, outcome_of_unload};
 ghost use Rattle.fol_tick.specs.Effects.{Acts, IsCallOf, outcome_given};
-ghost use Rattle.fol_tick.specs.Prepared.{posted_by, prepared_of};
+ghost use Rattle.fol_tick.specs.Prepared.{own_in, prepared_of};
 ghost use Rattle.fol_tick.specs.Runs.{arrival_of, TasksRan};
 ghost use Rattle.fol_tick.specs.Logs.{stage_at};
 
 use crate::host::Host;
 use crate::log::OpenLog;
-use crate::prepared::{Prepared, plain_of};
+use crate::prepared::{Prepared, plain_of, posted, repeated};
 use fol_chunks::Chunks;
 use fol_keyed::ChunkList;
 use fol_model::{
@@ -183,10 +183,15 @@ fn unload<H: Host>(alloc: Global, c: ChunkPos, host: &mut H) -> Result<Effect, A
 }
 
 /// Acts on the blocks and entities. Loads and unloads, which need a host, change nothing here.
-fn act_here(recorded: &ChunkList, chunks: &mut Chunks, action: &Action, own: Option<Wish>) -> Effect
+fn act_here(
+    recorded: &ChunkList,
+    chunks: &mut Chunks,
+    action: &Action,
+    own: Option<Action>,
+) -> Effect
     requires spare { 1 ≤ chunks.old.spare }
     requires fresh { All (λ id. IsNone ((flat_of chunks.old).standing id)) (arrival_of action.now) }
-    requires own { own ≡ posted_by action.now }
+    requires own { own ≡ own_in action.now }
     ensures acts { Acts (is_recorded recorded.now.chunks.now) Outcome.Done action.now
         (flat_of chunks.old) (flat_of chunks.new) result }
     ensures spare { chunks.old.spare ≤ chunks.new.spare + 1 }
@@ -198,7 +203,7 @@ fn act_here(recorded: &ChunkList, chunks: &mut Chunks, action: &Action, own: Opt
         Action::Arrive(entity) => arrive(chunks, *entity),
         Action::Post { .. } => Effect {
             outcome: Outcome::Done,
-            wish: own,
+            wish: posted(action, own),
         },
         Action::Load(_) | Action::Unload(_) | Action::Every { .. } => quiet(Outcome::Done),
     }
@@ -210,13 +215,13 @@ fn act<H: Host>(
     recorded: &ChunkList,
     chunks: &mut Chunks,
     action: &Action,
-    own: Option<Wish>,
+    own: Option<Action>,
     host: &mut H,
 ) -> Result<Effect, AllocError>
     requires spare { 1 ≤ chunks.old.spare }
     requires fresh { All (λ id. IsNone ((flat_of chunks.old).standing id)) (arrival_of action.now) }
     requires limits { IsTrue (is_action action.now) }
-    requires own { own ≡ posted_by action.now }
+    requires own { own ≡ own_in action.now }
     ensures ok { IfOk result (λ e. (calls : List HostCall) × H.reaches host.old calls host.new
         × IsCallOf action.now calls
         × Acts (is_recorded recorded.now.chunks.now) (outcome_given calls) action.now
@@ -266,6 +271,6 @@ pub(crate) fn run_task<H: Host>(
     let Prepared { own, again } = prepared;
     let action = plain_of(&task.action);
     let Effect { outcome, wish } = act(alloc, recorded, chunks, action, own, host)?;
-    log.record(task.number, outcome, wish, again);
+    log.record(task.number, outcome, wish, repeated(task, again));
     Ok(())
 }

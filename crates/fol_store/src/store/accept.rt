@@ -5,11 +5,12 @@ ghost use Rattle.std.specs.Option.{ForSome};
 ghost use Rattle.fol_model.specs.Job.{queued};
 ghost use Rattle.fol_model.specs.ActionStep.{at_id};
 ghost use Rattle.fol_model.specs.declared.places.ChunkPos.{ChunkPos};
+ghost use Rattle.fol_bags.specs.Places.{place_at};
 ghost use Rattle.fol_store.specs.Bag.{Stirred, disturbed};
 ghost use Rattle.fol_store.specs.Steps.{Roomier, TakesTask};
 
 use crate::store::Store;
-use fol_bags::slots;
+use fol_bags::{Place, slots};
 use fol_model::{ChunkPos, Task};
 use fol_queues::Dated;
 
@@ -32,9 +33,10 @@ impl Store {
         ensures spare { self.old.spare ≤ self.new.spare + 1 }
         ensures slots { self.old.slots ≤ self.new.slots }
     {
-        match self.bag_with_room(task.chunk) {
+        let place = self.places.at(task.chunk);
+        match self.room_at(place, task.chunk) {
             Some(id) => self.queue_in(id, task, delay),
-            None => self.hold_back(task, delay),
+            None => self.hold_back(place, task, delay),
         }
     }
 
@@ -43,7 +45,17 @@ impl Store {
         ensures found { ForSome result (TakesTask self.new c) }
         ensures same { Roomier self.old self.new }
     {
-        match self.places.at(c).bag {
+        let place = self.places.at(c);
+        self.room_at(place, c)
+    }
+
+    /// The bag at the place of the chunk, where it is here and has room for one task more; memory is taken for that.
+    fn room_at(&mut self, place: Place, c: ChunkPos) -> Option<usize>
+        requires there { place ≡ place_at self.old.places c }
+        ensures found { ForSome result (TakesTask self.new c) }
+        ensures same { Roomier self.old self.new }
+    {
+        match place.bag {
             Some(id) => self.make_room(id, c),
             None => None,
         }
@@ -80,8 +92,9 @@ impl Store {
         slots::queue(&mut self.bags, id, Dated { task, deadline });
     }
 
-    /// Queues a task in no bag so far. A listed bag that has its chunk is calm no more.
-    fn hold_back(&mut self, task: Task, delay: u32)
+    /// Queues a task in no bag so far. A listed bag at the place of its chunk is calm no more.
+    fn hold_back(&mut self, place: Place, task: Task, delay: u32)
+        requires there { place ≡ place_at self.old.places task.chunk }
         requires spare { 1 ≤ self.old.spare }
         requires fresh { IsNone (jobs_of self.old task.number) }
         requires delay_low { 1 ≤ delay }
@@ -94,8 +107,6 @@ impl Store {
         ensures spare { self.old.spare ≤ self.new.spare + 1 }
         ensures slots { self.old.slots ≤ self.new.slots }
     {
-        let c = task.chunk;
-        let place = self.places.at(c);
         self.arrivals.push_reserved(Dated {
             task,
             deadline: delay as u64,

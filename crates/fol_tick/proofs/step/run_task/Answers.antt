@@ -1,8 +1,7 @@
-use Rattle.std.proofs.Common.{◌≡◌, ap}
+use Rattle.std.proofs.Common.{◌≡◌}
 use Rattle.fol_chunks.specs.Contents.{is_recorded}
 use Rattle.fol_tick.specs.Prepared.{repeated_by}
 use Rattle.fol_tick.specs.Logs.{stage_at}
-use Rattle.fol_tick.specs.declared.prepared.Prepared.{Prepared}
 use Rattle.fol_tick.proofs.OneTask.{one_ran}
 use Rattle.fol_tick.proofs.step.run_task.Goals as goal
 
@@ -11,8 +10,8 @@ returns-clause-ok g c =
     let done = c.in_ok-outcome.ensures.ok in
     let call = rw c.plain_of-action.ensures at done.2 in
     let acts = rw c.plain_of-action.ensures at done.3 in
-    let again : c.args.prepared.again ≡ repeated_by c.args.task.now.chunk c.args.task.now.action = ap (λ (r : Prepared). r.again) c.requires.prepared in (
+    let again : c.repeated.result ≡ repeated_by c.args.task.now.chunk c.args.task.now.action = c.repeated.ensures in (
       done.0,
       done.1,
-      one_ran c.args.task.now done.0 (is_recorded c.args.recorded.now.chunks.now) (stage_at c.args.chunks.now c.args.log.now) (stage_at c.act.new.chunks c.record.new.self) c.in_ok-outcome.field-0 c.args.prepared.again call acts again c.record.ensures.ran c.record.ensures.wishes,
+      one_ran c.args.task.now done.0 (is_recorded c.args.recorded.now.chunks.now) (stage_at c.args.chunks.now c.args.log.now) (stage_at c.act.new.chunks c.record.new.self) c.in_ok-outcome.field-0 c.repeated.result call acts again c.record.ensures.ran c.record.ensures.wishes,
     )
