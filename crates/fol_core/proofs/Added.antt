@@ -76,6 +76,22 @@ gained_bags g h c ch owed owed' tick recorded f e added given r = elim (cases_Bo
   | inr l ↦ rw (l, ← e) (unsettled_bag h tick owed' recorded (h.owner (section_of g.grid c)) (changed_bags ch f) given added.bags r)
 ]
 
+-- an added hold of a chunk that was held needs no section
+pub none_wanted : (g : GridState) (c : ChunkPos) → Rules g → is_loaded g c ≡ true → nat_eq (wanted g c) 0 ≡ true
+unfolding wanted
+none_wanted g c rules l = let p : 0 < g.holds c = ltb-true 0 (g.holds c) l in
+    eq-eqb (wanted g c) 0 (count_by-none (is_wanted g c) (λ s. elim (cases_Bool (is_within (section_of g.grid c) g.grid.create s)) [
+      | inl e ↦ let here : is_present g s ≡ true = lt-ltb _ _ (rules.margin c s p (leb-true _ _ e)) in rw here refl
+      | inr e ↦ elim (cases_Bool (is_present g s)) [ inl here ↦ rw here refl | inr here ↦ rw (here, e) refl ]
+    ]) all_sections)
+
+-- nor does it change a region
+pub held_changes_none : (g : GridState) (c : ChunkPos) → Rules g → is_loaded g c ≡ true → add_change g c ≡ nothing
+unfolding add_change
+held_changes_none g c rules l =
+    let none = none_wanted g c rules l in
+    elim (cases_Bool (is_full g c)) [ inl f ↦ rw f refl | inr f ↦ rw (f, none) refl ]
+
 module _ (g : GridState) (c : ChunkPos) (rules : Rules g) (ok : IsGrid g.grid) (limits : is_chunk c ≡ true) where
   abbrev t : ℕ
   t = target g c
@@ -118,15 +134,6 @@ module _ (g : GridState) (c : ChunkPos) (rules : Rules g) (ok : IsGrid g.grid) (
   unfolding add_change
   change_new f w n = rw (f, w, n) refl
 
-  -- an added hold of a chunk that was held needs no section
-  pub none_wanted : is_loaded g c ≡ true → nat_eq (wanted g c) 0 ≡ true
-  unfolding wanted
-  none_wanted l = let p : 0 < g.holds c = ltb-true 0 (g.holds c) l in
-      eq-eqb (wanted g c) 0 (count_by-none (is_wanted g c) (λ s. elim (cases_Bool (is_within (section_of g.grid c) g.grid.create s)) [
-        | inl e ↦ let here : is_present g s ≡ true = lt-ltb _ _ (rules.margin c s p (leb-true _ _ e)) in rw here refl
-        | inr e ↦ elim (cases_Bool (is_present g s)) [ inl here ↦ rw here refl | inr here ↦ rw (here, e) refl ]
-      ]) all_sections)
-
   module _ (owed tick : ℕ → ℕ) (recorded : ℕ → Recorded) (f : ℕ → Bag) (bags : (r : ℕ) → IsBagOf g tick owed recorded r (f r)) (zero : (r : ℕ) → g.next ≤ r → tick r ≡ 0) where
     -- a region that owes what it owed
     owes_same : (owed' : ℕ → ℕ) → ((r : ℕ) → owed' r ≡ owed r) → (r : ℕ) → IsBagOf g tick owed' recorded r (f r)
@@ -164,7 +171,7 @@ module _ (g : GridState) (c : ChunkPos) (rules : Rules g) (ok : IsGrid g.grid) (
 
     -- so it is none that makes a region grow
     not_grown : {P : Type 0} → nat_eq (wanted g c) 0 ≡ false → is_loaded g c ≡ true → P
-    not_grown w l = absurd (true≢false (sym (none_wanted l) ∙ w))
+    not_grown w l = absurd (true≢false (sym (none_wanted g c rules l) ∙ w))
 
     counted_bags : (owed' : ℕ → ℕ) → ((r : ℕ) → owed' r ≡ owed r) → AddedBags g (counted g c) c nothing owed owed' tick recorded f
     counted_bags owed' same = record {

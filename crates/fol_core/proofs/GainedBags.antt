@@ -79,7 +79,7 @@ module _ (g : GridState) (c : ChunkPos) (rules : Rules g) (ok : IsGrid g.grid) (
     base = joined_bags (into t drawn) k
 
     fresh : is_loaded g c ≡ false
-    fresh = false_from_ne_true (is_loaded g c) (λ l. true≢false (sym (none_wanted g c rules ok limits l) ∙ grows))
+    fresh = false_from_ne_true (is_loaded g c) (λ l. true≢false (sym (none_wanted g c rules l) ∙ grows))
 
     is_part : (r : ℕ) → IsPart t drawn r → (k r).listed ≡ true → (k r).chunks ≡ filter (is_chunk_of g r) all_chunks
     is_part r (inl e) w = let P : ℕ → Type 0 = λ n. (k n).listed ≡ true → (k n).chunks ≡ filter (is_chunk_of g n) all_chunks in subst P (sym e) own w

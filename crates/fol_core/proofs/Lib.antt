@@ -16,6 +16,7 @@ pub mod ReleasedHands
 pub mod ReleasedBags
 pub mod PartIds
 pub mod Added
+pub mod HeldAgain
 pub mod SinceRuns
 pub mod HandSteps
 pub mod Held

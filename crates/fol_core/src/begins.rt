@@ -26,10 +26,11 @@ use crate::machine::{Core, Room, record};
 use crate::tables::{Tables, grow_history};
 use crate::{BeginAnswer, Next};
 use fol_data::{RegionData, Tick};
-use fol_model::{ChunkPos, Event, Sequence, State, Task, TickLog};
+use fol_model::{ChunkPos, Event, Sequence, State, Task, TickLog, Wish};
 use fol_regions::Regions;
 use fol_store::{Store, Taken};
 use std::alloc::{AllocError, Global};
+use std::mem;
 
 /// What a Begin takes out of the store: the recorded chunks, the due tasks and the rest.
 #[derive(Drop)]
@@ -80,7 +81,8 @@ impl Core {
         let taken = hand_out(&mut self.tables, id, room);
         let event = Event::Begin { worker, region: id };
         record(&mut self.history, &mut self.tables.course, by, event);
-        BeginAnswer::Got(tick_of(self.alloc, worker, id, begun, taken))
+        let wishes = Vec::new(self.alloc);
+        BeginAnswer::Got(tick_of(self.alloc, worker, id, begun, taken, wishes))
     }
 
     /// Begins a tick of a Ready region that owes one and is not prepared, by a worker that records it, and puts it in place of `tick`. It
@@ -105,18 +107,43 @@ impl Core {
         };
         self.room = None;
         grow_history(&mut self.history, &self.tables.course, self.marks.count())?;
-        let room = owed_list(alloc, &self.tables.regions, &mut self.tables.store, id)?;
+        let list = emptied(alloc, &mut tick.due);
+        let room = owed_list(
+            alloc,
+            &self.tables.regions,
+            &mut self.tables.store,
+            id,
+            list,
+        )?;
         let begun = self.history.as_slice().len() as u64;
         let taken = hand_out(&mut self.tables, id, room);
         let event = Event::Begin { worker, region: id };
         record(&mut self.history, &mut self.tables.course, worker, event);
-        *tick = tick_of(self.alloc, worker, id, begun, taken);
+        let wishes = emptied(alloc, &mut tick.log.wishes);
+        *tick = tick_of(self.alloc, worker, id, begun, taken, wishes);
         Ok(Next::Begun)
     }
 }
 
-/// The tick of a Begin that took this out of the store.
-pub(crate) fn tick_of(alloc: Global, worker: u32, region: u64, begun: u64, taken: Begun) -> Tick
+/// The memory of a list, without what is in it.
+fn emptied<T: Drop>(alloc: Global, list: &mut Sequence<T>) -> Vec<T>
+    ensures { result.items ≡ [] }
+{
+    let mut elements = mem::replace(list, Sequence::new(alloc)).into_vec();
+    elements.clear();
+    elements
+}
+
+/// The tick of a Begin that took this out of the store. Its wishes go into a list that is empty.
+pub(crate) fn tick_of(
+    alloc: Global,
+    worker: u32,
+    region: u64,
+    begun: u64,
+    taken: Begun,
+    wishes: Vec<Wish>,
+) -> Tick
+    requires { wishes.items ≡ [] }
     ensures worker { result.worker ≡ worker }
     ensures region { result.region ≡ region }
     ensures begun { result.begun ≡ begun }
@@ -138,7 +165,7 @@ pub(crate) fn tick_of(alloc: Global, worker: u32, region: u64, begun: u64, taken
         body,
         log: TickLog {
             ran: Sequence::new(alloc),
-            wishes: Sequence::new(alloc),
+            wishes: Sequence::of(wishes),
         },
         next: 0,
         moved: false,
@@ -166,18 +193,19 @@ fn due_list(
         DueRoom due store.new (owes_tick (grid_state regions.now) (bag_of store.old) id) id) }
 {
     if owes(regions, store, id) {
-        owed_list(alloc, regions, store, id)
+        owed_list(alloc, regions, store, id, Vec::new(alloc))
     } else {
         Ok(Vec::new(alloc))
     }
 }
 
-/// An empty list with room for the tasks that are due in the next tick of a region that owes one. Its bag is whole then.
+/// The list, emptied, with room for the tasks that are due in the next tick of a region that owes one. Its bag is whole then.
 fn owed_list(
     alloc: Global,
     regions: &Regions,
     store: &mut Store,
     id: u64,
+    list: Vec<Task>,
 ) -> Result<Vec<Task>, AllocError>
     requires given { IsGivenIn (grid_state regions.now) id }
     requires here { (bag_of store.old id).here ≡ true }
@@ -191,7 +219,8 @@ fn owed_list(
     ensures room { IfOk result (λ due. DueRoom due store.new true id) }
 {
     settle(alloc, regions, store, id)?;
-    let mut due = Vec::new(alloc);
+    let mut due = list;
+    due.clear();
     due.reserve(store.count_due(id) as usize)?;
     Ok(due)
 }

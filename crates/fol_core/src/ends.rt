@@ -74,8 +74,9 @@ pub(crate) fn end_tick(
     drop_due(tables, region, tick.due.as_slice());
     body.tick += 1;
     let counter = body.tick;
-    let wishes = VecDeque::from_vec(wishes.into_vec());
-    accept_all(tables, &mut body.chunks, wishes, &mut accepts);
+    let mut wishes = VecDeque::from_vec(wishes.into_vec());
+    accept_all(tables, &mut body.chunks, &mut wishes, &mut accepts);
+    tick.log.wishes = Sequence::of(wishes.into_vec());
     end_region(alloc, tables, region, chunks.into_vec(), body);
     Event::End {
         worker,

@@ -175,30 +175,28 @@ pub(crate) fn hold(tables: &mut Tables, c: ChunkPos) -> AddAnswer
     ensures left { LeavesRoom tables.old tables.new
         (length (add_change (grid_state tables.old.regions) c).created) }
 {
+    tables.regions.keeps_rules();
     let held = tables.regions.holds(c) > 0;
     let answer = tables.regions.add(c);
+    if held {
+        tidy(&mut tables.agenda, &tables.regions, &tables.store);
+        return answer;
+    }
     let home = section_of(&tables.grid, c);
-    follow(&tables.regions, &mut tables.store, home, c, held, answer);
+    follow(&tables.regions, &mut tables.store, home, c, answer);
     add_target(&mut tables.agenda, tables.regions.last().merges());
     tidy(&mut tables.agenda, &tables.regions, &tables.store);
     answer
 }
 
-/// The bags follow the last change of the regions. Where its chunk was not held before, the region of the section has a chunk more.
-fn follow(
-    regions: &Regions,
-    store: &mut Store,
-    s: SectionPos,
-    c: ChunkPos,
-    held: bool,
-    answer: AddAnswer,
-)
+/// The bags follow the last change of the regions, whose chunk was not held before: the region of the section has a chunk more.
+fn follow(regions: &Regions, store: &mut Store, s: SectionPos, c: ChunkPos, answer: AddAnswer)
     requires can { CanFollow store.old regions.now.last }
     requires settles { (h : ℕ → Bag) → ChangesTo regions.now.last (bag_of store.old) h
-        → CanSettle held answer (grid_state regions.now) c ((grid_state regions.now).owner s)
+        → CanSettle false answer (grid_state regions.now) c ((grid_state regions.now).owner s)
         (changed_bags regions.now.last (bag_of store.old)) h }
     ensures bags { Settle (grid_state regions.now)
-        (followed (if held then 0 else (grid_state regions.now).owner s) regions.now.last
+        (followed ((grid_state regions.now).owner s) regions.now.last
         (bag_of store.old)) (bag_of store.new) }
     ensures things { SameThings store.old store.new }
     ensures next { next_of store.new ≡ next_of store.old + length regions.now.last.created }
@@ -206,9 +204,6 @@ fn follow(
     ensures slots { store.old.slots ≤ store.new.slots + length regions.now.last.created }
 {
     change_bags(regions, store);
-    if held {
-        return;
-    }
     gain_chunk(regions, store, s, c, answer);
 }
 

@@ -62,7 +62,7 @@ impl Core {
         let taken = hand_out(&mut self.tables, id, room);
         self.tables.course.size += 1;
         self.marks.add(id);
-        tick_of(self.alloc, 0, id, begun, taken)
+        tick_of(self.alloc, 0, id, begun, taken, Vec::new(self.alloc))
     }
 
     /// Records the Begin of a prepared region, whose tick is out already, by this worker. The region is prepared no more. Its tick counts as

@@ -18,24 +18,24 @@ use fol_model::{Accept, Action, BlockPos, Entity, Wish};
 use fol_regions::AddAnswer;
 use std::collections::VecDeque;
 
-/// Accepts wishes in order, and adds the answers. A send whose chunk can't be held puts its entity back.
+/// Accepts wishes in order, of which none is left, and adds the answers. A send whose chunk can't be held puts its entity back.
 pub(crate) fn accept_all(
     tables: &mut Tables,
     chunks: &mut Chunks,
-    mut wishes: VecDeque<Wish>,
+    wishes: &mut VecDeque<Wish>,
     answers: &mut Vec<Accept>,
 )
-    requires may { MayAcceptAll tables.old chunks.old wishes.items }
-    requires room { vec_len answers.old + length wishes.items ≤ vec_capacity answers.old }
+    requires may { MayAcceptAll tables.old chunks.old wishes.old.items }
+    requires room { vec_len answers.old + length wishes.old.items ≤ vec_capacity answers.old }
     ensures accepted { (w : World) (since : ℕ → ℕ) (r n : ℕ)
-        → Underway tables.old chunks.old w since r (length wishes.items + n)
-        → AreFit (w.recorded r) w wishes.items
-        → Underway tables.new chunks.new (all_accepted w wishes.items) since r n }
+        → Underway tables.old chunks.old w since r (length wishes.old.items + n)
+        → AreFit (w.recorded r) w wishes.old.items
+        → Underway tables.new chunks.new (all_accepted w wishes.old.items) since r n }
     ensures answers { (w : World) (since : ℕ → ℕ) (r n : ℕ)
-        → Underway tables.old chunks.old w since r (length wishes.items + n)
-        → AreFit (w.recorded r) w wishes.items
-        → answers.new.items ≡ answers.old.items ++ answers_to w wishes.items }
-    ensures stack { GrowsBy (length wishes.items) tables.old.agenda tables.new.agenda }
+        → Underway tables.old chunks.old w since r (length wishes.old.items + n)
+        → AreFit (w.recorded r) w wishes.old.items
+        → answers.new.items ≡ answers.old.items ++ answers_to w wishes.old.items }
+    ensures stack { GrowsBy (length wishes.old.items) tables.old.agenda tables.new.agenda }
     ensures size { tables.new.course.size ≡ tables.old.course.size }
 {
     while let Some(wish) = wishes.pop_front() {

@@ -38,7 +38,7 @@ pub returns-clause-accepted : goal.returns-clause-accepted
 returns-clause-accepted c w since r n u fit =
     let none = none_left c.loop-wish.wishes.items _ (sym c.loop-wish.wishes.ok.0) c.in_default.ensures.variant.1 in
     let k = c.loop-wish.invariant.accepted w since r n u fit in
-    all_done c.loop-wish.tables c.loop-wish.chunks w c.args.wishes.items since r n c.args.answers.now.items c.loop-wish.answers.items c.loop-wish.wishes.items none k.0 k.1 k.3
+    all_done c.loop-wish.tables c.loop-wish.chunks w c.args.wishes.now.items since r n c.args.answers.now.items c.loop-wish.answers.items c.loop-wish.wishes.items none k.0 k.1 k.3
 
 pub returns-clause-stack : goal.returns-clause-stack
 returns-clause-stack c =
@@ -49,4 +49,4 @@ pub returns-clause-answers : goal.returns-clause-answers
 returns-clause-answers c w since r n u fit =
     let none = none_left c.loop-wish.wishes.items _ (sym c.loop-wish.wishes.ok.0) c.in_default.ensures.variant.1 in
     let k = c.loop-wish.invariant.accepted w since r n u fit in
-    all_answered c.loop-wish.tables c.loop-wish.chunks w c.args.wishes.items since r n c.args.answers.now.items c.loop-wish.answers.items c.loop-wish.wishes.items none k.0 k.4
+    all_answered c.loop-wish.tables c.loop-wish.chunks w c.args.wishes.now.items since r n c.args.answers.now.items c.loop-wish.answers.items c.loop-wish.wishes.items none k.0 k.4
