@@ -130,7 +130,7 @@ module _ (t : Tables) (v : Contents) (w : World) (since : ℕ → ℕ) (r n : �
   next_now = held_next t v w since r n u x.chunk ok.chunk (next_of t'.store) holds.next
 
   covers_now : Covers t'.agenda.items (add w.grid x.chunk) (bag_of t'.store)
-  covers_now = rw now at holds.agenda.covers
+  covers_now = rw now at holds.covers
 
   -- ---- the chunk can't be held
   module _ (full : is_full w.grid x.chunk ≡ true) (free : IsFree w x) (v' : Contents)

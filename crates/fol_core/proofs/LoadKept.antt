@@ -23,7 +23,7 @@ use Rattle.fol_store.specs.Stock.{bag_of, jobs_of, next_of}
 use Rattle.fol_core.specs.declared.tables.Course.{Course}
 use Rattle.fol_core.specs.declared.tables.Tables.{Tables}
 use Rattle.fol_core.specs.Hands.{at_rest, since}
-use Rattle.fol_core.specs.Agenda.{IsAgenda}
+use Rattle.fol_core.specs.Agenda.{IsAgenda, TopOwes}
 use Rattle.fol_core.specs.Follows.{Holds, load_answer_in, tickets_after}
 use Rattle.fol_core.specs.Stands.{IsCourse, Stands}
 use Rattle.fol_core.proofs.GridRuns.{grid_after}
@@ -80,7 +80,7 @@ module _ (o : Opening) (h : List Entry) (t : Tables) (s : Stands o h t) (c : Chu
     regions_held = held.regions ∙ ap (λ (g : GridState). add g c) s.fits.regions ∙ sym m.grid
 
     pub agenda_held : IsAgenda u.agenda.items (after w e).grid (bag_of u.store)
-    agenda_held = let P : GridState → Type 0 = λ g. IsAgenda u.agenda.items g (bag_of u.store) in subst P regions_held held.agenda
+    agenda_held = let P : GridState → Type 0 = λ g. IsAgenda u.agenda.items g (bag_of u.store) in subst P regions_held (record { covers = held.covers; top = held.top (let Q : GridState → Type 0 = λ g. TopOwes t.agenda.items g (bag_of t.store) in subst Q (sym s.fits.regions) s.fits.agenda.top) })
 
     pub jobs_held : jobs_of u.store ≡ λ n. at_rest (after w e).grid (since o h) n (w.jobs n)
     jobs_held = held.things.jobs ∙ s.fits.stored.jobs ∙ sym (fun_ext (λ n. held_rest o h t s c limits e ok no_begin no_end m n (w.jobs n)))

@@ -33,7 +33,7 @@ use Rattle.fol_store.specs.Stock.{Stock, bag_of, flat_of, jobs_of, next_of}
 use Rattle.fol_core.specs.declared.tables.Tables.{Tables}
 use Rattle.fol_core.specs.Bags.{Alike, AreInOrder, CanJoin, Follow, Joins, joined_bags, opened_bags, unsettled_at}
 use Rattle.fol_core.specs.Begun.{Gathered}
-use Rattle.fol_core.specs.Agenda.{Covers, HaveBags, IsAgenda}
+use Rattle.fol_core.specs.Agenda.{Covers, HaveBags, TopOwes}
 use Rattle.fol_core.specs.Same.{SameThings}
 
 -- the region that has a chunk more after an added hold of c, and 0 where c was held already
@@ -128,7 +128,7 @@ pub record CanHold (t : Tables) (c : ChunkPos) : Type 0 where
   pub room : vec_len t.agenda < vec_capacity t.agenda
   pub tickets : 1 ≤ room_in t.tickets
 
--- the hold was counted, and bags and stack followed; tickets are not said
+-- the hold was counted, and bags and stack followed; tickets are not said. The top of the stack owes a tick if it did before
 pub record Holds (old new : Tables) (c : ChunkPos) : Type 0 where
   pub grid : new.grid ≡ old.grid
   pub regions : grid_state new.regions ≡ add (grid_state old.regions) c
@@ -136,7 +136,8 @@ pub record Holds (old new : Tables) (c : ChunkPos) : Type 0 where
   pub things : SameThings old.store new.store
   pub next : next_of new.store ≡ next_of old.store + length (add_change (grid_state old.regions) c).created
   pub spare : old.store.spare ≤ new.store.spare
-  pub agenda : IsAgenda new.agenda.items (grid_state new.regions) (bag_of new.store)
+  pub covers : Covers new.agenda.items (grid_state new.regions) (bag_of new.store)
+  pub top : TopOwes old.agenda.items (grid_state old.regions) (bag_of old.store) → TopOwes new.agenda.items (grid_state new.regions) (bag_of new.store)
   pub course : new.course ≡ old.course
 
 abbrev pub load_answer_in : GridState → ChunkPos → Loaded
@@ -169,7 +170,8 @@ pub record Posts (old new : Tables) (c : ChunkPos) (d : ℕ) (a : Action) : Type
   pub jobs : jobs_of new.store ≡ at_id (jobs_of old.store) old.course.next_job (Some (queued c d a))
   pub next : next_of new.store ≡ next_of old.store + length (add_change (grid_state old.regions) c).created
   pub tickets : new.tickets.entries ≡ old.tickets.entries
-  pub agenda : IsAgenda new.agenda.items (grid_state new.regions) (bag_of new.store)
+  pub covers : Covers new.agenda.items (grid_state new.regions) (bag_of new.store)
+  pub top : TopOwes old.agenda.items (grid_state old.regions) (bag_of old.store) → TopOwes new.agenda.items (grid_state new.regions) (bag_of new.store)
   pub course : new.course ≡ record old.course { next_job = old.course.next_job + 1 }
 
 -- where the chunk can't be held nothing has changed but for the bags that have to be gathered anew

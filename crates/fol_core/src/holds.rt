@@ -179,7 +179,6 @@ pub(crate) fn hold(tables: &mut Tables, c: ChunkPos) -> AddAnswer
     let held = tables.regions.holds(c) > 0;
     let answer = tables.regions.add(c);
     if held {
-        tidy(&mut tables.agenda, &tables.regions, &tables.store);
         return answer;
     }
     let home = section_of(&tables.grid, c);

@@ -4,22 +4,8 @@ use Rattle.fol_model.specs.GridState.{is_loaded}
 use Rattle.fol_regions.specs.Table.{grid_state}
 use Rattle.fol_regions.specs.Changes.{add_change}
 use Rattle.fol_store.specs.Stock.{bag_of}
-use Rattle.fol_core.proofs.HeldAgain.{bags_stay, none_made, still_covers, still_have}
+use Rattle.fol_core.proofs.HeldAgain.{bags_stay, none_made, still_covers, top_stays}
 use Rattle.fol_core.proofs.holds.hold.Goals as goal
-
-pub tidy-requires-clause-bags : goal.tidy-requires-clause-bags
-tidy-requires-clause-bags c =
-    let t = c.args.tables.now in
-    let g = grid_state t.regions in
-    let held : is_loaded g c.args.c ≡ true = lt-ltb _ _ (rw c.holds-held.ensures at c.if-held.true) in
-    rw c.add-answer.ensures.state (still_have t.grid g c.args.c (bag_of t.store) c.keeps_rules.ensures held t.agenda.items _ c.requires.covers)
-
-pub tidy-requires-clause-covers : goal.tidy-requires-clause-covers
-tidy-requires-clause-covers c =
-    let t = c.args.tables.now in
-    let g = grid_state t.regions in
-    let held : is_loaded g c.args.c ≡ true = lt-ltb _ _ (rw c.holds-held.ensures at c.if-held.true) in
-    rw c.add-answer.ensures.state (still_covers t.grid g c.args.c (bag_of t.store) c.keeps_rules.ensures held t.agenda.items _ c.requires.covers)
 
 pub returns-then-held-clause-held : goal.returns-then-held-clause-held
 returns-then-held-clause-held c =
@@ -34,6 +20,7 @@ returns-then-held-clause-held c =
       things = record { flat = refl; jobs = refl };
       next = omega (arith, made);
       spare = omega arith;
-      agenda = c.tidy.ensures.agenda;
+      covers = rw c.add-answer.ensures.state (still_covers t.grid g c.args.c (bag_of t.store) c.keeps_rules.ensures held t.agenda.items _ c.requires.covers);
+      top = λ top. rw c.add-answer.ensures.state (top_stays t.grid g c.args.c (bag_of t.store) c.keeps_rules.ensures held t.agenda.items top);
       course = refl;
     }
