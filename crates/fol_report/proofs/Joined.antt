@@ -1,13 +1,14 @@
 -- Words one after another are the line of these words.
-use Rattle.std.proofs.Common.{◌≡◌, refl, sym, ap, List, [], ◌++◌, ◌∷◌, codes, decimal, arith}
+use Rattle.std.proofs.Common.{◌≡◌, ℕ, refl, sym, ap, List, [], ◌++◌, ◌∷◌, codes, decimal, arith}
 use Rattle.std.proofs.lemmas.List.{append-nil}
 use Rattle.std.proofs.lemmas.List.Concat.{flat_map-append}
 use Rattle.std.proofs.lemmas.Fmt.{decimal_digit}
 use Rattle.fol_model.specs.LineWords.{Word, lines_of}
 use Rattle.fol_model.specs.TextLines.{line_of}
+use Rattle.fol_model.specs.ReportWords.{end_words}
 use Rattle.fol_model.specs.declared.tasks.Ran.{Ran}
 use Rattle.fol_model.specs.declared.events.Accept.{Accept}
-use Rattle.fol_report.specs.Spaced.{spaced, joined, joined_lines, tasks_words}
+use Rattle.fol_report.specs.Spaced.{spaced, joined, joined_lines}
 
 pub spaced_append : (xs ys : List Word) → spaced (xs ++ ys) ≡ spaced xs ++ spaced ys
 spaced_append xs ys = flat_map-append (λ w. 32 ∷ w) xs ys
@@ -24,5 +25,7 @@ pub joined_lines_of : {R : Type 0} (words : R → List Word) (rows : List R) →
 joined_lines_of words [] = refl
 joined_lines_of words (r ∷ rows) = let e = line_of_joined (words r) in let k = joined_lines_of words rows in rw (e, k) refl
 
-pub none_ran : (ran : List Ran) (accepts : List Accept) → ran ≡ [] → accepts ≡ [] → spaced (tasks_words ran accepts) ≡ codes " ran 0 accepted 0"
-none_ran ran accepts none none' = let zero : decimal 0 ≡ 48 ∷ [] = decimal_digit 0 (omega arith) in rw (none, none', zero) refl
+-- the line of an end, where no task ran and none was asked for
+pub quiet_end : (worker region tick : ℕ) (ran : List Ran) (accepts : List Accept) → ran ≡ [] → accepts ≡ []
+    → joined (end_words worker region tick ran accepts) ≡ joined (codes "end" ∷ decimal worker ∷ decimal region ∷ codes "tick" ∷ decimal tick ∷ codes "ran" ∷ codes "0" ∷ codes "accepted" ∷ codes "0" ∷ [])
+quiet_end worker region tick ran accepts none none' = let zero : decimal 0 ≡ 48 ∷ [] = decimal_digit 0 (omega arith) in rw (none, none', zero) refl

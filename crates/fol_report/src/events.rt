@@ -2,7 +2,7 @@
 
 ghost use Rattle.std.specs.Prelude.{◌≡◌, [], ◌∷◌, ◌++◌, codes, decimal, flat_map, length, IfOk, string_bytes};
 ghost use Rattle.fol_model.specs.ReportWords.{accept_words, action_words, chunk_words, end_words, entry_words, event_words, loaded_words, ran_words, unloaded_words};
-ghost use Rattle.fol_report.specs.Spaced.{joined, spaced, tasks_words};
+ghost use Rattle.fol_report.specs.Spaced.{joined, spaced};
 
 use crate::actions::put_action;
 use crate::answers::{put_accept, put_all_accepts, put_all_ran, put_loaded, put_unloaded};
@@ -20,7 +20,7 @@ fn put_begin(out: &mut String, worker: u32, region: u64) -> Result<(), AllocErro
     let mut line = Tail::new();
     line.push_number(region);
     line.push_word(b" ");
-    line.push_number(worker as u64);
+    line.push_short(worker);
     line.push_word(b"begin ");
     line.put(out)
 }
@@ -47,27 +47,6 @@ fn put_accepted(out: &mut String, accepts: &[Accept]) -> Result<(), AllocError>
     put_all_accepts(out, accepts)
 }
 
-/// Puts that no task ran and that the tick asked for none.
-fn put_no_tasks(out: &mut String) -> Result<(), AllocError>
-    ensures { IfOk result (λ _. string_bytes out.new
-        ≡ string_bytes out.old ++ codes " ran 0 accepted 0") }
-{
-    out.push_str(" ran 0 accepted 0")
-}
-
-/// Puts the tasks that ran and what became of those that the tick asked for; most ticks have neither.
-#[tactic(auto, using(crate::proofs::Joined::spaced_append))]
-fn put_tasks(out: &mut String, ran: &[Ran], accepts: &[Accept]) -> Result<(), AllocError>
-    ensures { IfOk result (λ _. string_bytes out.new
-        ≡ string_bytes out.old ++ spaced (tasks_words ran.now accepts.now)) }
-{
-    if ran.is_empty() && accepts.is_empty() {
-        return put_no_tasks(out);
-    }
-    put_ran(out, ran)?;
-    put_accepted(out, accepts)
-}
-
 /// Puts what the line of an end begins with: which tick it ends.
 fn put_ended(out: &mut String, worker: u32, region: u64, tick: u64) -> Result<(), AllocError>
     ensures { IfOk result (λ _. string_bytes out.new
@@ -79,12 +58,30 @@ fn put_ended(out: &mut String, worker: u32, region: u64, tick: u64) -> Result<()
     line.push_word(b" tick ");
     line.push_number(region);
     line.push_word(b" ");
-    line.push_number(worker as u64);
+    line.push_short(worker);
     line.push_word(b"end ");
     line.put(out)
 }
 
-/// Puts the line of an end: the other of the two most frequent lines.
+/// Puts the line of an end of a tick in which no task ran, and which asked for none: the other of the two most frequent lines.
+fn put_quiet_end(out: &mut String, worker: u32, region: u64, tick: u64) -> Result<(), AllocError>
+    ensures { IfOk result (λ _. string_bytes out.new
+        ≡ string_bytes out.old ++ joined
+        (codes "end" ∷ decimal worker ∷ decimal region ∷ codes "tick" ∷ decimal tick
+        ∷ codes "ran" ∷ codes "0" ∷ codes "accepted" ∷ codes "0" ∷ [])) }
+{
+    let mut line = Tail::new();
+    line.push_word(b" ran 0 accepted 0");
+    line.push_number(tick);
+    line.push_word(b" tick ");
+    line.push_number(region);
+    line.push_word(b" ");
+    line.push_short(worker);
+    line.push_word(b"end ");
+    line.put(out)
+}
+
+/// Puts the line of an end.
 #[tactic(auto, using(crate::proofs::Joined::spaced_append))]
 fn put_end(
     out: &mut String,
@@ -97,8 +94,12 @@ fn put_end(
     ensures { IfOk result (λ _. string_bytes out.new
         ≡ string_bytes out.old ++ joined (end_words worker region tick ran.now accepts.now)) }
 {
+    if ran.is_empty() && accepts.is_empty() {
+        return put_quiet_end(out, worker, region, tick);
+    }
     put_ended(out, worker, region, tick)?;
-    put_tasks(out, ran, accepts)
+    put_ran(out, ran)?;
+    put_accepted(out, accepts)
 }
 
 /// Puts the line of a load.
