@@ -1,5 +1,5 @@
 -- An added hold of a chunk that was held already: bags and stack stay.
-use Rattle.std.proofs.Common.{◌≡◌, ℕ, ◌+◌, refl, ap, true, inl, inr, List, [], ◌++◌, length}
+use Rattle.std.proofs.Common.{◌≡◌, ℕ, refl, ap, true, inl, inr, List, length}
 use Rattle.std.proofs.lemmas.Bool.{cases_Bool}
 use Rattle.std.proofs.lemmas.List.{append-nil}
 use Rattle.fol_model.specs.declared.places.ChunkPos.{ChunkPos}
@@ -10,7 +10,7 @@ use Rattle.fol_model.specs.Rules.{Rules}
 use Rattle.fol_regions.specs.Changes.{Changes, add_change}
 use Rattle.fol_store.specs.Bag.{Bag}
 use Rattle.fol_core.specs.Agenda.{Covers, TopOwes}
-use Rattle.fol_core.specs.Follows.{CanCover, Settle, followed, gaining, target_in}
+use Rattle.fol_core.specs.Follows.{CanCover, Settle, followed, gaining}
 use Rattle.fol_core.proofs.Added.{held_changes_none, none_wanted}
 use Rattle.fol_core.proofs.SettledBags.{gathered_self}
 

@@ -23,7 +23,7 @@ use Rattle.fol_store.specs.Stock.{bag_of, jobs_of, next_of}
 use Rattle.fol_core.specs.declared.tables.Course.{Course}
 use Rattle.fol_core.specs.declared.tables.Tables.{Tables}
 use Rattle.fol_core.specs.Hands.{at_rest, since}
-use Rattle.fol_core.specs.Agenda.{IsAgenda, TopOwes}
+use Rattle.fol_core.specs.Agenda.{Covers, IsAgenda, TopOwes}
 use Rattle.fol_core.specs.Follows.{Holds, load_answer_in, tickets_after}
 use Rattle.fol_core.specs.Stands.{IsCourse, Stands}
 use Rattle.fol_core.proofs.GridRuns.{grid_after}
@@ -71,6 +71,14 @@ module _ (o : Opening) (h : List Entry) (t : Tables) (s : Stands o h t) (c : Chu
   abbrev w : World
   w = world o h
 
+  -- the stack of tables whose top owes a tick if that of t does
+  pub stack_kept : (u : Tables) → Covers u.agenda.items (grid_state u.regions) (bag_of u.store) → (TopOwes t.agenda.items (grid_state t.regions) (bag_of t.store) → TopOwes u.agenda.items (grid_state u.regions) (bag_of u.store))
+      → IsAgenda u.agenda.items (grid_state u.regions) (bag_of u.store)
+  stack_kept u covers top = record {
+    covers = covers;
+    top = let P : GridState → Type 0 = λ g. TopOwes t.agenda.items g (bag_of t.store) in top (subst P (sym s.fits.regions) s.fits.agenda.top);
+  }
+
   -- regions, store and stack after an event that holds c once more
   module _ (e : Event) (ok : Allowed w e) (no_begin : (r : ℕ) → is_begin r e ≡ false) (no_end : (r : ℕ) → is_end r e ≡ false) (m : HeldMore w (after w e) c) (u : Tables) (held : Holds t u c) where
     pub grid_held : u.grid ≡ (after w e).grid.grid
@@ -80,7 +88,7 @@ module _ (o : Opening) (h : List Entry) (t : Tables) (s : Stands o h t) (c : Chu
     regions_held = held.regions ∙ ap (λ (g : GridState). add g c) s.fits.regions ∙ sym m.grid
 
     pub agenda_held : IsAgenda u.agenda.items (after w e).grid (bag_of u.store)
-    agenda_held = let P : GridState → Type 0 = λ g. IsAgenda u.agenda.items g (bag_of u.store) in subst P regions_held (record { covers = held.covers; top = held.top (let Q : GridState → Type 0 = λ g. TopOwes t.agenda.items g (bag_of t.store) in subst Q (sym s.fits.regions) s.fits.agenda.top) })
+    agenda_held = let P : GridState → Type 0 = λ g. IsAgenda u.agenda.items g (bag_of u.store) in subst P regions_held (stack_kept u held.covers held.top)
 
     pub jobs_held : jobs_of u.store ≡ λ n. at_rest (after w e).grid (since o h) n (w.jobs n)
     jobs_held = held.things.jobs ∙ s.fits.stored.jobs ∙ sym (fun_ext (λ n. held_rest o h t s c limits e ok no_begin no_end m n (w.jobs n)))

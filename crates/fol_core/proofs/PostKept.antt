@@ -27,12 +27,12 @@ use Rattle.fol_core.specs.declared.tables.Course.{Course}
 use Rattle.fol_core.specs.declared.tables.Tables.{Tables}
 use Rattle.fol_core.specs.Hands.{at_rest, since, ticker, went}
 use Rattle.fol_core.specs.Bags.{IsBagOf}
-use Rattle.fol_core.specs.Agenda.{IsAgenda, TopOwes}
+use Rattle.fol_core.specs.Agenda.{IsAgenda}
 use Rattle.fol_core.specs.Follows.{Holds, Posts, PostsUnless, accept_in}
 use Rattle.fol_core.specs.Stands.{IsCourse, Stands}
 use Rattle.fol_core.proofs.GridRuns.{grid_after}
 use Rattle.fol_core.proofs.Held.{held_bags, held_flat, held_next, held_posted, held_rest}
-use Rattle.fol_core.proofs.LoadKept.{SameMarks, agenda_held, course_more, grid_held, jobs_held, regions_held}
+use Rattle.fol_core.proofs.LoadKept.{SameMarks, agenda_held, course_more, grid_held, jobs_held, regions_held, stack_kept}
 use Rattle.fol_core.proofs.Longer.{good_of, stands_more}
 use Rattle.fol_core.proofs.SinceRuns.{since_most}
 use Rattle.fol_core.proofs.TicketRuns.{tickets_posted}
@@ -131,7 +131,7 @@ module _ (o : Opening) (h : List Entry) (t : Tables) (s : Stands o h t) (c : Chu
             bags = bags;
           };
           tickets = λ q. ap (λ x. count_at x q) posts.tickets ∙ s.fits.tickets q ∙ sym (ap (λ (x : ChunkPos → ℕ). x q) (tickets_posted (world o h) c d a));
-          agenda = let P : GridState → Type 0 = λ g. IsAgenda u.agenda.items g (bag_of u.store) in subst P (posts.regions ∙ ap (λ (g : GridState). add g c) s.fits.regions ∙ sym m.grid) (record { covers = posts.covers; top = posts.top (let Q : GridState → Type 0 = λ g. TopOwes t.agenda.items g (bag_of t.store) in subst Q (sym s.fits.regions) s.fits.agenda.top) });
+          agenda = let P : GridState → Type 0 = λ g. IsAgenda u.agenda.items g (bag_of u.store) in subst P (posts.regions ∙ ap (λ (g : GridState). add g c) s.fits.regions ∙ sym m.grid) (stack_kept o h t s c limits u posts.covers posts.top);
           course = room_course (world o h) c d a t.course u.course k room s.fits.course posts.course grows;
         })
         (omega arith) (omega arith) (λ x. omega arith)

@@ -1,4 +1,4 @@
-use Rattle.std.proofs.Common.{◌≡◌, refl, sym, ◌∙◌, arith, true, length}
+use Rattle.std.proofs.Common.{◌≡◌, refl, arith, true, length}
 use Rattle.std.proofs.lemmas.Bool.{lt-ltb}
 use Rattle.fol_model.specs.GridState.{is_loaded}
 use Rattle.fol_regions.specs.Table.{grid_state}
