@@ -37,7 +37,10 @@ impl Model for Entities {
 
     ghost Value = { Crowd };
 
-    ghost view = { λ e. record { members = e.walking.items ++ e.still.items; spare = min (vec_capacity e.walking - vec_len e.walking) (vec_capacity e.still - vec_len e.still) } };
+    ghost view = { λ e. record {
+      members = e.walking.items ++ e.still.items;
+      spare = min (vec_capacity e.walking - vec_len e.walking) (vec_capacity e.still - vec_len e.still);
+    } };
 
     ghost invariant = { λ e. AreParted e.walking.items e.still.items };
 }

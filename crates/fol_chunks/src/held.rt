@@ -32,7 +32,11 @@ impl Model for Held {
 
     ghost Value = { Contents };
 
-    ghost view = { λ c. record { blocks = blocks_of c.blocks; entities = c.entities.members; spare = min (room_of c.blocks) c.entities.spare } };
+    ghost view = { λ c. record {
+      blocks = blocks_of c.blocks;
+      entities = c.entities.members;
+      spare = min (room_of c.blocks) c.entities.spare;
+    } };
 
     ghost invariant = { λ c. IsKept c.blocks };
 }

@@ -1,5 +1,5 @@
 -- Which regions an event may touch, and which of them are Ready, as the tables tell it while regions are prepared.
-use Rattle.std.proofs.Common.{◌≡◌, ◌≢◌, ℕ, refl, sym, ◌∙◌, ap, Bool, true, false, inl, inr, ◌&&◌, List}
+use Rattle.std.proofs.Common.{◌≡◌, ◌≢◌, ℕ, ◌<◌, refl, sym, ◌∙◌, ap, Bool, true, false, inl, inr, ◌&&◌, List}
 use Rattle.std.specs.Prelude.{nat_lt, filter, Option, Some, None}
 use Rattle.std.proofs.lemmas.Bool.{cases_Bool, and_from, false_from_ne_true, lt-ltb, true≢false}
 use Rattle.fol_model.specs.declared.events.Entry.{Entry}
@@ -46,6 +46,9 @@ module _ (o : Opening) (h : List Entry) (p : ℕ → Bool) (t : Tables) (s : Sta
   -- ---- whether a region is Ready
   pub ready_marked : (r : ℕ) → p r ≡ true → is_ready ((world o h).grid.state r) ≡ true
   ready_marked r k = let e = s.runs.ahead.is.ready r k in rw e refl
+
+  pub given_marked : (r : ℕ) → p r ≡ true → (r < (world o h).grid.next) × (is_ready ((world o h).grid.state r) ≡ true)
+  given_marked r k = let ready = ready_marked r k in ((good_now o h p t s).sound.rules.below_next r (lives r ready), ready)
 
   pub ready_unmarked : (r : ℕ) → p r ≡ false → is_ready ((world o h).grid.state r) ≡ is_ready_answer (state_answer (grid_state t.regions) r)
   ready_unmarked r off = by_result ∙ ap is_ready_answer (sym (state_unmarked o h p t s r off))

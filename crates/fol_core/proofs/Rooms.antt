@@ -1,22 +1,31 @@
 -- The memory that a Stop and the Begins of prepared regions need stays.
-use Rattle.std.proofs.Common.{◌≡◌, ℕ, ◌+◌, ◌≤◌, ◌<◌, sym, ◌∙◌, ap, arith, false, inl, inr, ◌||◌}
+use Rattle.std.proofs.Common.{◌≡◌, ℕ, Bool, ◌+◌, ◌≤◌, ◌<◌, refl, sym, ◌∙◌, ap, arith, false, inl, inr, ◌||◌}
 use Rattle.std.specs.Prelude.{Option, Some, None, vec_len, vec_capacity}
 use Rattle.std.specs.Global.{Vec}
 use Rattle.fol_model.specs.declared.events.Accept.{Accept}
 use Rattle.fol_model.specs.declared.events.Entry.{Entry}
+use Rattle.fol_model.specs.declared.openings.Opening.{Opening}
 use Rattle.fol_chunks.specs.Contents.{Contents}
 use Rattle.fol_core.specs.declared.machine.Room.{Room}
 use Rattle.fol_core.specs.declared.machine.Room.TheVariants.{Begin, End}
 use Rattle.fol_core.specs.declared.tables.Course.{Course}
 use Rattle.fol_core.specs.declared.tables.Tables.{Tables}
 use Rattle.fol_core.specs.Agenda.{GrowsBy, IsTop}
-use Rattle.fol_core.specs.Room.{AgendaRoom, EndRoom, HasEndRoom, HasPlace, HasRoom}
+use Rattle.fol_core.specs.Ahead.{StandsAhead}
+use Rattle.fol_core.specs.Room.{AgendaRoom, EndRoom, EntryRoom, HasEndRoom, HasPlace, HasRoom}
 use Rattle.fol_core.specs.Same.{SameTables}
 use Rattle.fol_core.specs.Underway.{HasRoomFor}
 
 -- over the lengths and the capacities of two histories
 pub same_room : (c d : Course) (l m a b k : ℕ) → d ≡ c → m ≡ l → a ≤ b → ((c.finished || c.stopped) ≡ false → l + k < a) → (d.finished || d.stopped) ≡ false → m + k < b
 same_room c d l m a b k e s n r x = let y = r (sym (ap (λ (z : Course). z.finished || z.stopped) e) ∙ x) in omega arith
+
+-- a core stands for what it stood for where its history could not grow; it is ready for nothing
+pub not_grown : (o : Opening) (h g : Vec Entry) (p : ℕ → Bool) (t : Tables) (room : Option Room) (early marks : ℕ) → g.items ≡ h.items → vec_len g ≡ vec_len h → vec_capacity h ≤ vec_capacity g
+    → StandsAhead o h.items p t × HasRoom room t h early marks × EntryRoom t.course h early × AgendaRoom t.agenda early
+    → StandsAhead o g.items p t × HasRoom None t g early marks × EntryRoom t.course g early × AgendaRoom t.agenda early
+not_grown o h g p t room early marks items len capacity kept =
+    (rw items kept.0, tt, same_room t.course t.course (vec_len h) (vec_len g) (vec_capacity h) (vec_capacity g) early refl len capacity kept.2, kept.3)
 
 pub room_left : (d : Course) (l m a b k e : ℕ) → k ≡ e → l + 2 + k ≤ a → m ≡ l + 1 → b ≡ a → (d.finished || d.stopped) ≡ false → m + e < b
 room_left d l m a b k e q r s n x = omega arith

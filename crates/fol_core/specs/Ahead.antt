@@ -1,5 +1,5 @@
 -- The tables run ahead of the history: in them a region has begun whose tick is out before a Begin of it is recorded.
-use Rattle.std.specs.Prelude.{ℕ, ◌≡◌, ◌+◌, Bool, true, false, ◌&&◌, ◌||◌, List, [], ◌∷◌, ◌++◌, length, Some}
+use Rattle.std.specs.Prelude.{ℕ, ◌≡◌, ◌+◌, ◌<◌, Bool, true, false, ◌&&◌, ◌||◌, List, [], ◌∷◌, ◌++◌, length, Some}
 use Rattle.fol_model.specs.declared.openings.Opening.{Opening}
 use Rattle.fol_model.specs.declared.events.Entry.{Entry}
 use Rattle.fol_model.specs.declared.events.Event.TheVariants.{Begin}
@@ -16,7 +16,7 @@ use Rattle.fol_laws.specs.LateBegin.{draws_in, ground}
 use Rattle.fol_early_laws.specs.EarlyBegins.{IsAhead}
 use Rattle.fol_core.specs.declared.tables.Tables.{Tables}
 use Rattle.fol_core.specs.Hands.{owner_of, since, went}
-use Rattle.fol_core.specs.Meaning.{Meaning, is_prepared}
+use Rattle.fol_core.specs.Meaning.{Meaning, is_prepared, world_of}
 use Rattle.fol_core.specs.Stands.{Stands}
 
 -- a queued task of w went with an open tick in x exactly where it went with one in w, or is on a chunk of a marked region; h and f are the
@@ -55,6 +55,10 @@ pub record StandsAhead (o : Opening) (h : List Entry) (p : ℕ → Bool) (t : Ta
 -- the region is Ready, and an event on the chunk may touch it: it owns the section of the chunk, or an added hold would draw it in
 abbrev pub may_touch : World → ChunkPos → ℕ → Bool
 may_touch w c r = is_ready (w.grid.state r) && (ground w.grid r c || draws_in w.grid c r)
+
+-- each prepared region is Ready, and its id was given out
+abbrev pub PreparedAreReady : Meaning → Type 0
+PreparedAreReady m = (r : ℕ) → is_prepared m r ≡ true → (r < (world_of m).grid.next) × (is_ready ((world_of m).grid.state r) ≡ true)
 
 -- no region is prepared
 abbrev pub NonePrepared : Meaning → Type 0

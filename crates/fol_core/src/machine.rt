@@ -62,9 +62,17 @@ impl Model for Core {
     ghost use Rattle.fol_core.specs.Ahead.{StandsAhead};
     ghost use Rattle.fol_core.specs.Room.{room_of, AgendaRoom, EntryRoom, HasRoom};
 
-    ghost view = { λ s. record { opening = s.opening; history = s.history.items; prepared = s.marks; room = room_of s.room } };
+    ghost view = { λ s. record {
+      opening = s.opening;
+      history = s.history.items;
+      prepared = s.marks;
+      room = room_of s.room;
+    } };
 
-    ghost invariant = { λ s. StandsAhead s.opening s.history.items (mark s.marks) s.tables × HasRoom s.room s.tables s.history (mark_count s.marks) (length s.marks) × EntryRoom s.tables.course s.history (mark_count s.marks) × AgendaRoom s.tables.agenda (mark_count s.marks) };
+    ghost invariant = { λ s. StandsAhead s.opening s.history.items (mark s.marks) s.tables
+        × HasRoom s.room s.tables s.history (mark_count s.marks) (length s.marks)
+        × EntryRoom s.tables.course s.history (mark_count s.marks)
+        × AgendaRoom s.tables.agenda (mark_count s.marks) };
 }
 
 impl Core {

@@ -5,7 +5,7 @@ ghost use Rattle.fol_model.specs.Geometry.{is_chunk};
 ghost use Rattle.fol_model.specs.GridState.{is_ready};
 ghost use Rattle.fol_model.specs.Universe.{numbers_below};
 ghost use Rattle.fol_store.specs.Stock.{bag_of};
-ghost use Rattle.fol_core.specs.Ahead.{Learns, Prepares, Withdraws, may_touch};
+ghost use Rattle.fol_core.specs.Ahead.{Learns, PreparedAreReady, Prepares, Withdraws, may_touch};
 ghost use Rattle.fol_core.specs.Answers.{is_free, is_over};
 ghost use Rattle.fol_core.specs.Meaning.{IsReadyToBegin, is_prepared, world_of};
 ghost use Rattle.fol_core.specs.Ticks.{IsTick};
@@ -22,10 +22,11 @@ use std::alloc::AllocError;
 impl Core {
     /// The Ready regions, prepared ones among them, that an event on this chunk may touch, rising: the one that owns the section of the
     /// chunk and, where an added hold would make sections present, those near it. Looks where a load does, never at all regions. Fails
-    /// only when out of memory.
+    /// only when out of memory. Each prepared region is Ready, so one that is not among them is not touched.
     pub fn touched(&self, c: ChunkPos) -> Result<Vec<u64>, AllocError>
         requires in_range { IsTrue (is_chunk c) }
-        ensures { IfOk result (λ ids. ids.items ≡ filter (may_touch (world_of self.now) c)
+        ensures ready { PreparedAreReady self.now }
+        ensures listed { IfOk result (λ ids. ids.items ≡ filter (may_touch (world_of self.now) c)
             (numbers_below (world_of self.now).grid.next)) }
     {
         let mut ids = self.tables.regions.touched(self.alloc, c)?;

@@ -23,7 +23,8 @@ pub struct Founding<S> {
 pub struct LockRule;
 
 impl<S: Kept> TableRule<Option<S>, View<S::Origin, S::Entry>, Founding<S>> for LockRule {
-    ghost holds = { λ founding. Ruled S.log S.origin S.by (S.origin founding.state.value) founding.count };
+    ghost holds = { λ founding.
+        Ruled S.log S.origin S.by (S.origin founding.state.value) founding.count };
 
     ghost first = { λ founding. first_view (S.origin founding.state.value) };
 }

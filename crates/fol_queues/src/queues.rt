@@ -28,7 +28,10 @@ impl Model for Queues {
 
     ghost Value = { Waiting };
 
-    ghost view = { λ q. record { tasks = q.tasks.items; spare = vec_capacity q.tasks - vec_len q.tasks } };
+    ghost view = { λ q. record {
+      tasks = q.tasks.items;
+      spare = vec_capacity q.tasks - vec_len q.tasks;
+    } };
 
     ghost invariant = { λ q. IsQueue q.tasks.items };
 }

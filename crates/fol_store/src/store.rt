@@ -55,9 +55,23 @@ impl Model for Store {
 
     ghost Value = { Stock };
 
-    ghost view = { λ s. record { arrivals = s.arrivals.items; spots = s.spots.items; bags = s.bags.items; places = s.places; spare = vec_capacity s.arrivals - vec_len s.arrivals; slots = s.bags.free } };
+    ghost view = { λ s. record {
+      arrivals = s.arrivals.items;
+      spots = s.spots.items;
+      bags = s.bags.items;
+      places = s.places;
+      spare = vec_capacity s.arrivals - vec_len s.arrivals;
+      slots = s.bags.free;
+    } };
 
-    ghost invariant = { λ s. IsSound (record { arrivals = s.arrivals.items; spots = s.spots.items; bags = s.bags.items; places = s.places; spare = vec_capacity s.arrivals - vec_len s.arrivals; slots = s.bags.free }) };
+    ghost invariant = { λ s. IsSound (record {
+      arrivals = s.arrivals.items;
+      spots = s.spots.items;
+      bags = s.bags.items;
+      places = s.places;
+      spare = vec_capacity s.arrivals - vec_len s.arrivals;
+      slots = s.bags.free;
+    }) };
 }
 
 impl Store {

@@ -4,3 +4,4 @@ pub mod FinishedTicks
 pub mod OpenTicks
 pub mod ToldAgain
 pub mod Unprepared
+pub mod Touching

@@ -17,9 +17,10 @@ use Rattle.fol_model.specs.GridNumbers.{IsGrid}
 use Rattle.fol_model.specs.OpenTick.{NoEnd, is_end}
 use Rattle.fol_model.specs.Job.{Job}
 use Rattle.fol_model.specs.QueuedTask.{begun, queued_in}
-use Rattle.fol_model.specs.Run.{Allowed, Run, world}
-use Rattle.fol_model.specs.World.{World, due}
-use Rattle.fol_laws.specs.LateBegin.{NoneTouches}
+use Rattle.fol_model.specs.Run.{Allowed, Run, after, after_all, world}
+use Rattle.fol_model.specs.World.{World, due, start}
+use Rattle.fol_laws.specs.LateBegin.{NoneTouches, is_stop, touches}
+use Rattle.fol_laws.proofs.LongerRuns.{world_both}
 use Rattle.fol_laws.proofs.TickingKept.{due_same}
 use Rattle.fol_laws.proofs.WholeRuns.{Good, good_after, good_run}
 use Rattle.fol_data.specs.declared.tick.Tick.{Tick}
@@ -36,7 +37,7 @@ use Rattle.fol_core.specs.declared.answers.Phase.TheVariants as phases
 use Rattle.fol_core.specs.declared.answers.Posting.{Posting}
 use Rattle.fol_core.specs.declared.answers.Posting.TheVariants as postings
 use Rattle.fol_core.proofs.ReleaseKept.{out_same}
-use Rattle.fol_tick_laws.specs.OpenTicks.{IsOpen, KeepsOpen, KeepsOthers}
+use Rattle.fol_tick_laws.specs.OpenTicks.{IsOpen, IsUntouched, KeepsOpen, KeepsOthers, KeepsUntouched}
 use Rattle.fol_tick_laws.proofs.BegunTicks.{may_run}
 use Rattle.fol_tick_laws.proofs.FinishedTicks.{out_since}
 
@@ -205,26 +206,52 @@ by_its_own w place k r tick is = record {
 }
 
 -- where the Begin of a tick that was made before it is learnt, the tick is open
-pub learnt_opens : (made old new : Meaning) (between : List Entry) (by k r : ℕ) (tick : Tick) → IsTick (world_of made) (length made.history) 0 r tick → Allowed (world_of made) (Begin k r)
-    → old.opening ≡ made.opening → old.history ≡ made.history ++ between → NoneTouches (world_of made) r between → Learns old new by k r → IsOpen new (record tick { worker = k })
-learnt_opens made old new between by k r tick given may opening history calm learns =
+pub learnt_opens : (made old new : Meaning) (by k r : ℕ) (tick : Tick) → IsTick (world_of made) (length made.history) 0 r tick → Allowed (world_of made) (Begin k r)
+    → IsUntouched made old r → Learns old new by k r → IsOpen new (record tick { worker = k })
+learnt_opens made old new by k r tick given may rests learns =
     let is = is_of_other (world_of made) (length made.history) 0 k r tick given in
     let region = given.region in
-    let same : new.opening ≡ made.opening = learns.opening ∙ opening in
+    let same : new.opening ≡ made.opening = learns.opening ∙ rests.opening in
     let e : Entry = record { by = by; event = Begin k r } in
     record {
       made = record {
         before = made.history;
-        between = between;
+        between = rests.between;
         since = [];
         by = by;
-        begin = rw region (learns.history ∙ ap (λ h. h ++ e ∷ []) history);
+        begin = rw region (learns.history ∙ ap (λ h. h ++ e ∷ []) rests.history);
         allowed = rw (same, region) may;
-        calm = rw (same, region) calm;
+        calm = rw (same, region) rests.calm;
         runs_on = tt;
       };
       is = rw same is;
     }
+
+-- ---- what leaves a region untouched
+
+-- an entry more
+none_more : (w : World) (r : ℕ) (es : List Entry) (e : Entry) → NoneTouches w r es → touches (after_all w es) r e.event ≡ false → is_stop e.event ≡ false → NoneTouches w r (es ++ e ∷ [])
+none_more w r [] e none calm goes = (calm, goes, tt)
+none_more w r (x ∷ es) e none calm goes = (none.0, none.1, none_more (after w x.event) r es e none.2 calm goes)
+
+pub untouched_more : (m n : Meaning) (by r : ℕ) (event : Event) → Records m n by event → touches (world_of m) r event ≡ false → is_stop event ≡ false → KeepsUntouched m n r
+untouched_more m n by r event records calm goes made is =
+    let e : Entry = record { by = by; event = event } in
+    let now : world_of m ≡ after_all (world_of made) is.between = rw (is.opening, is.history) (world_both (start made.opening) made.history is.between) in
+    record {
+      opening = records.opening ∙ is.opening;
+      between = is.between ++ e ∷ [];
+      history = records.history ∙ ap (λ h. h ++ e ∷ []) is.history ∙ append_assoc made.history is.between (e ∷ []);
+      calm = none_more (world_of made) r is.between e is.calm (rw (← now) calm) goes;
+    }
+
+-- nothing yet
+pub untouched_here : (m : Meaning) (r : ℕ) → IsUntouched m m r
+untouched_here m r = record { opening = refl; between = []; history = sym (append-nil m.history); calm = tt }
+
+-- no entry more
+pub untouched_same : (m n : Meaning) (r : ℕ) → n.opening ≡ m.opening → n.history ≡ m.history → KeepsUntouched m n r
+untouched_same m n r opening history made is = record { opening = opening ∙ is.opening; between = is.between; history = history ∙ is.history; calm = is.calm }
 
 -- an open tick may run
 pub may_run_open : (m : Meaning) (t : Tick) → IsGrid m.opening.grid → Run m.opening m.history → IsOpen m t → MayRun t

@@ -1,1 +1,2 @@
 pub mod OpenTicks
+pub mod Touching

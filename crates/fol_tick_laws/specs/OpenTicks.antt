@@ -6,7 +6,7 @@ use Rattle.fol_model.specs.declared.events.Event.TheVariants.{Begin}
 use Rattle.fol_model.specs.GridNumbers.{IsGrid}
 use Rattle.fol_model.specs.OpenTick.{is_end}
 use Rattle.fol_model.specs.Run.{Allowed, Run, world}
-use Rattle.fol_laws.specs.LateBegin.{NoneTouches}
+use Rattle.fol_laws.specs.LateBegin.{NoneTouches, is_stop, touches}
 use Rattle.fol_data.specs.declared.tick.Tick.{Tick}
 use Rattle.fol_tick.specs.Calls.{HostCall}
 use Rattle.fol_tick.specs.Runs.{Finishes, MayRun}
@@ -29,6 +29,17 @@ KeepsOpen old new = (t : Tick) → IsOpen old t → IsOpen new t
 abbrev pub KeepsOthers : Meaning → Meaning → ℕ → Type 0
 KeepsOthers old new r = (t : Tick) → t.region ≢ r → IsOpen old t → IsOpen new t
 
+-- nothing that was recorded since touched the region, and no Stop is among it
+pub record IsUntouched (made now : Meaning) (r : ℕ) : Type 0 where
+  pub opening : now.opening ≡ made.opening
+  pub between : List Entry
+  pub history : now.history ≡ made.history ++ between
+  pub calm : NoneTouches (world_of made) r between
+
+-- whenever it was that nothing touched the region since, nothing has now
+abbrev pub KeepsUntouched : Meaning → Meaning → ℕ → Type 0
+KeepsUntouched old new r = (made : Meaning) → IsUntouched made old r → IsUntouched made new r
+
 -- ---- laws
 
 -- the tick that a Begin gives out is open
@@ -38,8 +49,14 @@ BegunTickIsOpen = (old new : Meaning) (by worker region : ℕ) (tick : Tick) →
 -- so is the tick that was made before its Begin was recorded, once that is learnt, by the worker that the Begin names: where the Begin was
 -- allowed when the tick was made, and nothing that was recorded since touched the region
 abbrev pub LearntTickIsOpen : Type 0
-LearntTickIsOpen = (made old new : Meaning) (between : List Entry) (by worker region : ℕ) (tick : Tick) → IsTick (world_of made) (length made.history) 0 region tick → Allowed (world_of made) (Begin worker region)
-    → old.opening ≡ made.opening → old.history ≡ made.history ++ between → NoneTouches (world_of made) region between → Learns old new by worker region → IsOpen new (record tick { worker = worker })
+LearntTickIsOpen = (made old new : Meaning) (by worker region : ℕ) (tick : Tick) → IsTick (world_of made) (length made.history) 0 region tick
+    → Allowed (world_of made) (Begin worker region) → IsUntouched made old region → Learns old new by worker region
+    → IsOpen new (record tick { worker = worker })
+
+-- an entry that does not touch a region, and is no Stop, leaves it untouched
+abbrev pub OnlyATouchIsOne : Type 0
+OnlyATouchIsOne = (old new : Meaning) (by r : ℕ) (event : Event) → Records old new by event → touches (world_of old) r event ≡ false
+    → is_stop event ≡ false → KeepsUntouched old new r
 
 -- an entry that is no End of its region leaves a tick open
 abbrev pub OnlyItsEndClosesATick : Type 0

@@ -7,8 +7,11 @@
 //! Each law is the contract of a function with an empty body. It serves whoever runs the ticks of a core.
 #![tactic(auto)]
 
-ghost use Rattle.fol_tick_laws.specs.OpenTicks.{BegunTickIsOpen, FinishedTickIsOut, LearntTickIsOpen, OnlyItsEndClosesATick, OpenTickMayRun};
+ghost use Rattle.fol_tick_laws.specs.OpenTicks.{BegunTickIsOpen, FinishedTickIsOut, LearntTickIsOpen, OnlyATouchIsOne, OnlyItsEndClosesATick, OpenTickMayRun};
+ghost use Rattle.fol_tick_laws.specs.Touching.{UnlistedIsSpared, WhatIsTouchedMayBe};
 
+#[cfg(test)]
+mod early;
 #[cfg(test)]
 mod tests;
 
@@ -22,7 +25,12 @@ pub fn learnt_tick_is_open()
     ensures { LearntTickIsOpen }
 {}
 
-/// It stays open at every entry but the End of its region.
+/// A region stays untouched at every entry but a Stop and those that touch it.
+pub fn only_a_touch_is_one()
+    ensures { OnlyATouchIsOne }
+{}
+
+/// The tick stays open at every entry but the End of its region.
 pub fn only_its_end_closes_a_tick()
     ensures { OnlyItsEndClosesATick }
 {}
@@ -35,4 +43,14 @@ pub fn open_tick_may_run()
 /// When it has run, and is still open, it may be given back.
 pub fn finished_tick_is_out()
     ensures { FinishedTickIsOut }
+{}
+
+/// A Ready region that a load, a post or an unload touches is one that `Core::touched` names.
+pub fn what_is_touched_may_be()
+    ensures { WhatIsTouchedMayBe }
+{}
+
+/// So where it names no prepared region, neither of the three touches one.
+pub fn unlisted_is_spared()
+    ensures { UnlistedIsSpared }
 {}

@@ -3,7 +3,7 @@
 ghost use Rattle.std.specs.Prelude.{◌≡◌, ◌≢◌};
 ghost use Rattle.fol_core.specs.Ahead.{NonePrepared};
 ghost use Rattle.fol_core.specs.Answers.{Begins, end_event};
-ghost use Rattle.fol_core.specs.Meaning.{IsReadyToBegin, Meaning, Records, world_of};
+ghost use Rattle.fol_core.specs.Meaning.{Meaning, Records, world_of};
 ghost use Rattle.fol_core.specs.Ticks.{IsOut};
 ghost use Rattle.fol_tick_laws.specs.OpenTicks.{IsOpen, KeepsOpen, KeepsOthers};
 
@@ -19,16 +19,13 @@ use std::marker::Model;
 use std::process::Abort;
 
 /// The chunk of region 1.
-const ORIGIN: ChunkPos = ChunkPos { x: 0, z: 0 };
+pub(crate) const ORIGIN: ChunkPos = ChunkPos { x: 0, z: 0 };
 
 /// The chunk of region 2.
-const AWAY: ChunkPos = ChunkPos { x: 6, z: 0 };
+pub(crate) const AWAY: ChunkPos = ChunkPos { x: 6, z: 0 };
 
 /// The chunk between both, which is near to each.
-const BETWEEN: ChunkPos = ChunkPos { x: 3, z: 0 };
-
-/// A chunk that is near to none.
-const FAR: ChunkPos = ChunkPos { x: 50, z: 0 };
+pub(crate) const BETWEEN: ChunkPos = ChunkPos { x: 3, z: 0 };
 
 /// Nothing but sections of one chunk, with a create radius and a merge radius of 1.
 fn opening(rt: &impl Abort, alloc: Global) -> Opening {
@@ -43,8 +40,8 @@ fn opening(rt: &impl Abort, alloc: Global) -> Opening {
 
 /// A core in which ticks may be open and no region is prepared. Contracts see its meaning.
 #[derive(Drop)]
-struct Busy {
-    core: Core,
+pub(crate) struct Busy {
+    pub(crate) core: Core,
 }
 
 impl Model for Busy {
@@ -69,7 +66,7 @@ impl Busy {
     }
 
     /// Regions 1 and 2, each of one chunk, which owe one tick each.
-    fn start(rt: &impl Abort, alloc: Global) -> Busy {
+    pub(crate) fn start(rt: &impl Abort, alloc: Global) -> Busy {
         let mut busy = Busy::of(rt, alloc, opening(rt, alloc));
         busy.load(rt, 0, ORIGIN);
         busy.load(rt, 0, AWAY);
@@ -101,7 +98,7 @@ impl Busy {
     }
 
     /// Posts task 1, on the chunk of region 1, which asks in the next tick for a ticket to the chunk beside that region.
-    fn post_load(&mut self, rt: &impl Abort)
+    pub(crate) fn post_load(&mut self, rt: &impl Abort)
         ensures { KeepsOpen self.old self.new }
     {
         let action = Action::Load(BETWEEN);
@@ -156,7 +153,7 @@ impl Busy {
     }
 
     /// Runs an open tick, of whose tasks each load counts, and ends it.
-    fn end(&mut self, rt: &impl Abort, alloc: Global, mut tick: Tick)
+    pub(crate) fn end(&mut self, rt: &impl Abort, alloc: Global, mut tick: Tick)
         requires { IsOpen self.old tick }
         ensures { KeepsOthers self.old self.new tick.region }
     {
@@ -186,7 +183,7 @@ impl Busy {
     }
 
     /// The first three regions have these states.
-    fn states_are(&self, rt: &impl Abort, states: [Option<State>; 3]) {
+    pub(crate) fn states_are(&self, rt: &impl Abort, states: [Option<State>; 3]) {
         assert_eq!(rt;
             [self.core.state(1), self.core.state(2), self.core.state(3)],
             states
@@ -308,70 +305,4 @@ fn ticks_in_which_nothing_happens_are_passed_over(rt: HostRuntime) {
     assert_eq!(rt; busy.close_phase(&rt), Close::Closed);
     let Busy { mut core } = busy;
     passes_three(&rt, &mut core);
-}
-
-/// An event on this chunk may touch these Ready regions.
-fn touches(rt: &impl Abort, core: &Core, chunk: ChunkPos, regions: &[u64]) {
-    assert!(rt; chunk.in_range());
-    match core.touched(chunk) {
-        Ok(touched) => assert_eq!(rt; touched.as_slice(), regions),
-        Err(_) => panic!(rt; "memory"),
-    }
-}
-
-/// Makes the tick of region 1 and takes it back.
-fn takes_back(rt: &impl Abort, core: &mut Core)
-    requires ready { IsReadyToBegin core.old 1 }
-    requires none { NonePrepared core.old }
-    ensures opening { core.new.opening ≡ core.old.opening }
-    ensures none { NonePrepared core.new }
-    ensures ready { IsReadyToBegin core.new 1 }
-{
-    assert!(rt; !core.is_over());
-    assert!(rt; core.next_owing(1) == Some(1));
-    let early = core.prepare(1);
-    assert_eq!(rt; (early.worker, early.begun), (0, 3));
-    assert_eq!(rt; early.chunks.as_slice(), [ORIGIN].as_slice());
-    assert_eq!(rt; core.state(1), Some(State::Ready));
-    assert_eq!(rt; core.next_owing(1), Some(2));
-    touches(rt, core, BETWEEN, &[1, 2]);
-    assert!(rt; core.withdraw(early));
-}
-
-/// Makes the tick of region 1, takes it back, makes it once more, and then records its Begin by worker 1, to whom the tick is given.
-fn begins_late(rt: &impl Abort, alloc: Global, core: &mut Core) -> Tick
-    requires none { NonePrepared core.old }
-    ensures opened { IsOpen core.new result }
-    ensures opening { core.new.opening ≡ core.old.opening }
-    ensures none { NonePrepared core.new }
-{
-    assert!(rt; core.state(1).is_some());
-    match core.reserve(alloc, 1) {
-        Ok(()) => {}
-        Err(_) => panic!(rt; "memory"),
-    }
-    takes_back(rt, core);
-    assert!(rt; !core.is_over());
-    assert!(rt; core.next_owing(1) == Some(1));
-    let mut tick = core.prepare(1);
-    assert_eq!(rt; (tick.worker, tick.begun), (0, 3));
-    assert_eq!(rt; tick.chunks.as_slice(), [ORIGIN].as_slice());
-    core.learn(0, 1, 1);
-    assert_eq!(rt; core.state(1), Some(State::Ticking));
-    tick.worker = 1;
-    tick
-}
-
-#[test]
-fn a_tick_is_made_before_its_begin_is_recorded(rt: HostRuntime) {
-    let alloc = rt.alloc();
-    let mut busy = Busy::start(&rt, alloc);
-    touches(&rt, &busy.core, BETWEEN, &[1, 2]);
-    touches(&rt, &busy.core, ORIGIN, &[1]);
-    touches(&rt, &busy.core, FAR, &[]);
-    let tick = begins_late(&rt, alloc, &mut busy.core);
-    touches(&rt, &busy.core, BETWEEN, &[2]);
-    busy.end(&rt, alloc, tick);
-    assert_eq!(&rt; busy.core.history().len(), 5);
-    busy.states_are(&rt, [Some(State::Ready), Some(State::Ready), None]);
 }

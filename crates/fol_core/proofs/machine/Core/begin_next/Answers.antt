@@ -13,7 +13,7 @@ use Rattle.fol_core.proofs.AheadBegins.{begin_allowed, begin_spares, tick_now}
 use Rattle.fol_core.proofs.AheadAnswers.{owing_tables}
 use Rattle.fol_core.proofs.BeginTick.{begin_stands, tick_is}
 use Rattle.fol_core.proofs.GatheredBags.{gathered_owes, gathered_stands, owing_given, ready_free, ready_here, ready_home}
-use Rattle.fol_core.proofs.Rooms.{room_left, same_room}
+use Rattle.fol_core.proofs.Rooms.{not_grown, room_left}
 use Rattle.fol_core.proofs.machine.Core.begin_next.Goals as goal
 
 of_its_region : (w : World) (place seat id : ℕ) (tick : Tick) → tick.region ≡ id → IsTick w place seat id tick → IsTick w place seat tick.region tick
@@ -107,12 +107,9 @@ returns-in_default-clause-begun c = rw (← c.self.view_is) (
 )
 
 pub invariant_of-self : goal.invariant_of-self
-invariant_of-self c = (
-  rw c.in_err-grow_history.ensures.entries c.self.invariant.0,
-  tt,
-  same_room c.self.inside.tables.course _ _ _ _ _ _ refl c.in_err-grow_history.ensures.len c.in_err-grow_history.ensures.capacity c.self.invariant.2,
-  c.self.invariant.3,
-)
+invariant_of-self c =
+    let kept = c.in_err-grow_history.ensures in
+    not_grown c.self.inside.opening c.self.inside.history c.grow_history.new.history _ c.self.inside.tables c.self.inside.room _ _ kept.entries kept.len kept.capacity c.self.invariant
 
 pub invariant_of-self-in_err-room : goal.invariant_of-self-in_err-room
 invariant_of-self-in_err-room c = (

@@ -1,8 +1,8 @@
-use Rattle.std.proofs.Common.{refl, sym, ◌∙◌}
+use Rattle.std.proofs.Common.{sym, ◌∙◌}
 use Rattle.fol_core.proofs.AheadAnswers.{close_outside, close_over, close_same, none_stands, stands_none}
 use Rattle.fol_core.proofs.AheadPhases.{none_at_close}
 use Rattle.fol_core.proofs.PhaseKept.{all_done, closed_kept, not_yet}
-use Rattle.fol_core.proofs.Rooms.{room_left, same_room}
+use Rattle.fol_core.proofs.Rooms.{not_grown, room_left}
 use Rattle.fol_core.proofs.machine.Core.close_phase.Goals as goal
 
 pub returns-in-Some-clause-answer : goal.returns-in-Some-clause-answer
@@ -36,9 +36,6 @@ pub returns-then-not-self-clause-answer : goal.returns-then-not-self-clause-answ
 returns-then-not-self-clause-answer c = rw (← c.self.view_is) (close_outside _ _ _ _ c.self.invariant.0 (sym c.is_over.ensures ∙ c.if-is_over.false) c.if-not-self.true)
 
 pub invariant_of-self : goal.invariant_of-self
-invariant_of-self c = (
-  rw c.in_err-grow_history.ensures.entries c.self.invariant.0,
-  tt,
-  same_room c.self.inside.tables.course _ _ _ _ _ _ refl c.in_err-grow_history.ensures.len c.in_err-grow_history.ensures.capacity c.self.invariant.2,
-  c.self.invariant.3,
-)
+invariant_of-self c =
+    let kept = c.in_err-grow_history.ensures in
+    not_grown c.self.inside.opening c.self.inside.history c.grow_history.new.history _ c.self.inside.tables c.self.inside.room _ _ kept.entries kept.len kept.capacity c.self.invariant

@@ -1,10 +1,10 @@
-use Rattle.std.proofs.Common.{ap, refl, sym, ◌∙◌, arith}
+use Rattle.std.proofs.Common.{ap, sym, ◌∙◌, arith}
 use Rattle.fol_core.specs.declared.tables.Course.{Course}
 use Rattle.fol_core.proofs.Ahead.{sum_is}
 use Rattle.fol_core.proofs.AheadAnswers.{none_outside, none_stands, phase_in_phase, phase_outside, phase_over, stands_none}
 use Rattle.fol_core.proofs.MarkCounts.{count_off}
 use Rattle.fol_core.proofs.PhaseKept.{all_here, opened_kept}
-use Rattle.fol_core.proofs.Rooms.{room_left, same_room}
+use Rattle.fol_core.proofs.Rooms.{not_grown, room_left}
 use Rattle.fol_core.proofs.machine.Core.open_phase.Goals as goal
 
 pub set_owed-requires : goal.set_owed-requires
@@ -32,12 +32,9 @@ pub returns-then-self-clause-answer : goal.returns-then-self-clause-answer
 returns-then-self-clause-answer c = rw (← c.self.view_is) (phase_in_phase _ _ _ _ c.self.invariant.0 (sym c.is_over.ensures ∙ c.if-is_over.false) c.if-self.true)
 
 pub invariant_of-self : goal.invariant_of-self
-invariant_of-self c = (
-  rw c.in_err-grow_history.ensures.entries c.self.invariant.0,
-  tt,
-  same_room c.self.inside.tables.course _ _ _ _ _ _ refl c.in_err-grow_history.ensures.len c.in_err-grow_history.ensures.capacity c.self.invariant.2,
-  c.self.invariant.3,
-)
+invariant_of-self c =
+    let kept = c.in_err-grow_history.ensures in
+    not_grown c.self.inside.opening c.self.inside.history c.grow_history.new.history _ c.self.inside.tables c.self.inside.room _ _ kept.entries kept.len kept.capacity c.self.invariant
 
 pub overflow_add-self : goal.overflow_add-self
 overflow_add-self c =

@@ -3,7 +3,7 @@ use Rattle.fol_regions.specs.Table.{grid_state}
 use Rattle.fol_core.specs.Quiet.{IsQuiet}
 use Rattle.fol_core.proofs.AheadQuiet.{quiet_ahead, quiet_history, quiet_then}
 use Rattle.fol_core.proofs.QuietKept.{early}
-use Rattle.fol_core.proofs.Rooms.{same_room, room_left_by_two}
+use Rattle.fol_core.proofs.Rooms.{not_grown, room_left_by_two}
 use Rattle.fol_core.proofs.machine.Core.pass_one.Goals.{then-is_over-via-then-is_over, then-is_over-via-else-is_over+then-not-is_quiet}
 use Rattle.fol_core.proofs.machine.Core.pass_one.Goals as goal
 
@@ -19,12 +19,9 @@ invariant_of-self c = elim c.then-is_over.branch [
 ]
 
 pub invariant_of-self-in-Err : goal.invariant_of-self-in-Err
-invariant_of-self-in-Err c = (
-  rw c.in-Err.ensures.entries c.self.invariant.0,
-  tt,
-  same_room c.self.inside.tables.course _ _ _ _ _ _ refl c.in-Err.ensures.len c.in-Err.ensures.capacity c.self.invariant.2,
-  c.self.invariant.3,
-)
+invariant_of-self-in-Err c =
+    let kept = c.in-Err.ensures in
+    not_grown c.self.inside.opening c.self.inside.history c.grow_tick.new.history _ c.self.inside.tables c.self.inside.room _ _ kept.entries kept.len kept.capacity c.self.invariant
 
 pub invariant_of-self-2 : goal.invariant_of-self-2
 invariant_of-self-2 c = (

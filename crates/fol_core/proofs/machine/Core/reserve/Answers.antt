@@ -1,16 +1,13 @@
-use Rattle.std.proofs.Common.{refl, arith, inl}
+use Rattle.std.proofs.Common.{arith, inl}
 use Rattle.fol_core.proofs.Ahead.{gathered_ahead, given_ahead, places_ahead}
 use Rattle.fol_core.proofs.GatheredBags.{owes_as_before, ready_free}
-use Rattle.fol_core.proofs.Rooms.{same_room}
+use Rattle.fol_core.proofs.Rooms.{not_grown}
 use Rattle.fol_core.proofs.machine.Core.reserve.Goals as goal
 
 pub invariant_of-self : goal.invariant_of-self
-invariant_of-self c = (
-  rw c.in_err-grow_history.ensures.entries c.self.invariant.0,
-  tt,
-  same_room c.self.inside.tables.course _ _ _ _ _ _ refl c.in_err-grow_history.ensures.len c.in_err-grow_history.ensures.capacity c.self.invariant.2,
-  c.self.invariant.3,
-)
+invariant_of-self c =
+    let kept = c.in_err-grow_history.ensures in
+    not_grown c.self.inside.opening c.self.inside.history c.grow_history.new.history _ c.self.inside.tables c.self.inside.room _ _ kept.entries kept.len kept.capacity c.self.invariant
 
 pub invariant_of-self-in_err-make_room : goal.invariant_of-self-in_err-make_room
 invariant_of-self-in_err-make_room c = (

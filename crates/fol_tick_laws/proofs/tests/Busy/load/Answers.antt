@@ -1,5 +1,5 @@
 use Rattle.fol_tick_laws.proofs.OpenTicks.{open_loaded}
-use Rattle.fol_tick_laws.proofs.Unprepared.{calm_loaded, spares_all}
+use Rattle.fol_tick_laws.proofs.Unprepared.{calm_loaded}
 use Rattle.fol_tick_laws.proofs.tests.Busy.load.Goals as goal
 
 pub returns : goal.returns

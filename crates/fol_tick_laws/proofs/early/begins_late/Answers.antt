@@ -1,12 +1,11 @@
-use Rattle.std.proofs.Common.{◌≡◌, ◌∙◌, ap, sym, rules, Bool, true, false, ℕ, []}
+use Rattle.std.proofs.Common.{◌≡◌, ◌∙◌, ap, rules, Bool, true, false, ℕ}
 use Rattle.std.proofs.lemmas.Bool.{and_parts}
-use Rattle.std.proofs.lemmas.List.{append-nil}
 use Rattle.fol_laws.proofs.FunctionsChanged.{at_here}
 use Rattle.fol_core.specs.Answers.{is_free, is_over}
 use Rattle.fol_core.specs.Meaning.{Meaning, is_prepared, world_of}
-use Rattle.fol_tick_laws.proofs.OpenTicks.{learnt_opens, may_begin}
+use Rattle.fol_tick_laws.proofs.OpenTicks.{learnt_opens, may_begin, untouched_here, untouched_same}
 use Rattle.fol_tick_laws.proofs.Unprepared.{none_learnt, still_none}
-use Rattle.fol_tick_laws.proofs.tests.begins_late.Goals as goal
+use Rattle.fol_tick_laws.proofs.early.begins_late.Goals as goal
 
 pub takes_back-requires-clause-none : goal.takes_back-requires-clause-none
 takes_back-requires-clause-none g c = still_none c.args.core.now c.reserve.new.self c.in-Ok.ensures.same.prepared c.requires.none
@@ -20,8 +19,8 @@ returns-clause-opened g c =
     let n : Meaning = c.prepare-tick.new.self in
     let on : is_over (world_of m) ≡ false = search rules in
     let free : is_free m 1 ≡ true = search rules in
-    learnt_opens m n c.learn.new.self [] 0 1 1 c.prepare-tick.result c.prepare-tick.ensures.tick (may_begin (world_of m) 1 1 (and_parts _ _ free).0 on)
-    c.prepare-tick.ensures.prepared.opening (c.prepare-tick.ensures.prepared.history ∙ sym (append-nil m.history)) tt c.learn.ensures
+    let rests = untouched_same m n 1 c.prepare-tick.ensures.prepared.opening c.prepare-tick.ensures.prepared.history m (untouched_here m 1) in
+    learnt_opens m n c.learn.new.self 0 1 1 c.prepare-tick.result c.prepare-tick.ensures.tick (may_begin (world_of m) 1 1 (and_parts _ _ free).0 on) rests c.learn.ensures
 
 pub returns-clause-none : goal.returns-clause-none
 returns-clause-none g c =

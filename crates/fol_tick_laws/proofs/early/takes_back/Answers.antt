@@ -1,9 +1,9 @@
-use Rattle.std.proofs.Common.{◌≡◌, ◌∙◌, ap, sym, Bool, true, ℕ}
+use Rattle.std.proofs.Common.{◌∙◌, ap, Bool, true, ℕ}
 use Rattle.fol_laws.proofs.FunctionsChanged.{at_here}
 use Rattle.fol_core.specs.Meaning.{is_prepared, world_of}
 use Rattle.fol_tick_laws.proofs.OpenTicks.{by_its_own}
 use Rattle.fol_tick_laws.proofs.Unprepared.{none_learnt}
-use Rattle.fol_tick_laws.proofs.tests.takes_back.Goals as goal
+use Rattle.fol_tick_laws.proofs.early.takes_back.Goals as goal
 
 pub withdraw-requires-clause-prepared : goal.withdraw-requires-clause-prepared
 withdraw-requires-clause-prepared g c =

@@ -1,0 +1,23 @@
+use Rattle.std.proofs.Common.{refl}
+use Rattle.fol_model.specs.Geometry.{chunk_of, is_block, is_chunk}
+use Rattle.fol_model.specs.Limits.{is_delay}
+use Rattle.fol_tick_laws.proofs.Unprepared.{IsLeft, left_posted}
+use Rattle.fol_tick_laws.proofs.early.posts_far.Goals as goal
+
+pub post-requires-clause-in_range : goal.post-requires-clause-in_range
+unfolding is_chunk
+post-requires-clause-in_range g c = refl
+
+pub post-requires-clause-delay : goal.post-requires-clause-delay
+unfolding is_delay
+post-requires-clause-delay g c = refl
+
+pub post-requires-clause-action : goal.post-requires-clause-action
+unfolding is_block is_chunk chunk_of
+post-requires-clause-action g c = refl
+
+pub returns : goal.returns
+returns g c =
+    let left : IsLeft c.args.core.now c.post.new.self 1 =
+    left_posted c.args.core.now c.post.new.self _ _ _ _ c.post.result 1 c.post.ensures.recorded c.post.ensures.refused (c.spares.ensures.post 1 c.requires.prepared) c.requires in
+    record { alone = left.0; untouched = left.1 }
