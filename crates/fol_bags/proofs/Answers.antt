@@ -7,6 +7,10 @@ pub on_ok : {T E : Type 0} (r : Result T E) (P Q : Type 0) → OnOk r P → (P �
 on_ok (Ok x) P Q h f = f h
 on_ok (Err e) P Q h f = h
 
+pub on_both : {T E : Type 0} (r : Result T E) (P Q : Type 0) → OnOk r P → OnOk r Q → OnOk r (P × Q)
+on_both (Ok x) P Q h f = (h, f)
+on_both (Err e) P Q h f = h
+
 pub on_err : {T E : Type 0} (r : Result T E) (P Q : Type 0) → OnErr r P → (P → Q) → OnErr r Q
 on_err (Ok x) P Q h f = h
 on_err (Err e) P Q h f = f h

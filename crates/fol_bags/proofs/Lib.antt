@@ -10,3 +10,4 @@ pub mod OpenBags
 pub mod Ordered
 pub mod OneMore
 pub mod Crossing
+pub mod Pending

@@ -1,5 +1,6 @@
 -- Which chunks a list has.
 use Rattle.std.proofs.Common.{◌≡◌, ℕ, ◌||◌, Bool, true, false, ◌+◌, ◌<◌, length, get_or, take, List, [], ◌∷◌, refl, sym, ◌∙◌, ap, inl, inr, zero, suc, arith, ◌++◌}
+use Rattle.std.specs.Prelude.{Contains}
 use Rattle.std.proofs.lemmas.Bool.{cases_Bool}
 use Rattle.std.proofs.lemmas.List.{take_more}
 use Rattle.std.proofs.lemmas.List.Folds.{list_any-append}
@@ -39,6 +40,10 @@ recorded_at (x ∷ xs) (suc i) d l = or_second (same_chunk (get_or xs i d) x) (r
     or_second : (a : Bool) {b : Bool} → b ≡ true → (a || b) ≡ true
     or_second true e = refl
     or_second false e = e
+
+-- one that stands in the list
+pub recorded_in : (xs : List ChunkPos) (x : ChunkPos) → Contains xs x → is_recorded xs x ≡ true
+recorded_in xs x (i, l, e) = ap (is_recorded xs) (sym e) ∙ recorded_at xs i x l
 
 pub recorded_index : (chunks : List ChunkPos) (c d : ChunkPos) → is_recorded chunks c ≡ true → (i : ℕ) × (i < length chunks) × (get_or chunks i d ≡ c)
 recorded_index [] c d h = (let z : false ≡ true = h in cc)

@@ -2,14 +2,14 @@
 
 ghost use Rattle.std.specs.Prelude.{◌≡◌};
 
-use fol_model::{ChunkPos, Sequence};
+use crate::members::Members;
 use std::marker::Model;
 use std::snapshot::Snapshot;
 
 /// The chunks of a list as they were once, for contracts alone: it takes no memory, and no chunk is copied for it.
 #[derive(Drop)]
 pub struct Recalled {
-    list: Snapshot<Sequence<ChunkPos>>,
+    list: Snapshot<Members>,
 }
 
 impl Model for Recalled {
@@ -23,7 +23,7 @@ impl Model for Recalled {
 
 impl Recalled {
     /// The chunks that the list has now.
-    pub fn of(list: &Sequence<ChunkPos>) -> Recalled
+    pub fn of(list: &Members) -> Recalled
         ensures { result ≡ list.now }
     {
         Recalled {

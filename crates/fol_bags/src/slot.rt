@@ -10,7 +10,7 @@ ghost use Rattle.fol_bags.specs.Slots.{no_slot};
 ghost use Rattle.fol_bags.specs.Moves.{SameThings};
 ghost use Rattle.fol_bags.specs.Things.{Key, no_data, things, IsTimely};
 
-use crate::members;
+use crate::members::Members;
 use crate::recalled::Recalled;
 use fol_data::RegionData;
 use fol_model::{ChunkPos, Sequence};
@@ -32,7 +32,7 @@ pub struct Slot {
     /// The chunks for which it was gathered, as contracts see them while a worker has the bag too.
     pub chunks: Recalled,
     /// These chunks, in order, unless a worker has the bag and them.
-    pub list: Sequence<ChunkPos>,
+    pub list: Members,
     /// Chunks in whose spots something may lie; of a listed bag, all such ones.
     pub touched: Sequence<ChunkPos>,
     /// Chunks that may have come or left while a worker had the bag.
@@ -51,7 +51,7 @@ impl Slot {
           calm = true;
         } }
     {
-        let list = Sequence::new(alloc);
+        let list = Members::new(alloc);
         Slot {
             body: new_data(alloc, tick, owed),
             here: true,
@@ -111,13 +111,13 @@ impl Slot {
           list = chunks.items;
         } }
     {
-        self.list = Sequence::of(chunks);
+        self.list.put(chunks);
         self.chunks = Recalled::of(&self.list);
     }
 
     /// A chunk comes. Unless nothing lies on it, which is `quiet`, it is noted, and the bag is calm no more. If memory runs out, it may be
     /// there and not noted, and no chunk is lost.
-    pub fn admit(&mut self, alloc: Global, c: ChunkPos, quiet: bool) -> Result<(), AllocError>
+    pub fn admit(&mut self, c: ChunkPos, quiet: bool) -> Result<(), AllocError>
         requires { IsStrictlySortedBy chunk_cmp self.old.list }
         ensures order { OnOk result (IsStrictlySortedBy chunk_cmp self.new.list) }
         ensures has { OnOk result ((q : ChunkPos)
@@ -133,7 +133,7 @@ impl Slot {
           touched = self.new.touched;
         } }
     {
-        let result = members::widen(alloc, &mut self.list, c);
+        let result = self.list.widen(c);
         self.chunks = Recalled::of(&self.list);
         self.calm = quiet && self.calm;
         result?;
@@ -144,7 +144,7 @@ impl Slot {
     }
 
     /// A chunk leaves.
-    pub fn dismiss(&mut self, alloc: Global, c: ChunkPos)
+    pub fn dismiss(&mut self, c: ChunkPos)
         requires { IsStrictlySortedBy chunk_cmp self.old.list }
         ensures order { IsStrictlySortedBy chunk_cmp self.new.list }
         ensures has { (q : ChunkPos) → is_recorded self.new.list q
@@ -154,7 +154,7 @@ impl Slot {
           list = self.new.list;
         } }
     {
-        members::narrow(alloc, &mut self.list, c);
+        self.list.narrow(c);
         self.chunks = Recalled::of(&self.list);
     }
 }

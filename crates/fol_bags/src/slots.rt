@@ -340,13 +340,7 @@ pub fn is_ready(bags: &Bags, id: usize) -> bool
 
 /// A chunk comes to a listed bag. Unless nothing lies on it, which is `quiet`, it is noted, and the bag is calm no more. If memory runs
 /// out, the bag has to be gathered anew.
-pub fn admit(
-    alloc: Global,
-    bags: &mut Bags,
-    id: usize,
-    c: ChunkPos,
-    quiet: bool,
-) -> Result<(), AllocError>
+pub fn admit(bags: &mut Bags, id: usize, c: ChunkPos, quiet: bool) -> Result<(), AllocError>
     requires open { is_open (slot_in bags.old.items id) ≡ true }
     requires order { IsStrictlySortedBy chunk_cmp (slot_in bags.old.items id).list }
     ensures order { OnOk result (IsStrictlySortedBy chunk_cmp (slot_in bags.new.items id).list) }
@@ -369,13 +363,13 @@ pub fn admit(
     }) bags.old bags.new }
 {
     let slot = bags.slot_mut(id);
-    let result = slot.admit(alloc, c, quiet);
+    let result = slot.admit(c, quiet);
     slot.listed = slot.listed && result.is_ok();
     result
 }
 
 /// A chunk leaves a bag.
-pub fn dismiss(alloc: Global, bags: &mut Bags, id: usize, c: ChunkPos)
+pub fn dismiss(bags: &mut Bags, id: usize, c: ChunkPos)
     requires open { is_open (slot_in bags.old.items id) ≡ true }
     requires order { IsStrictlySortedBy chunk_cmp (slot_in bags.old.items id).list }
     ensures order { IsStrictlySortedBy chunk_cmp (slot_in bags.new.items id).list }
@@ -387,7 +381,7 @@ pub fn dismiss(alloc: Global, bags: &mut Bags, id: usize, c: ChunkPos)
     }) bags.old bags.new }
 {
     let slot = bags.slot_mut(id);
-    slot.dismiss(alloc, c);
+    slot.dismiss(c);
 }
 
 /// Takes out what lies in a bag, and its chunks.
@@ -407,12 +401,9 @@ pub fn take_out(alloc: Global, bags: &mut Bags, id: usize) -> Taken
     let slot = bags.slot_mut(id);
     slot.here = false;
     slot.taken = true;
-    let list = mem::replace(&mut slot.list, Sequence::new(alloc));
+    let chunks = slot.list.take(alloc);
     let body = mem::replace(&mut slot.body, new_data(alloc, 0, 0));
-    Taken {
-        chunks: list.into_vec(),
-        body,
-    }
+    Taken { chunks, body }
 }
 
 /// Puts back what was taken out.
@@ -428,7 +419,7 @@ pub fn put_in(bags: &mut Bags, id: usize, chunks: Vec<ChunkPos>, body: RegionDat
     let slot = bags.slot_mut(id);
     slot.here = true;
     slot.taken = false;
-    slot.list = Sequence::of(chunks);
+    slot.list.put(chunks);
     slot.body = body;
 }
 
@@ -609,9 +600,9 @@ fn dissolve(alloc: Global, bags: &mut Bags, id: usize) -> Vec<ChunkPos>
         bags.old bags.new }
 {
     let slot = bags.slot_mut(id);
-    let list = mem::replace(&mut slot.list, Sequence::new(alloc));
+    let chunks = slot.list.take(alloc);
     shut(alloc, bags, id);
-    list.into_vec()
+    chunks
 }
 
 /// Two bags change what lies in them. The first has to be gathered anew.

@@ -3,5 +3,5 @@ pub mod PagePlaces
 pub mod PageRuns
 pub mod AbsentPages
 pub mod LyingIn
-pub mod NinePages
+pub mod NearPages
 pub mod PageChanges

@@ -11,37 +11,30 @@ use Rattle.fol_pages.specs.Pages.{is_same, page_of, place_of}
 use Rattle.fol_pages.proofs.Quotients.{in_row_of_quotient, quotient_of_row}
 
 -- a number by its page and its place in a row of the page
-pub in_page : (x : ℤ) → (x ≡ (int_div_euclid x (pos 8) *ℤ pos 8) +ℤ pos (nat_abs (int_rem_euclid x (pos 8)))) × (nat_abs (int_rem_euclid x (pos 8)) < 8)
+pub in_page : (x : ℤ) → (x ≡ (int_div_euclid x (pos 32) *ℤ pos 32) +ℤ pos (nat_abs (int_rem_euclid x (pos 32)))) × (nat_abs (int_rem_euclid x (pos 32)) < 32)
 in_page (pos a) = (omega (arith, ints), omega arith)
 in_page (negsuc a) = (omega (arith, ints), omega arith)
 
-pub place_few : (s : SectionPos) → place_of s < 64
+pub place_few : (s : SectionPos) → place_of s < 32
 unfolding place_of
-place_few s = let x = in_page s.x in let z = in_page s.z in omega (arith, x.1, z.1)
+place_few s = (in_page s.x).1
 
 -- two sections at one place of one page are one
-pub place_tells : (s q : SectionPos) → page_of s.x ≡ page_of q.x → page_of s.z ≡ page_of q.z → place_of q ≡ place_of s → s ≡ q
+pub place_tells : (s q : SectionPos) → page_of s.x ≡ page_of q.x → s.z ≡ q.z → place_of q ≡ place_of s → s ≡ q
 unfolding place_of
 place_tells s q ex ez e =
-    let sx = in_page s.x in let sz = in_page s.z in let qx = in_page q.x in let qz = in_page q.z in
-    let rx : nat_abs (int_rem_euclid s.x (pos 8)) ≡ nat_abs (int_rem_euclid q.x (pos 8)) = omega (arith, sx.1, sz.1, qx.1, qz.1) in
-    let rz : nat_abs (int_rem_euclid s.z (pos 8)) ≡ nat_abs (int_rem_euclid q.z (pos 8)) = omega (arith, sx.1, sz.1, qx.1, qz.1) in
-    let x : s.x ≡ q.x = sx.0 ∙ (λ i. (ex i *ℤ pos 8) +ℤ pos (rx i)) ∙ sym qx.0 in
-    let z : s.z ≡ q.z = sz.0 ∙ (λ i. (ez i *ℤ pos 8) +ℤ pos (rz i)) ∙ sym qz.0 in
-    λ i. record { x = x i; z = z i }
+    let sx = in_page s.x in let qx = in_page q.x in
+    let x : s.x ≡ q.x = sx.0 ∙ (λ i. (ex i *ℤ pos 32) +ℤ pos (sym e i)) ∙ sym qx.0 in
+    λ i. record { x = x i; z = ez i }
 
 -- the section at a place of a page
-pub at_place : (x z : ℤ) (k : ℕ) → k < 64 → (s : SectionPos) × (page_of s.x ≡ x) × (page_of s.z ≡ z) × (place_of s ≡ k)
+pub at_place : (x z : ℤ) (k : ℕ) → k < 32 → (s : SectionPos) × (page_of s.x ≡ x) × (s.z ≡ z) × (place_of s ≡ k)
 unfolding place_of
 at_place x z k l =
-    let s : SectionPos = record { x = (x *ℤ pos 8) +ℤ pos (k % 8); z = (z *ℤ pos 8) +ℤ pos (k / 8) } in
-    let px : page_of s.x ≡ x = quotient_of_row s.x x 8 (k % 8) (omega arith) refl in
-    let pz : page_of s.z ≡ z = quotient_of_row s.z z 8 (k / 8) (omega arith) refl in
+    let s : SectionPos = record { x = (x *ℤ pos 32) +ℤ pos k; z = z } in
+    let px : page_of s.x ≡ x = quotient_of_row s.x x 32 k l refl in
     let ix = rw px at (in_page s.x).0 in
-    let iz = rw pz at (in_page s.z).0 in
-    let rx : nat_abs (int_rem_euclid s.x (pos 8)) ≡ k % 8 = omega (arith, ints, ix) in
-    let rz : nat_abs (int_rem_euclid s.z (pos 8)) ≡ k / 8 = omega (arith, ints, iz) in
-    (s, px, pz, omega (arith, rx, rz))
+    (s, px, refl, omega (arith, ints, ix))
 
 -- ---- pages by column and row
 pub same_place : (x z a b : ℤ) → is_same x z a b ≡ true → (x ≡ a) × (z ≡ b)
@@ -54,11 +47,15 @@ pub same_self : (x z : ℤ) → is_same x z x z ≡ true
 unfolding is_same
 same_self x z = and_from _ _ ((Decides-int_eq x x).1 refl) ((Decides-int_eq z z).1 refl)
 
--- numbers at most r away from x lie in three pages
-pub page_near : (x y : ℤ) (r : ℕ) → nat_abs (x -ℤ y) ≤ r → r ≤ 8 → (i : ℕ) × (i < 3) × (page_of y ≡ page_of (x -ℤ pos r) +ℤ pos i)
+-- numbers at most r away from x lie in two pages
+pub page_near : (x y : ℤ) (r : ℕ) → nat_abs (x -ℤ y) ≤ r → r ≤ 8 → (i : ℕ) × (i < 2) × (page_of y ≡ page_of (x -ℤ pos r) +ℤ pos i)
 page_near x y r d h =
     let w : ℤ = x -ℤ pos r in
     let k : ℕ = nat_abs (y -ℤ w) in
-    let a = in_row_of_quotient w 8 (omega arith) in
-    let at : y ≡ ((page_of w +ℤ pos ((a.0 + k) / 8)) *ℤ pos 8) +ℤ pos ((a.0 + k) % 8) = omega (arith, ints, a.2) in
-    ((a.0 + k) / 8, omega (arith, ints, a.1), quotient_of_row y (page_of w +ℤ pos ((a.0 + k) / 8)) 8 ((a.0 + k) % 8) (omega arith) at)
+    let a = in_row_of_quotient w 32 (omega arith) in
+    let at : y ≡ ((page_of w +ℤ pos ((a.0 + k) / 32)) *ℤ pos 32) +ℤ pos ((a.0 + k) % 32) = omega (arith, ints, a.2) in
+    ((a.0 + k) / 32, omega (arith, ints, a.1), quotient_of_row y (page_of w +ℤ pos ((a.0 + k) / 32)) 32 ((a.0 + k) % 32) (omega arith) at)
+
+-- and are seventeen
+pub row_near : (x y : ℤ) (r : ℕ) → nat_abs (x -ℤ y) ≤ r → r ≤ 8 → (i : ℕ) × (i < 17) × (y ≡ (x -ℤ pos r) +ℤ pos i)
+row_near x y r d h = (nat_abs (y -ℤ (x -ℤ pos r)), omega (arith, ints, d), omega (arith, ints, d))

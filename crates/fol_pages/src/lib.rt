@@ -1,4 +1,4 @@
-//! Pages of 8 by 8 sections: in which page a section lies, where in it, and which sections of a row or a list lie in one.
+//! Pages of 32 sections side by side in a row: in which page a section lies, where in it, and which sections of a row or a list lie in one.
 //!
 //! A table that keeps something of each section keeps it by page, so that one look-up finds it for all sections of a page. The
 //! tables of sections and of the regions' owners do so; what both need to know of pages stands here.

@@ -11,9 +11,9 @@ use fol_model::SectionPos;
 pub fn run_len(x: i32, most: u32) -> u32
     ensures few { result ≤ most }
     ensures some { 0 < most → 0 < result }
-    ensures within { nat_abs (int_rem_euclid x (pos 8)) + result ≤ 8 }
+    ensures within { nat_abs (int_rem_euclid x (pos 32)) + result ≤ 32 }
 {
-    most.min(8 - place_along(x))
+    most.min(32 - place_along(x))
 }
 
 /// How many sections at the head of a list lie in one page.

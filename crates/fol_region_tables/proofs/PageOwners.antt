@@ -29,10 +29,10 @@ among_places x z (s ∷ sections) at q on = λ i. same_at x z s q (at s (or_firs
     or_rest r s sections h = elim (cases_Bool (same_section r s)) [ inl e ↦ rw e refl | inr e ↦ rw e h ]
 
 -- a section of another page is none of them
-pub not_among : (x z : ℤ) (sections : List SectionPos) → AreAt x z sections → (q : SectionPos) → is_same x z (page_of q.x) (page_of q.z) ≡ false → is_among sections q ≡ false
+pub not_among : (x z : ℤ) (sections : List SectionPos) → AreAt x z sections → (q : SectionPos) → is_same x z (page_of q.x) q.z ≡ false → is_among sections q ≡ false
 not_among x z sections at q off = elim (cases_Bool (is_among sections q)) [
   | inr e ↦ e
-  | inl e ↦ let k = at q e in absurd (true≢false (sym (same_self (page_of q.x) (page_of q.z)) ∙ (λ i. is_same (k.0 i) (k.1 i) (page_of q.x) (page_of q.z)) ∙ off))
+  | inl e ↦ let k = at q e in absurd (true≢false (sym (same_self (page_of q.x) q.z) ∙ (λ i. is_same (k.0 i) (k.1 i) (page_of q.x) q.z) ∙ off))
 ]
 
 -- ---- one page changed, or came
@@ -41,12 +41,12 @@ module _ (before after : List ((ℤ × ℤ) × OwnerPage)) (x z : ℤ) (p : Owne
   pub owner-written : (q : SectionPos) → IsAt x z q → owner_in after q ≡ owner_on (Some p) q
   unfolding owner_in
   owner-written q on =
-      let e : is_same x z (page_of q.x) (page_of q.z) ≡ true = (λ i. is_same (sym on.0 i) (sym on.1 i) (page_of q.x) (page_of q.z)) ∙ same_self (page_of q.x) (page_of q.z) in
-      ap (λ o. owner_on o q) (step (page_of q.x) (page_of q.z) ∙ ap (λ b. cond b (Some p) (page_at before (page_of q.x) (page_of q.z))) e)
+      let e : is_same x z (page_of q.x) q.z ≡ true = (λ i. is_same (sym on.0 i) (sym on.1 i) (page_of q.x) q.z) ∙ same_self (page_of q.x) q.z in
+      ap (λ o. owner_on o q) (step (page_of q.x) q.z ∙ ap (λ b. cond b (Some p) (page_at before (page_of q.x) q.z)) e)
 
-  after_off : (q : SectionPos) → is_same x z (page_of q.x) (page_of q.z) ≡ false → owner_in after q ≡ owner_in before q
+  after_off : (q : SectionPos) → is_same x z (page_of q.x) q.z ≡ false → owner_in after q ≡ owner_in before q
   unfolding owner_in
-  after_off q e = ap (λ o. owner_on o q) (step (page_of q.x) (page_of q.z) ∙ ap (λ b. cond b (Some p) (page_at before (page_of q.x) (page_of q.z))) e)
+  after_off q e = ap (λ o. owner_on o q) (step (page_of q.x) q.z ∙ ap (λ b. cond b (Some p) (page_at before (page_of q.x) q.z)) e)
 
   before_at : (q : SectionPos) → IsAt x z q → owner_in before q ≡ owner_on (page_at before x z) q
   unfolding owner_in
@@ -56,9 +56,9 @@ module _ (before after : List ((ℤ × ℤ) × OwnerPage)) (x z : ℤ) (p : Owne
   pub owners-written : (sections : List SectionPos) (id : ℕ) → AreAt x z sections
       → ((q : SectionPos) → slice_index_or p.owners (place_of q) 0 ≡ cond (list_any (λ s. nat_eq (place_of s) (place_of q)) sections) id (owner_on (page_at before x z) q))
       → (q : SectionPos) → owner_in after q ≡ cond (is_among sections q) id (owner_in before q)
-  owners-written sections id at written q = elim (cases_Bool (is_same x z (page_of q.x) (page_of q.z))) [
+  owners-written sections id at written q = elim (cases_Bool (is_same x z (page_of q.x) q.z)) [
     | inl e ↦
-        let k = same_place x z (page_of q.x) (page_of q.z) e in
+        let k = same_place x z (page_of q.x) q.z e in
         let on : IsAt x z q = (sym k.0, sym k.1) in
         owner-written q on ∙ written q ∙ (λ i. cond (among_places x z sections at q on i) id (sym (before_at q on) i))
     | inr e ↦ let none = not_among x z sections at q e in rw none (after_off q e)
@@ -70,7 +70,7 @@ module _ (before after : List ((ℤ × ℤ) × OwnerPage)) (x z : ℤ) (sections
   -- a page that is not this one keeps its owner
   other_owned : (a b : ℤ) → is_same x z a b ≡ false → HasOwner before a b → HasOwner after a b
   other_owned a b e w =
-      let off : is_same x z (page_of (w.0).x) (page_of (w.0).z) ≡ false = (λ i. is_same x z ((w.1).0 i) ((w.1).1 i)) ∙ e in
+      let off : is_same x z (page_of (w.0).x) (w.0).z ≡ false = (λ i. is_same x z ((w.1).0 i) ((w.1).1 i)) ∙ e in
       let none = not_among x z sections at w.0 off in
       (w.0, w.1, omega (arith, owner w.0, ap (λ t. cond t id (owner_in before w.0)) none, w.2))
 
@@ -116,23 +116,23 @@ some_in [] h = absurd (true≢false h)
 some_in (zero ∷ ids) h = let r = some_in ids h in (suc r.0, omega (arith, r.1), r.2)
 some_in (suc id ∷ ids) h = (0, omega arith, omega arith)
 
-pub owned-busy : (pages : List ((ℤ × ℤ) × OwnerPage)) (x z : ℤ) (p : OwnerPage) → page_at pages x z ≡ Some p → length p.owners ≡ 64 → list_all (λ id. nat_eq id 0) p.owners ≡ false → HasOwner pages x z
+pub owned-busy : (pages : List ((ℤ × ℤ) × OwnerPage)) (x z : ℤ) (p : OwnerPage) → page_at pages x z ≡ Some p → length p.owners ≡ 32 → list_all (λ id. nat_eq id 0) p.owners ≡ false → HasOwner pages x z
 unfolding owner_in
 owned-busy pages x z p is n busy =
     let k = some_in p.owners busy in
     let w = at_place x z k.0 (omega (arith, k.1, n)) in
-    let found : page_at pages (page_of (w.0).x) (page_of (w.0).z) ≡ Some p = (λ i. page_at pages (w.1 i) (w.2 i)) ∙ is in
+    let found : page_at pages (page_of (w.0).x) (w.0).z ≡ Some p = (λ i. page_at pages (w.1 i) (w.2 i)) ∙ is in
     (w.0, (w.1, w.2), omega (arith, ap (λ o. owner_on o w.0) found, ap (λ m. slice_index_or p.owners m 0) w.3, k.2))
 
 -- ---- a page that left, in which no section had a region
 module _ (before after : List ((ℤ × ℤ) × OwnerPage)) (x z : ℤ) (step : (a b : ℤ) → page_at after a b ≡ cond (is_same x z a b) None (page_at before a b)) where
   pub owners-left : ((q : SectionPos) → IsAt x z q → owner_in before q ≡ 0) → (q : SectionPos) → owner_in after q ≡ owner_in before q
   unfolding owner_in
-  owners-left nobody q = elim (cases_Bool (is_same x z (page_of q.x) (page_of q.z))) [
+  owners-left nobody q = elim (cases_Bool (is_same x z (page_of q.x) q.z)) [
     | inl e ↦
-        let k = same_place x z (page_of q.x) (page_of q.z) e in
-        ap (λ o. owner_on o q) (step (page_of q.x) (page_of q.z) ∙ ap (λ b. cond b None (page_at before (page_of q.x) (page_of q.z))) e) ∙ sym (nobody q (sym k.0, sym k.1))
-    | inr e ↦ ap (λ o. owner_on o q) (step (page_of q.x) (page_of q.z) ∙ ap (λ b. cond b None (page_at before (page_of q.x) (page_of q.z))) e)
+        let k = same_place x z (page_of q.x) q.z e in
+        ap (λ o. owner_on o q) (step (page_of q.x) q.z ∙ ap (λ b. cond b None (page_at before (page_of q.x) q.z)) e) ∙ sym (nobody q (sym k.0, sym k.1))
+    | inr e ↦ ap (λ o. owner_on o q) (step (page_of q.x) q.z ∙ ap (λ b. cond b None (page_at before (page_of q.x) q.z)) e)
   ]
 
 -- ---- no pages, and the same ones
@@ -147,7 +147,7 @@ none_owned pages e x z h = absurd (true≢false (sym h ∙ ap (λ ps. has_page p
 module _ (before after : List ((ℤ × ℤ) × OwnerPage)) (same : (a b : ℤ) → page_at after a b ≡ page_at before a b) where
   pub same_owners : (q : SectionPos) → owner_in after q ≡ owner_in before q
   unfolding owner_in
-  same_owners q = ap (λ o. owner_on o q) (same (page_of q.x) (page_of q.z))
+  same_owners q = ap (λ o. owner_on o q) (same (page_of q.x) q.z)
 
   pub same_owned : AllOwned before → AllOwned after
   unfolding has_page

@@ -39,7 +39,7 @@ module _ (rest front back : List SectionPos) (n : ℕ) (f : front ≡ take n res
       either false false = refl
 
 -- the stretch lies in the page of its first section
-pub stretch_at : (rest front : List SectionPos) (n : ℕ) → front ≡ take n rest → 0 < length front → InOnePage (take n rest) → (key : ℤ × ℤ) → key ≡ (page_of (get_or front 0 origin).x, page_of (get_or front 0 origin).z) → AreAt key.0 key.1 front
+pub stretch_at : (rest front : List SectionPos) (n : ℕ) → front ≡ take n rest → 0 < length front → InOnePage (take n rest) → (key : ℤ × ℤ) → key ≡ (page_of (get_or front 0 origin).x, (get_or front 0 origin).z) → AreAt key.0 key.1 front
 stretch_at rest front n f some one key at s h =
     let first = ap (λ xs. is_among xs (get_or front 0 origin)) (sym f) ∙ among_at front 0 origin some in
     let on = one (get_or front 0 origin) s first (ap (λ xs. is_among xs s) (sym f) ∙ h) in
@@ -57,7 +57,7 @@ no_owner pages x z none s at = (λ i. owner_on (page_at pages (at.0 i) (at.1 i))
 
 module _ (first now : List ((ℤ × ℤ) × OwnerPage)) (sections front : List SectionPos) (x z : ℤ) (at : AreAt x z front) (some : 0 < length front)
     (within : (q : SectionPos) → is_among front q ≡ true → is_among sections q ≡ true) (there : (a b : ℤ) → has_page first a b ≡ true → has_page now a b ≡ true)
-    (pages : List (ℤ × ℤ)) (cover : (s : SectionPos) → is_new (owner_in first) sections s ≡ true → is_listed pages (page_of s.x) (page_of s.z) ≡ true) where
+    (pages : List (ℤ × ℤ)) (cover : (s : SectionPos) → is_new (owner_in first) sections s ≡ true → is_listed pages (page_of s.x) s.z ≡ true) where
   -- a page that is absent is one of those in which sections with no region lie
   listed : has_page now x z ≡ false → is_listed pages x z ≡ true
   listed none =

@@ -1,4 +1,4 @@
--- The region of each section, in pages of 8 by 8.
+-- The region of each section, in pages of 32 side by side in a row.
 use Rattle.std.specs.Prelude.{◌≡◌, ℕ, ℤ, ◌<◌, Bool, true, ◌&&◌, nat_eq, Option, Some, None, List, slice_index_or}
 use Rattle.fol_model.specs.declared.places.SectionPos.{SectionPos}
 use Rattle.fol_model.specs.Geometry.{is_among}
@@ -18,11 +18,11 @@ owner_on (Some p) s = slice_index_or p.owners (place_of s) 0
 
 -- the region of a section, or 0
 unfoldable pub owner_in : List ((ℤ × ℤ) × OwnerPage) → SectionPos → ℕ
-owner_in pages s = owner_on (page_at pages (page_of s.x) (page_of s.z)) s
+owner_in pages s = owner_on (page_at pages (page_of s.x) s.z) s
 
 -- the section lies in that column and row of pages
 abbrev pub IsAt : ℤ → ℤ → SectionPos → Type 0
-IsAt x z s = (page_of s.x ≡ x) × (page_of s.z ≡ z)
+IsAt x z s = (page_of s.x ≡ x) × (s.z ≡ z)
 
 -- all sections of the list lie in that column and row of pages
 abbrev pub AreAt : ℤ → ℤ → List SectionPos → Type 0

@@ -50,7 +50,7 @@ impl Owners {
 
     /// The regions of so many sections side by side in one page, from one on; fewer where the others have none.
     pub fn run(&self, s: SectionPos, len: u32) -> &[u64]
-        requires { nat_abs (int_rem_euclid s.x (pos 8)) + len ≤ 8 }
+        requires { nat_abs (int_rem_euclid s.x (pos 32)) + len ≤ 32 }
         ensures owners { (i : ℕ) → i < len → slice_index_or result.now i 0
             ≡ owner_in self.now.pages (record { x = s.x +ℤ pos i; z = s.z }) }
         ensures few { length result.now ≤ len }

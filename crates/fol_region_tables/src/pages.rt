@@ -1,4 +1,4 @@
-//! The regions of sections in pages of 8 by 8.
+//! The regions of sections in pages of 32 that stand side by side in a row.
 
 ghost use Rattle.std.specs.Prelude.{◌≡◌, ℕ, ℤ, ◌+◌, ◌<◌, ◌≤◌, true, false, ◌||◌, IsTrue, cond, nat_eq, nat_abs, pos, ◌+ℤ◌, length, if◌then◌else◌, slice_index_or};
 ghost use Rattle.std.specs.Int.{int_rem_euclid};
@@ -13,10 +13,10 @@ use fol_model::SectionPos;
 use fol_pages::{page_of, place_of, stretch_len};
 use std::collections::HashMap;
 
-/// The regions of the sections of a square of 8 by 8, row by row; 0 for a section that has none.
+/// The regions of 32 sections side by side in a row; 0 for a section that has none.
 #[derive(Clone, Copy)]
 pub struct OwnerPage {
-    pub owners: [u64; 64],
+    pub owners: [u64; 32],
 }
 
 /// Pages by their column and row.
@@ -34,7 +34,7 @@ pub fn owner(pages: &Pages, s: SectionPos) -> u64
 
 /// The regions of so many sections side by side in one page, from one on; fewer where the others have none.
 pub fn run(pages: &Pages, s: SectionPos, len: u32) -> &[u64]
-    requires { nat_abs (int_rem_euclid s.x (pos 8)) + len ≤ 8 }
+    requires { nat_abs (int_rem_euclid s.x (pos 32)) + len ≤ 32 }
     ensures owners { (i : ℕ) → i < len → slice_index_or result.now i 0
         ≡ owner_in pages.now.entries (record { x = s.x +ℤ pos i; z = s.z }) }
     ensures few { length result.now ≤ len }
@@ -47,7 +47,7 @@ pub fn run(pages: &Pages, s: SectionPos, len: u32) -> &[u64]
 
 /// The regions of so many sections side by side in a page, from one on.
 fn run_on(page: &OwnerPage, s: SectionPos, len: u32) -> &[u64]
-    requires { nat_abs (int_rem_euclid s.x (pos 8)) + len ≤ 8 }
+    requires { nat_abs (int_rem_euclid s.x (pos 32)) + len ≤ 32 }
     ensures owners { (i : ℕ) → i < len → slice_index_or result.now i 0
         ≡ slice_index_or page.now.owners (place s + i) 0 }
     ensures few { length result.now ≡ len }
@@ -72,7 +72,7 @@ fn page_with(sections: &[SectionPos], id: u64) -> OwnerPage
     ensures { (k : ℕ) → slice_index_or result.owners k 0
         ≡ (if list_any (λ s. nat_eq (place s) k) sections.now then id else 0) }
 {
-    let mut page = OwnerPage { owners: [0; 64] };
+    let mut page = OwnerPage { owners: [0; 32] };
     write_on(&mut page, sections, id);
     page
 }
@@ -80,7 +80,7 @@ fn page_with(sections: &[SectionPos], id: u64) -> OwnerPage
 /// Whether no section of a page has a region.
 fn is_empty(page: &OwnerPage) -> bool
     ensures value { result ≡ list_all (λ id. nat_eq id 0) page.now.owners }
-    ensures whole { length page.now.owners ≡ 64 }
+    ensures whole { length page.now.owners ≡ 32 }
 {
     page.owners.iter().all(|id| *id == 0)
 }

@@ -28,7 +28,7 @@ use Rattle.fol_laws.proofs.Tests.{same_answer}
 use Rattle.fol_laws.proofs.AllSections.{some_section-gives}
 use Rattle.fol_regions.specs.Added.{Grows, IsChoice, Waits, bare, calm_size, extended_change, is_calm, is_drawn, is_id}
 use Rattle.fol_pages.specs.Pages.{LieIn}
-use Rattle.fol_pages.proofs.NinePages.{lie_in-nine}
+use Rattle.fol_pages.proofs.NearPages.{lie_in-near}
 use Rattle.fol_region_tables.specs.Book.{Book, IsBook, SetsState, owner_of, state_of, waits_of, is_live, rows_of, ahead_of}
 use Rattle.fol_regions.specs.Changes.{drawn_in, into}
 use Rattle.fol_regions.specs.Near.{is_close}
@@ -64,9 +64,9 @@ module _ (grid : Grid) (b : Book) (is : IsBook b) (rules : Rules (bare grid b)) 
   pub wanted_among : (s : SectionPos) → is_among (filter (is_wanted (bare grid b) c) all_sections) s ≡ is_wanted (bare grid b) c s
   wanted_among = chosen (is_wanted (bare grid b) c) wanted_limits
 
-  -- they lie in nine pages
-  pub wanted_nine : (wanted : List SectionPos) → wanted ≡ filter (is_wanted (bare grid b) c) all_sections → LieIn (is_among wanted) 9
-  wanted_nine wanted want = lie_in-nine (section_of grid c) grid.create ok.create_high (is_among wanted) (λ s h.
+  -- they lie in 34 pages
+  pub wanted_near : (wanted : List SectionPos) → wanted ≡ filter (is_wanted (bare grid b) c) all_sections → LieIn (is_among wanted) 34
+  wanted_near wanted want = lie_in-near (section_of grid c) grid.create ok.create_high (is_among wanted) (λ s h.
       (and_parts (not (nat_lt 0 (owner_of b s))) (is_within (section_of grid c) grid.create s) (sym (wanted_among s) ∙ ap (λ xs. is_among xs s) (sym want) ∙ h)).1)
 
   pub wanted_absent : (s : SectionPos) → is_wanted (bare grid b) c s ≡ true → owner_of b s ≡ 0

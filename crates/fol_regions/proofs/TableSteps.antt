@@ -111,7 +111,7 @@ module _ (grid : Grid) (s : sections.Table) (b : Book) (events : ℕ) (k : IsKep
     unfolding grid_of
     alike_bounds most = bounds_same (grid_of s b) (grid_of e d) most same.grid alike.owner same.holds
 
-    pub alike_kept : events ≤ more → more ≤ e.spare → HasRoomFor d (9 * more) (625 * more) → IsKept grid e d more
+    pub alike_kept : events ≤ more → more ≤ e.spare → HasRoomFor d (34 * more) (625 * more) → IsKept grid e d more
     alike_kept l m r = record {
       same = k.same ∙ sym same.grid;
       numbers = let g = same.grid in rw g k.numbers;

@@ -14,4 +14,4 @@ pub record IsKept (grid : Grid) (kept : sections.Table) (b : Book) (events : ℕ
   pub rules : Rules (grid_of kept b)
   pub presence : IsPresence kept b
   pub spare : events ≤ kept.spare
-  pub room : HasRoomFor b (9 * events) (625 * events)
+  pub room : HasRoomFor b (34 * events) (625 * events)

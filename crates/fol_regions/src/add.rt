@@ -199,7 +199,7 @@ pub fn extend(
     requires few { count_sections (λ s. nat_lt 0 (owner_of tables.old s)) + length wanted.now
         ≤ MOST_SECTIONS }
     requires few_ids { tables.old.next < 2 ^ 63 }
-    requires free { 9 ≤ tables.old.free }
+    requires free { 34 ≤ tables.old.free }
     requires ahead { total tables.old.ahead + 625 ≤ tables.old.ahead.room }
     requires behind { total tables.old.behind + 625 ≤ tables.old.behind.room }
     requires none { change.old ≡ nothing }
@@ -208,7 +208,7 @@ pub fn extend(
     ensures waits { waits_of tables.new ≡ (extended (bare grid.now tables.old) c).waits }
     ensures next { tables.new.next ≡ (extended (bare grid.now tables.old) c).next }
     ensures change { change.new ≡ extended_change (bare grid.now tables.old) c }
-    ensures free { tables.old.free ≤ tables.new.free + 9 }
+    ensures free { tables.old.free ≤ tables.new.free + 34 }
     ensures ahead { (total tables.new.ahead ≤ total tables.old.ahead + 625)
         × (tables.new.ahead.room ≡ tables.old.ahead.room) }
     ensures behind { (total tables.new.behind ≤ total tables.old.behind + 625)
@@ -247,14 +247,14 @@ pub fn hold(
     requires few { (grid_of sections.old tables.old).holds c < 2 ^ 62 }
     requires few_ids { (grid_of sections.old tables.old).next < 2 ^ 62 }
     requires spare { 1 ≤ sections.old.spare }
-    requires room { HasRoomFor tables.old 9 625 }
+    requires room { HasRoomFor tables.old 34 625 }
     ensures state { grid_of sections.new tables.new ≡ add (grid_of sections.old tables.old) c }
     ensures answer { result ≡ add_answer (grid_of sections.old tables.old) c }
     ensures change { change.new ≡ add_change (grid_of sections.old tables.old) c }
     ensures presence { IsPresence sections.new tables.new }
     ensures spare { sections.old.spare ≤ sections.new.spare + 1 }
     ensures grid { sections.new.grid ≡ sections.old.grid }
-    ensures free { tables.old.free ≤ tables.new.free + 9 }
+    ensures free { tables.old.free ≤ tables.new.free + 34 }
     ensures ahead { (total tables.new.ahead ≤ total tables.old.ahead + 625)
         × (tables.new.ahead.room ≡ tables.old.ahead.room) }
     ensures behind { (total tables.new.behind ≤ total tables.old.behind + 625)

@@ -139,7 +139,7 @@ fn note_run(known: &mut [Known], ids: &[u64])
 
 /// Whether a section stands that many columns behind another one in its row.
 fn is_beside(first: SectionPos, columns: usize, s: SectionPos) -> bool
-    requires { columns ≤ 8 }
+    requires { columns ≤ 32 }
     ensures { result ≡ true → s ≡ record { x = first.x +ℤ pos columns; z = first.z } }
 {
     s.z == first.z && s.x as i64 == first.x as i64 + columns as i64
@@ -156,10 +156,10 @@ fn side_len(list: &[SectionPos]) -> usize
           z = (slice_index_or list.now 0 d).z;
         } }
     ensures run { (d : SectionPos)
-        → nat_abs (int_rem_euclid (slice_index_or list.now 0 d).x (pos 8)) + result ≤ 8 }
+        → nat_abs (int_rem_euclid (slice_index_or list.now 0 d).x (pos 32)) + result ≤ 32 }
 {
     let first = list[0];
-    let most = run_len(first.x, list.len().min(8) as u32) as usize;
+    let most = run_len(first.x, list.len().min(32) as u32) as usize;
     for i in 1..most {
         if !is_beside(first, i, list[i]) {
             return i;

@@ -123,7 +123,7 @@ fn find_row(
 
 /// Adds the regions of so many sections side by side in one page, from one on. Neighbours mostly have the same one.
 fn find_run(tables: &Tables, near: &mut Vec<u64>, made: &mut Vec<u64>, s: SectionPos, len: u32)
-    requires run { nat_abs (int_rem_euclid s.x (pos 8)) + len ≤ 8 }
+    requires run { nat_abs (int_rem_euclid s.x (pos 32)) + len ≤ 32 }
     requires few { length near.old.items + len ≤ 625 }
     requires rooms { (625 ≤ vec_capacity near.old) × (625 ≤ vec_capacity made.old) }
     ensures near { (before : List SectionPos)

@@ -13,9 +13,9 @@ use Rattle.fol_laws.proofs.Distances.{self_distance}
 use Rattle.fol_laws.proofs.FloorDivision.{around_in_limits}
 use Rattle.fol_laws.proofs.ListCounts.{count_by-none}
 use Rattle.fol_laws.proofs.SectionOrder.{section_rows_are, section_members, square_members, square_sorted}
-use Rattle.fol_pages.proofs.PagePlaces.{page_near}
+use Rattle.fol_pages.proofs.PagePlaces.{page_near, row_near}
 use Rattle.fol_sections.specs.declared.answers.Added.TheVariants.{Counted, Filled, Full}
-use Rattle.fol_sections.specs.Pages.{InNine, counts_at, is_here, page_of}
+use Rattle.fol_sections.specs.Pages.{InNear, counts_at, is_here, page_of}
 use Rattle.fol_sections.specs.declared.pages.Counts.{Counts}
 use Rattle.fol_sections.specs.declared.pages.Page.{Page}
 use Rattle.fol_sections.specs.Table.{added, is_full_for, is_missing, missing_count, present_count}
@@ -125,13 +125,13 @@ module _ (grid : Grid) (holds : List ((ℤ × ℤ) × ℕ)) (pages : List ((ℤ 
     pub presence-more : (s : SectionPos) → (is_here pages s || is_among missing s) ≡ (is_here pages s || is_missing (table grid holds pages filled spare) c s)
     presence-more s = ap (λ b. is_here pages s || b) (among-missing s ∙ sym (ap (λ (f : SectionPos → Bool). f s) table-missing))
 
-    pub missing_nine : InNine missing
+    pub missing_pages : InNear missing
     unfolding distance
-    missing_nine = record {
+    missing_pages = record {
       x = page_of ((section_of grid c).x -ℤ pos grid.create);
-      z = page_of ((section_of grid c).z -ℤ pos grid.create);
+      z = (section_of grid c).z -ℤ pos grid.create;
       column = λ s h. let d = missing_near s h in page_near (section_of grid c).x s.x grid.create (omega arith) kept.numbers.create_high;
-      row = λ s h. let d = missing_near s h in page_near (section_of grid c).z s.z grid.create (omega arith) kept.numbers.create_high;
+      row = λ s h. let d = missing_near s h in row_near (section_of grid c).z s.z grid.create (omega arith) kept.numbers.create_high;
     }
       where
         missing_near : (s : SectionPos) → is_among missing s ≡ true → distance (section_of grid c) s ≤ grid.create

@@ -79,7 +79,7 @@ module _ (first now : Page) (part : List SectionPos) (i : ℕ) (d : SectionPos) 
   ]
 
   -- none is, and it leaves
-  module _ (whole : 64 ≤ length now.sections) (place : ℕ) (is : place ≡ place_of next) (none : near_on now next ≡ 0) where
+  module _ (whole : 32 ≤ length now.sections) (place : ℕ) (is : place ≡ place_of next) (none : near_on now next ≡ 0) where
     abbrev cleared : Page
     cleared = record { sections = slice_set now.sections place None }
 
@@ -120,12 +120,12 @@ pub count_stretch : (test : ℕ → Bool) (f g : SectionPos → ℕ) (first : Se
     → count_by (λ s. test (f s)) xs ≡ count_by (λ s. test (g s)) xs
 count_stretch test f g first xs all same = sym (length-filter (λ s. test (f s)) xs) ∙ ap length (filter_stretch test f g first xs all same) ∙ length-filter (λ s. test (g s)) xs
 
-module _ (before after : List ((ℤ × ℤ) × Page)) (first : SectionPos) (old new : Page) (was : page_at before (page_of first.x) (page_of first.z) ≡ Some old)
-    (step : (a b : ℤ) → page_at after a b ≡ cond (is_same (page_of first.x) (page_of first.z) a b) (Some new) (page_at before a b))
+module _ (before after : List ((ℤ × ℤ) × Page)) (first : SectionPos) (old new : Page) (was : page_at before (page_of first.x) first.z ≡ Some old)
+    (step : (a b : ℤ) → page_at after a b ≡ cond (is_same (page_of first.x) first.z a b) (Some new) (page_at before a b))
     (part : List SectionPos) (all : All (IsOnPage first) part)
     (out : (q : SectionPos) → All (IsOnPage q) part → counts_on new q ≡ cond (is_among part q && nat_eq (near_on old q) 0) None (counts_on old q)) where
   pub out_of_page : (q : SectionPos) → counts_at after q ≡ cond (is_among part q && nat_eq (near_at before q) 0) None (counts_at before q)
-  out_of_page q = elim (cases_Bool (is_same (page_of first.x) (page_of first.z) (page_of q.x) (page_of q.z))) [
+  out_of_page q = elim (cases_Bool (is_same (page_of first.x) first.z (page_of q.x) q.z)) [
     | inl e ↦
         let on = on_page before after first old new was step q e in
         after_on before after first old new was step q on ∙ out q (listed_on first part all q on)
@@ -142,13 +142,13 @@ module _ (before after : List ((ℤ × ℤ) × Page)) (first : SectionPos) (old 
   pub page_empty : list_all (λ counts. not (is_some counts)) new.sections ≡ true → (q : SectionPos) → IsOnPage first q → counts_at after q ≡ None
   page_empty blank q on = after_on before after first old new was step q on ∙ nobody_in new.sections blank (place_of q)
 
-  pub page_busy : length new.sections ≡ 64 → list_all (λ counts. not (is_some counts)) new.sections ≡ false → HasSection after (page_of first.x) (page_of first.z)
+  pub page_busy : length new.sections ≡ 32 → list_all (λ counts. not (is_some counts)) new.sections ≡ false → HasSection after (page_of first.x) first.z
   page_busy whole busy =
-      let there = step (page_of first.x) (page_of first.z) ∙ ap (λ b. cond b (Some new) (page_at before (page_of first.x) (page_of first.z))) (same_self (page_of first.x) (page_of first.z)) in
-      used-busy after (page_of first.x) (page_of first.z) new there whole busy
+      let there = step (page_of first.x) first.z ∙ ap (λ b. cond b (Some new) (page_at before (page_of first.x) first.z)) (same_self (page_of first.x) first.z) in
+      used-busy after (page_of first.x) first.z new there whole busy
 
 -- where the page is not there, all of them are dead, and nothing changes
-module _ (entries : List ((ℤ × ℤ) × Page)) (first : SectionPos) (part : List SectionPos) (all : All (IsOnPage first) part) (none : page_at entries (page_of first.x) (page_of first.z) ≡ None) where
+module _ (entries : List ((ℤ × ℤ) × Page)) (first : SectionPos) (part : List SectionPos) (all : All (IsOnPage first) part) (none : page_at entries (page_of first.x) first.z ≡ None) where
   pub out_of_none : (q : SectionPos) → counts_at entries q ≡ cond (is_among part q && nat_eq (near_at entries q) 0) None (counts_at entries q)
   unfolding counts_at
   out_of_none q = elim (cases_Bool (is_among part q)) [

@@ -15,7 +15,7 @@ pub mod PageSteps
 pub mod SquareRows
 pub mod TurnSteps
 pub mod PageRuns
-pub mod NinePages
+pub mod NearPages
 pub mod UsedPages
 pub mod PageStretches
 pub mod DropSteps

@@ -27,7 +27,7 @@ or_false true = refl
 or_false false = refl
 
 -- ---- a section of a list comes to its page
-module _ (first now : Page) (part : List SectionPos) (i : ℕ) (d : SectionPos) (l : i < length part) (whole : 64 ≤ length now.sections) (place : ℕ) (is : place ≡ place_of (get_or part i d))
+module _ (first now : Page) (part : List SectionPos) (i : ℕ) (d : SectionPos) (l : i < length part) (whole : 32 ≤ length now.sections) (place : ℕ) (is : place ≡ place_of (get_or part i d))
     (before : (q : SectionPos) → All (IsOnPage q) part → counts_on now q ≡ cond (is_among (take i part) q) (Some no_counts) (counts_on first q)) where
   abbrev next : SectionPos
   next = get_or part i d
@@ -53,22 +53,22 @@ module _ (first now : Page) (part : List SectionPos) (i : ℕ) (d : SectionPos) 
 
 -- ---- a page with more sections in place of what was there
 module _ (before after : List ((ℤ × ℤ) × Page)) (first : SectionPos) (new : Page)
-    (step : (a b : ℤ) → page_at after a b ≡ cond (is_same (page_of first.x) (page_of first.z) a b) (Some new) (page_at before a b))
+    (step : (a b : ℤ) → page_at after a b ≡ cond (is_same (page_of first.x) first.z a b) (Some new) (page_at before a b))
     (part : List SectionPos) (all : All (IsOnPage first) part) where
-  pub stretch-written : ((q : SectionPos) → All (IsOnPage q) part → counts_on new q ≡ cond (is_among part q) (Some no_counts) (option_and_then (λ p. counts_on p q) (page_at before (page_of first.x) (page_of first.z))))
+  pub stretch-written : ((q : SectionPos) → All (IsOnPage q) part → counts_on new q ≡ cond (is_among part q) (Some no_counts) (option_and_then (λ p. counts_on p q) (page_at before (page_of first.x) first.z)))
       → (q : SectionPos) → counts_at after q ≡ cond (is_among part q) (Some no_counts) (counts_at before q)
   unfolding counts_at
-  stretch-written marked q = ap (option_and_then (λ p. counts_on p q)) (step (page_of q.x) (page_of q.z)) ∙ elim (cases_Bool (is_same (page_of first.x) (page_of first.z) (page_of q.x) (page_of q.z))) [
+  stretch-written marked q = ap (option_and_then (λ p. counts_on p q)) (step (page_of q.x) q.z) ∙ elim (cases_Bool (is_same (page_of first.x) first.z (page_of q.x) q.z)) [
     | inl e ↦
-        let k = same_place (page_of first.x) (page_of first.z) (page_of q.x) (page_of q.z) e in
+        let k = same_place (page_of first.x) first.z (page_of q.x) q.z e in
         let on : IsOnPage first q = (sym k.0, sym k.1) in
-        let old : option_and_then (λ p. counts_on p q) (page_at before (page_of q.x) (page_of q.z)) ≡ option_and_then (λ p. counts_on p q) (page_at before (page_of first.x) (page_of first.z)) =
+        let old : option_and_then (λ p. counts_on p q) (page_at before (page_of q.x) q.z) ≡ option_and_then (λ p. counts_on p q) (page_at before (page_of first.x) first.z) =
         (λ i. option_and_then (λ p. counts_on p q) (page_at before (on.0 i) (on.1 i))) in
         rw e (marked q (listed_on first part all q on) ∙ ap (cond (is_among part q) (Some no_counts)) (sym old))
     | inr e ↦
         let none : is_among part q ≡ false = elim (cases_Bool (is_among part q)) [
           | inr h ↦ h
-          | inl h ↦ let on = all_among (IsOnPage first) part q all h in absurd (true≢false (sym ((λ i. is_same (page_of first.x) (page_of first.z) (on.0 i) (on.1 i)) ∙ page_self first) ∙ e))
+          | inl h ↦ let on = all_among (IsOnPage first) part q all h in absurd (true≢false (sym ((λ i. is_same (page_of first.x) first.z (on.0 i) (on.1 i)) ∙ page_self first) ∙ e))
         ] in
         rw (e, none) refl
   ]

@@ -24,7 +24,7 @@ use Rattle.fol_sections.proofs.Rows.{count_more, filter_no, filter_yes, row-none
 use Rattle.fol_sections.proofs.TurnSteps.{fall_none, rise_none}
 
 -- a section of the run has a place in the page
-pub run_few : (s : SectionPos) (len : ℕ) → nat_abs (int_rem_euclid s.x (pos 8)) + len ≤ 8 → (i : ℕ) → i < len → place_of s + i < 64
+pub run_few : (s : SectionPos) (len : ℕ) → nat_abs (int_rem_euclid s.x (pos 32)) + len ≤ 32 → (i : ℕ) → i < len → place_of s + i < 32
 run_few s len run i l = omega (arith, run_end s len run, l)
 
 -- tests that agree on a row keep the same of it
@@ -50,7 +50,7 @@ count_none p x z (suc n) h =
     ap (λ m. count_by p (row_of section_at x z m)) e ∙ count_more section_at p x z n ∙ rw (k, h n (omega arith)) refl
 
 -- ---- a turn at one section of a page
-module _ (before : Page) (whole : 64 ≤ length before.sections) (s at : SectionPos) (page : IsOnPage s at) (place : ℕ) (is : place ≡ place_of at) (was now : Counts) (had : counts_on before at ≡ Some was) where
+module _ (before : Page) (whole : 32 ≤ length before.sections) (s at : SectionPos) (page : IsOnPage s at) (place : ℕ) (is : place ≡ place_of at) (was now : Counts) (had : counts_on before at ≡ Some was) where
   abbrev after : Page
   after = record { sections = slice_set before.sections place (Some now) }
 
@@ -100,22 +100,22 @@ pub keeps_then : (a b c : Page) → KeepsOthers a b → KeepsOthers b c → Keep
 keeps_then a b c x y = record { here = λ q. y.here q ∙ x.here q; chunks = λ q. y.chunks q ∙ x.chunks q }
 
 -- a section of another page is none of the run
-pub count_off : (s : SectionPos) (len : ℕ) → nat_abs (int_rem_euclid s.x (pos 8)) + len ≤ 8 → (q : SectionPos) → (IsOnPage s q → ⊥) → count_by (same_section q) (row_of section_at s.x s.z len) ≡ 0
+pub count_off : (s : SectionPos) (len : ℕ) → nat_abs (int_rem_euclid s.x (pos 32)) + len ≤ 32 → (q : SectionPos) → (IsOnPage s q → ⊥) → count_by (same_section q) (row_of section_at s.x s.z len) ≡ 0
 count_off s len run q off = count_none (same_section q) s.x s.z len (λ i l. elim (cases_Bool (same_section q (section_at (s.x +ℤ pos i) s.z))) [
   | inr e ↦ e
   | inl e ↦
       let k : q ≡ section_at (s.x +ℤ pos i) s.z = same_section-true q (section_at (s.x +ℤ pos i) s.z) e in
-      absurd (off (ap (λ (x : SectionPos). page_of x.x) k ∙ run_page s len run i l, ap (λ (x : SectionPos). page_of x.z) k))
+      absurd (off (ap (λ (x : SectionPos). page_of x.x) k ∙ run_page s len run i l, ap (λ (x : SectionPos). x.z) k))
 ])
 
 -- where the page is not there, no section of the run is present
-pub none_run : (entries : List ((ℤ × ℤ) × Page)) (s : SectionPos) (len : ℕ) → nat_abs (int_rem_euclid s.x (pos 8)) + len ≤ 8 → page_at entries (page_of s.x) (page_of s.z) ≡ None
+pub none_run : (entries : List ((ℤ × ℤ) × Page)) (s : SectionPos) (len : ℕ) → nat_abs (int_rem_euclid s.x (pos 32)) + len ≤ 32 → page_at entries (page_of s.x) s.z ≡ None
     → (q : SectionPos) → (0 < count_by (same_section q) (row_of section_at s.x s.z len) → is_here entries q ≡ true) → count_by (same_section q) (row_of section_at s.x s.z len) ≡ 0
 unfolding has_page
-none_run entries s len run none q here = elim (cases_Bool (is_same (page_of s.x) (page_of s.z) (page_of q.x) (page_of q.z))) [
-  | inr e ↦ count_off s len run q (λ on. true≢false (sym (same_self (page_of q.x) (page_of q.z)) ∙ (λ i. is_same (on.0 i) (on.1 i) (page_of q.x) (page_of q.z)) ∙ e))
+none_run entries s len run none q here = elim (cases_Bool (is_same (page_of s.x) s.z (page_of q.x) q.z)) [
+  | inr e ↦ count_off s len run q (λ on. true≢false (sym (same_self (page_of q.x) q.z) ∙ (λ i. is_same (on.0 i) (on.1 i) (page_of q.x) q.z) ∙ e))
   | inl e ↦
-      let k = same_place (page_of s.x) (page_of s.z) (page_of q.x) (page_of q.z) e in
+      let k = same_place (page_of s.x) s.z (page_of q.x) q.z e in
       elim (cases_lt 0 (count_by (same_section q) (row_of section_at s.x s.z len))) [
         | inl p ↦ absurd (true≢false (sym (here-page entries q (here p)) ∙ (λ i. has_page entries (sym k.0 i) (sym k.1 i)) ∙ ap is_some none))
         | inr p ↦ omega arith
@@ -123,16 +123,16 @@ none_run entries s len run none q here = elim (cases_Bool (is_same (page_of s.x)
 ]
 
 -- a page that is written again changes nothing
-pub same_page : (entries : List ((ℤ × ℤ) × Page)) (s : SectionPos) (old : Page) → page_at entries (page_of s.x) (page_of s.z) ≡ Some old
-    → (a b : ℤ) → page_at entries a b ≡ cond (is_same (page_of s.x) (page_of s.z) a b) (Some old) (page_at entries a b)
-same_page entries s old was a b = elim (cases_Bool (is_same (page_of s.x) (page_of s.z) a b)) [
-  | inl e ↦ let k = same_place (page_of s.x) (page_of s.z) a b e in rw e ((λ i. page_at entries (sym k.0 i) (sym k.1 i)) ∙ was)
+pub same_page : (entries : List ((ℤ × ℤ) × Page)) (s : SectionPos) (old : Page) → page_at entries (page_of s.x) s.z ≡ Some old
+    → (a b : ℤ) → page_at entries a b ≡ cond (is_same (page_of s.x) s.z a b) (Some old) (page_at entries a b)
+same_page entries s old was a b = elim (cases_Bool (is_same (page_of s.x) s.z a b)) [
+  | inl e ↦ let k = same_place (page_of s.x) s.z a b e in rw e ((λ i. page_at entries (sym k.0 i) (sym k.1 i)) ∙ was)
   | inr e ↦ rw e refl
 ]
 
 -- ---- one page changed
-module _ (before after : List ((ℤ × ℤ) × Page)) (s : SectionPos) (old new : Page) (was : page_at before (page_of s.x) (page_of s.z) ≡ Some old)
-    (step : (a b : ℤ) → page_at after a b ≡ cond (is_same (page_of s.x) (page_of s.z) a b) (Some new) (page_at before a b)) where
+module _ (before after : List ((ℤ × ℤ) × Page)) (s : SectionPos) (old new : Page) (was : page_at before (page_of s.x) s.z ≡ Some old)
+    (step : (a b : ℤ) → page_at after a b ≡ cond (is_same (page_of s.x) s.z a b) (Some new) (page_at before a b)) where
   pub before_on : (q : SectionPos) → IsOnPage s q → counts_at before q ≡ counts_on old q
   unfolding counts_at
   before_on q on = (λ i. option_and_then (λ p. counts_on p q) (page_at before (on.0 i) (on.1 i))) ∙ ap (option_and_then (λ p. counts_on p q)) was
@@ -140,31 +140,31 @@ module _ (before after : List ((ℤ × ℤ) × Page)) (s : SectionPos) (old new 
   pub after_on : (q : SectionPos) → IsOnPage s q → counts_at after q ≡ counts_on new q
   unfolding counts_at
   after_on q on =
-      let e : is_same (page_of s.x) (page_of s.z) (page_of s.x) (page_of s.z) ≡ true = same_self (page_of s.x) (page_of s.z) in
+      let e : is_same (page_of s.x) s.z (page_of s.x) s.z ≡ true = same_self (page_of s.x) s.z in
       (λ i. option_and_then (λ p. counts_on p q) (page_at after (on.0 i) (on.1 i)))
-      ∙ ap (option_and_then (λ p. counts_on p q)) (step (page_of s.x) (page_of s.z) ∙ ap (λ b. cond b (Some new) (page_at before (page_of s.x) (page_of s.z))) e)
+      ∙ ap (option_and_then (λ p. counts_on p q)) (step (page_of s.x) s.z ∙ ap (λ b. cond b (Some new) (page_at before (page_of s.x) s.z)) e)
 
-  pub after_off : (q : SectionPos) → is_same (page_of s.x) (page_of s.z) (page_of q.x) (page_of q.z) ≡ false → counts_at after q ≡ counts_at before q
+  pub after_off : (q : SectionPos) → is_same (page_of s.x) s.z (page_of q.x) q.z ≡ false → counts_at after q ≡ counts_at before q
   unfolding counts_at
-  after_off q e = ap (option_and_then (λ p. counts_on p q)) (step (page_of q.x) (page_of q.z) ∙ ap (λ b. cond b (Some new) (page_at before (page_of q.x) (page_of q.z))) e)
+  after_off q e = ap (option_and_then (λ p. counts_on p q)) (step (page_of q.x) q.z ∙ ap (λ b. cond b (Some new) (page_at before (page_of q.x) q.z)) e)
 
-  pub on_page : (q : SectionPos) → is_same (page_of s.x) (page_of s.z) (page_of q.x) (page_of q.z) ≡ true → IsOnPage s q
-  on_page q e = let k = same_place (page_of s.x) (page_of s.z) (page_of q.x) (page_of q.z) e in (sym k.0, sym k.1)
+  pub on_page : (q : SectionPos) → is_same (page_of s.x) s.z (page_of q.x) q.z ≡ true → IsOnPage s q
+  on_page q e = let k = same_place (page_of s.x) s.z (page_of q.x) q.z e in (sym k.0, sym k.1)
 
-  pub off_page : (q : SectionPos) → is_same (page_of s.x) (page_of s.z) (page_of q.x) (page_of q.z) ≡ false → IsOnPage s q → ⊥
-  off_page q e on = true≢false (sym (same_self (page_of q.x) (page_of q.z)) ∙ (λ i. is_same (on.0 i) (on.1 i) (page_of q.x) (page_of q.z)) ∙ e)
+  pub off_page : (q : SectionPos) → is_same (page_of s.x) s.z (page_of q.x) q.z ≡ false → IsOnPage s q → ⊥
+  off_page q e on = true≢false (sym (same_self (page_of q.x) q.z) ∙ (λ i. is_same (on.0 i) (on.1 i) (page_of q.x) q.z) ∙ e)
 
   module _ (keeps : KeepsOthers old new) where
     pub run_here : (q : SectionPos) → is_here after q ≡ is_here before q
     unfolding is_here
-    run_here q = elim (cases_Bool (is_same (page_of s.x) (page_of s.z) (page_of q.x) (page_of q.z))) [
+    run_here q = elim (cases_Bool (is_same (page_of s.x) s.z (page_of q.x) q.z)) [
       | inl e ↦ ap is_some (after_on q (on_page q e)) ∙ keeps.here q ∙ sym (ap is_some (before_on q (on_page q e)))
       | inr e ↦ ap is_some (after_off q e)
     ]
 
     pub run_chunks : (q : SectionPos) → chunks_at after q ≡ chunks_at before q
     unfolding chunks_at
-    run_chunks q = elim (cases_Bool (is_same (page_of s.x) (page_of s.z) (page_of q.x) (page_of q.z))) [
+    run_chunks q = elim (cases_Bool (is_same (page_of s.x) s.z (page_of q.x) q.z)) [
       | inl e ↦ ap (λ o. (unwrap_or o no_counts).loaded) (after_on q (on_page q e)) ∙ keeps.chunks q ∙ sym (ap (λ o. (unwrap_or o no_counts).loaded) (before_on q (on_page q e)))
       | inr e ↦ ap (λ o. (unwrap_or o no_counts).loaded) (after_off q e)
     ]
@@ -172,8 +172,8 @@ module _ (before after : List ((ℤ × ℤ) × Page)) (s : SectionPos) (old new 
     pub run_used : AllUsed before → AllUsed after
     unfolding has_page
     run_used used x z h =
-        let there : has_page before (page_of s.x) (page_of s.z) ≡ true = ap is_some was in
-        let w = used x z (sym (pages-same before after (page_of s.x) (page_of s.z) new step there x z) ∙ h) in
+        let there : has_page before (page_of s.x) s.z ≡ true = ap is_some was in
+        let w = used x z (sym (pages-same before after (page_of s.x) s.z new step there x z) ∙ h) in
         (w.0, w.1, w.2, run_here w.0 ∙ w.3)
 
   pub before_near : (q : SectionPos) → IsOnPage s q → near_at before q ≡ near_on old q
@@ -184,14 +184,14 @@ module _ (before after : List ((ℤ × ℤ) × Page)) (s : SectionPos) (old new 
   unfolding near_at
   after_near q on = ap (λ o. (unwrap_or o no_counts).near) (after_on q on)
 
-  same_near : (q : SectionPos) → is_same (page_of s.x) (page_of s.z) (page_of q.x) (page_of q.z) ≡ false → near_at after q ≡ near_at before q
+  same_near : (q : SectionPos) → is_same (page_of s.x) s.z (page_of q.x) q.z ≡ false → near_at after q ≡ near_at before q
   unfolding near_at
   same_near q e = ap (λ o. (unwrap_or o no_counts).near) (after_off q e)
 
-  pub run_near : (len : ℕ) (turn : Turn) → nat_abs (int_rem_euclid s.x (pos 8)) + len ≤ 8
+  pub run_near : (len : ℕ) (turn : Turn) → nat_abs (int_rem_euclid s.x (pos 32)) + len ≤ 32
       → ((q : SectionPos) → IsOnPage s q → near_on new q + fall turn (count_by (same_section q) (row_of section_at s.x s.z len)) ≡ near_on old q + rise turn (count_by (same_section q) (row_of section_at s.x s.z len)))
       → (q : SectionPos) → near_at after q + fall turn (count_by (same_section q) (row_of section_at s.x s.z len)) ≡ near_at before q + rise turn (count_by (same_section q) (row_of section_at s.x s.z len))
-  run_near len turn run near q = elim (cases_Bool (is_same (page_of s.x) (page_of s.z) (page_of q.x) (page_of q.z))) [
+  run_near len turn run near q = elim (cases_Bool (is_same (page_of s.x) s.z (page_of q.x) q.z)) [
     | inl e ↦ let on = on_page q e in rw (after_near q on, before_near q on) (near q on)
     | inr e ↦
         let n = count_off s len run q (off_page q e) in
@@ -199,8 +199,8 @@ module _ (before after : List ((ℤ × ℤ) × Page)) (s : SectionPos) (old new 
   ]
 
   -- a section of the run lies on the page
-  pub run_on : (len : ℕ) → nat_abs (int_rem_euclid s.x (pos 8)) + len ≤ 8 → (q : SectionPos) → 0 < count_by (same_section q) (row_of section_at s.x s.z len) → IsOnPage s q
-  run_on len run q some = elim (cases_Bool (is_same (page_of s.x) (page_of s.z) (page_of q.x) (page_of q.z))) [
+  pub run_on : (len : ℕ) → nat_abs (int_rem_euclid s.x (pos 32)) + len ≤ 32 → (q : SectionPos) → 0 < count_by (same_section q) (row_of section_at s.x s.z len) → IsOnPage s q
+  run_on len run q some = elim (cases_Bool (is_same (page_of s.x) s.z (page_of q.x) q.z)) [
     | inl e ↦ on_page q e
     | inr e ↦ let n = count_off s len run q (off_page q e) in absurd (omega arith)
   ]

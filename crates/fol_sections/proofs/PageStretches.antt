@@ -33,11 +33,11 @@ stretch_on rest part n is some one = on part some (rw (← is) at one)
 
 module _ (entries : List ((ℤ × ℤ) × Page)) (first q : SectionPos) (on : IsOnPage first q) where
   -- what is near a section that lies in a page that is there
-  pub near_there : (p : Page) → page_at entries (page_of first.x) (page_of first.z) ≡ Some p → near_at entries q ≡ near_on p q
+  pub near_there : (p : Page) → page_at entries (page_of first.x) first.z ≡ Some p → near_at entries q ≡ near_on p q
   near_there p was = before_near entries entries first p p was (same_page entries first p was) q on
 
   -- nothing is near a section whose page is not there
-  pub near_nowhere : page_at entries (page_of first.x) (page_of first.z) ≡ None → near_at entries q ≡ 0
+  pub near_nowhere : page_at entries (page_of first.x) first.z ≡ None → near_at entries q ≡ 0
   unfolding near_at counts_at
   near_nowhere none = ap (λ o. (unwrap_or (option_and_then (λ p. counts_on p q) o) no_counts).near) ((λ i. page_at entries (on.0 i) (on.1 i)) ∙ none)
 
@@ -65,12 +65,12 @@ sum_none (x ∷ xs) = omega (arith, sum_none xs, sum_by-cons (λ (s : SectionPos
 
 module _ (entries : List ((ℤ × ℤ) × Page)) (first q : SectionPos) (on : IsOnPage first q) where
   -- how many loaded chunks a section holds that lies in a page that is there
-  pub chunks_there : (p : Page) → page_at entries (page_of first.x) (page_of first.z) ≡ Some p → chunks_at entries q ≡ chunks_on p q
+  pub chunks_there : (p : Page) → page_at entries (page_of first.x) first.z ≡ Some p → chunks_at entries q ≡ chunks_on p q
   unfolding chunks_at counts_at
   chunks_there p was = (λ i. (unwrap_or (option_and_then (λ p. counts_on p q) (page_at entries (on.0 i) (on.1 i))) no_counts).loaded) ∙ ap (λ o. (unwrap_or (option_and_then (λ p. counts_on p q) o) no_counts).loaded) was
 
   -- a section whose page is not there holds none
-  pub chunks_nowhere : page_at entries (page_of first.x) (page_of first.z) ≡ None → chunks_at entries q ≡ 0
+  pub chunks_nowhere : page_at entries (page_of first.x) first.z ≡ None → chunks_at entries q ≡ 0
   unfolding chunks_at counts_at
   chunks_nowhere none = (λ i. (unwrap_or (option_and_then (λ p. counts_on p q) (page_at entries (on.0 i) (on.1 i))) no_counts).loaded) ∙ ap (λ o. (unwrap_or (option_and_then (λ p. counts_on p q) o) no_counts).loaded) none
 

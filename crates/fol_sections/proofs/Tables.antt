@@ -90,7 +90,7 @@ module _ (grid : Grid) (holds holds' : List ((ℤ × ℤ) × ℕ)) (pages pages'
 
   kept_counts : (s : SectionPos) → counts_at pages' s ≡ counts_at pages s
   unfolding counts_at
-  kept_counts s = ap (option_and_then (λ p. slice_index_or p.sections (place_of s) None)) (same_pages (page_of s.x) (page_of s.z))
+  kept_counts s = ap (option_and_then (λ p. slice_index_or p.sections (place_of s) None)) (same_pages (page_of s.x) s.z)
 
   here : (s : SectionPos) → is_here pages' s ≡ is_here pages s
   unfolding is_here

@@ -57,6 +57,6 @@ pub record IsKept (grid : Grid) (holds : List ((ℤ × ℤ) × ℕ)) (pages : Li
 -- there is room for that many holds more
 pub record HasRoom (spare in_holds in_pages in_filled : ℕ) : Type 0 where
   pub holds : spare ≤ in_holds
-  pub pages : 9 * spare ≤ in_pages
+  pub pages : 34 * spare ≤ in_pages
   pub filled : 289 ≤ in_filled
   pub fits : spare ≤ 4294967295

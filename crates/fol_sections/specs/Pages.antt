@@ -1,4 +1,4 @@
--- Sections by page: 8 by 8 of them.
+-- Sections by page: 32 of them side by side in a row.
 use Rattle.std.specs.Prelude.{◌≡◌, ℕ, ℤ, pos, ◌<◌, ◌+ℤ◌, Bool, true, Option, None, List, is_some, slice_index_or}
 use Rattle.std.specs.Option.{option_and_then, unwrap_or}
 use Rattle.fol_model.specs.declared.places.SectionPos.{SectionPos}
@@ -31,7 +31,7 @@ pub record KeepsOthers (old new : Page) : Type 0 where
 
 -- what is kept of a section, if it is present
 unfoldable pub counts_at : List ((ℤ × ℤ) × Page) → SectionPos → Option Counts
-counts_at entries s = option_and_then (λ p. counts_on p s) (page_at entries (page_of s.x) (page_of s.z))
+counts_at entries s = option_and_then (λ p. counts_on p s) (page_at entries (page_of s.x) s.z)
 
 -- the section is present
 unfoldable pub is_here : List ((ℤ × ℤ) × Page) → SectionPos → Bool
@@ -45,16 +45,16 @@ chunks_at entries s = (unwrap_or (counts_at entries s) no_counts).loaded
 unfoldable pub near_at : List ((ℤ × ℤ) × Page) → SectionPos → ℕ
 near_at entries s = (unwrap_or (counts_at entries s) no_counts).near
 
--- the sections lie in three columns and three rows of pages
-pub record InNine (sections : List SectionPos) : Type 0 where
+-- the sections lie in two columns of pages and seventeen rows
+pub record InNear (sections : List SectionPos) : Type 0 where
   pub x : ℤ
   pub z : ℤ
-  pub column : (s : SectionPos) → is_among sections s ≡ true → (i : ℕ) × (i < 3) × (page_of s.x ≡ x +ℤ pos i)
-  pub row : (s : SectionPos) → is_among sections s ≡ true → (i : ℕ) × (i < 3) × (page_of s.z ≡ z +ℤ pos i)
+  pub column : (s : SectionPos) → is_among sections s ≡ true → (i : ℕ) × (i < 2) × (page_of s.x ≡ x +ℤ pos i)
+  pub row : (s : SectionPos) → is_among sections s ≡ true → (i : ℕ) × (i < 17) × (s.z ≡ z +ℤ pos i)
 
 -- a section of that page is present
 abbrev pub HasSection : List ((ℤ × ℤ) × Page) → ℤ → ℤ → Type 0
-HasSection pages x z = (s : SectionPos) × (page_of s.x ≡ x) × (page_of s.z ≡ z) × (is_here pages s ≡ true)
+HasSection pages x z = (s : SectionPos) × (page_of s.x ≡ x) × (s.z ≡ z) × (is_here pages s ≡ true)
 
 -- a page is there only where one of its sections is present
 abbrev pub AllUsed : List ((ℤ × ℤ) × Page) → Type 0

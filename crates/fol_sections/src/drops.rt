@@ -39,8 +39,8 @@ fn clear_stretch(pages: &mut Pages, first: SectionPos, part: &[SectionPos]) -> (
     ensures empty { result.1 ≡ true → (q : SectionPos) → IsOnPage first q
         → counts_at pages.new.entries q ≡ None }
     ensures busy { result.1 ≡ false
-        → IsTrue (has_page pages.new.entries (page first.x) (page first.z))
-        → HasSection pages.new.entries (page first.x) (page first.z) }
+        → IsTrue (has_page pages.new.entries (page first.x) first.z)
+        → HasSection pages.new.entries (page first.x) first.z }
     ensures room { spare pages.new ≡ spare pages.old }
 {
     match pages.get_mut(&page_of(first)) {

@@ -1,4 +1,4 @@
-//! Present sections in pages of 8 by 8.
+//! Present sections in pages of 32 that stand side by side in a row.
 
 ghost use Rattle.std.specs.Prelude.{◌≡◌, ℤ, ◌+◌, ◌<◌, ◌≤◌, not, ◌||◌, false, cond, is_some, Some, None, IsTrue, length};
 ghost use Rattle.std.specs.List.{All, list_all};
@@ -21,10 +21,10 @@ pub struct Counts {
     pub near: u16,
 }
 
-/// The sections of a square of 8 by 8, row by row; `None` for one that is not present.
+/// 32 sections side by side in a row; `None` for one that is not present.
 #[derive(Clone, Copy)]
 pub struct Page {
-    pub sections: [Option<Counts>; 64],
+    pub sections: [Option<Counts>; 32],
 }
 
 /// Pages by their column and row.
@@ -35,7 +35,7 @@ pub fn empty_page() -> Page
     ensures { (q : SectionPos) → is_some (counts_on result q) ≡ false }
 {
     Page {
-        sections: [None; 64],
+        sections: [None; 32],
     }
 }
 
@@ -101,7 +101,7 @@ pub fn near(pages: &Pages, s: SectionPos) -> u32
 
 /// Changes what is kept of a section whose page is there.
 fn write(pages: &mut Pages, s: SectionPos, counts: Option<Counts>)
-    requires there { IsTrue (has_page pages.old.entries (page s.x) (page s.z)) }
+    requires there { IsTrue (has_page pages.old.entries (page s.x) s.z) }
     ensures put { (q : SectionPos) → counts_at pages.new.entries q
         ≡ cond (same_section s q) counts (counts_at pages.old.entries q) }
     ensures pages { (x z : ℤ) → has_page pages.new.entries x z ≡ has_page pages.old.entries x z }
@@ -137,14 +137,14 @@ fn page_with(part: &[SectionPos]) -> Page
 pub fn put_stretch(pages: &mut Pages, first: SectionPos, part: &[SectionPos])
     requires some { IsTrue (is_among part.now first) }
     requires page { All (IsOnPage first) part.now }
-    requires room { has_page pages.old.entries (page first.x) (page first.z) ≡ false
+    requires room { has_page pages.old.entries (page first.x) first.z ≡ false
         → 0 < spare pages.old }
     ensures put { (q : SectionPos) → counts_at pages.new.entries q
         ≡ cond (is_among part.now q) (Some no_counts) (counts_at pages.old.entries q) }
     ensures pages { (x z : ℤ) → has_page pages.new.entries x z
-        ≡ (is_same (page first.x) (page first.z) x z || has_page pages.old.entries x z) }
+        ≡ (is_same (page first.x) first.z x z || has_page pages.old.entries x z) }
     ensures room { spare pages.old ≤ spare pages.new
-        + cond (has_page pages.old.entries (page first.x) (page first.z)) 0 1 }
+        + cond (has_page pages.old.entries (page first.x) first.z) 0 1 }
     ensures used { AllUsed pages.old.entries → AllUsed pages.new.entries }
 {
     match pages.get_mut(&page_of(first)) {
@@ -169,7 +169,7 @@ pub fn change(pages: &mut Pages, s: SectionPos, counts: Counts)
 /// Whether a page has no present section.
 pub fn is_empty(page: &Page) -> bool
     ensures value { result ≡ list_all (λ counts. not (is_some counts)) page.now.sections }
-    ensures whole { length page.now.sections ≡ 64 }
+    ensures whole { length page.now.sections ≡ 32 }
 {
     page.sections.iter().all(|counts| counts.is_none())
 }

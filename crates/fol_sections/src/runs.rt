@@ -21,7 +21,7 @@ use fol_pages::{page_of, place_of};
 /// The section that many columns behind another one.
 fn behind(s: SectionPos, columns: u32) -> SectionPos
     requires near { nat_abs s.x ≤ 1000040 }
-    requires few { columns ≤ 8 }
+    requires few { columns ≤ 32 }
     ensures { result ≡ section_at (s.x +ℤ pos columns) s.z }
 {
     SectionPos {
@@ -33,7 +33,7 @@ fn behind(s: SectionPos, columns: u32) -> SectionPos
 /// Adds those of the sections from one on that are looked for, by what their page keeps of them.
 fn find_on(page: &Page, found: &mut Vec<SectionPos>, s: SectionPos, len: u32, wanted: Wanted)
     requires near { nat_abs s.x ≤ 1000040 }
-    requires run { nat_abs (int_rem_euclid s.x (pos 8)) + len ≤ 8 }
+    requires run { nat_abs (int_rem_euclid s.x (pos 32)) + len ≤ 32 }
     requires room { length found.old.items + len ≤ vec_capacity found.old }
     ensures found { found.new.items ≡ found.old.items
         ++ filter (λ q. is_wanted wanted (counts_on page.now q)) (row_of section_at s.x s.z len) }
@@ -51,7 +51,7 @@ fn find_on(page: &Page, found: &mut Vec<SectionPos>, s: SectionPos, len: u32, wa
 /// Adds those of the sections from one on, all in one page, that are looked for.
 pub fn find_run(pages: &Pages, found: &mut Vec<SectionPos>, s: SectionPos, len: u32, wanted: Wanted)
     requires near { nat_abs s.x ≤ 1000040 }
-    requires run { nat_abs (int_rem_euclid s.x (pos 8)) + len ≤ 8 }
+    requires run { nat_abs (int_rem_euclid s.x (pos 32)) + len ≤ 32 }
     requires room { length found.old.items + len ≤ vec_capacity found.old }
     ensures found { found.new.items ≡ found.old.items
         ++ filter (λ q. is_wanted wanted (counts_at pages.now.entries q))
@@ -67,7 +67,7 @@ pub fn find_run(pages: &Pages, found: &mut Vec<SectionPos>, s: SectionPos, len: 
 
 /// Counts a turn at the sections from one on, which are present in their page.
 fn turn_on(page: &mut Page, s: SectionPos, len: u32, turn: Turn)
-    requires run { nat_abs (int_rem_euclid s.x (pos 8)) + len ≤ 8 }
+    requires run { nat_abs (int_rem_euclid s.x (pos 32)) + len ≤ 32 }
     requires here { (q : SectionPos) → 0 < count_by (same_section q) (row_of section_at s.x s.z len)
         → IsTrue (is_some (counts_on page.old q)) }
     requires low { (q : SectionPos) → IsOnPage s q
@@ -96,7 +96,7 @@ fn turn_on(page: &mut Page, s: SectionPos, len: u32, turn: Turn)
 
 /// Counts a turn at the sections from one on, which are present and all in one page.
 pub fn turn_run(pages: &mut Pages, s: SectionPos, len: u32, turn: Turn)
-    requires run { nat_abs (int_rem_euclid s.x (pos 8)) + len ≤ 8 }
+    requires run { nat_abs (int_rem_euclid s.x (pos 32)) + len ≤ 32 }
     requires here { (q : SectionPos) → 0 < count_by (same_section q) (row_of section_at s.x s.z len)
         → IsTrue (is_here pages.old.entries q) }
     requires low { (q : SectionPos)

@@ -7,7 +7,7 @@ ghost use Rattle.std.specs.HashMap.{spare as room_of};
 ghost use Rattle.fol_model.specs.declared.places.ChunkPos.{ChunkPos};
 ghost use Rattle.fol_model.specs.declared.places.SectionPos.{SectionPos};
 ghost use Rattle.fol_sections.specs.Places.{count_at};
-ghost use Rattle.fol_sections.specs.Pages.{AllUsed, InNine, chunks_at, counts_at, is_here, near_at, no_counts};
+ghost use Rattle.fol_sections.specs.Pages.{AllUsed, InNear, chunks_at, counts_at, is_here, near_at, no_counts};
 ghost use Rattle.fol_sections.specs.Turns.{fall, rise};
 ghost use Rattle.fol_model.specs.Geometry.{is_chunk, is_within, same_section, is_among};
 ghost use Rattle.fol_model.specs.GridState.{at_chunk};
@@ -363,8 +363,8 @@ fn take_hold(
     c: ChunkPos,
 )
     requires hold { (1 ≤ room_of holds.old) × (count_at holds.old.entries c < 2 ^ 62) }
-    requires room { 9 ≤ room_of pages.old }
-    requires nine { InNine missing.now }
+    requires room { 34 ≤ room_of pages.old }
+    requires pages { InNear missing.now }
     requires near { (nat_abs home.x ≤ 1000008) × (nat_abs home.z ≤ 1000008) }
     requires few { radius ≤ 8 }
     requires absent { (s : SectionPos) → IsTrue (is_among missing.now s)
@@ -384,7 +384,7 @@ fn take_hold(
         ≡ near_at pages.old.entries s + cond (not (nat_lt 0 (count_at holds.old.entries c))
         && (nat_eq (chunks_at pages.old.entries home) 0 && is_within home radius s)) 1 0 }
     ensures rooms { (room_of holds.old ≤ room_of holds.new + 1)
-        × (room_of pages.old ≤ room_of pages.new + 9) }
+        × (room_of pages.old ≤ room_of pages.new + 34) }
     ensures used { AllUsed pages.old.entries → AllUsed pages.new.entries }
 {
     fill(pages, missing);
@@ -402,11 +402,11 @@ fn create_radius(grid: &Grid) -> u8
 
 /// Makes missing sections present, with no loaded chunk near them.
 fn fill(pages: &mut Pages, missing: &[SectionPos])
-    requires room { 9 ≤ room_of pages.old }
-    requires near { InNine missing.now }
+    requires room { 34 ≤ room_of pages.old }
+    requires near { InNear missing.now }
     ensures filled { (s : SectionPos) → counts_at pages.new.entries s
         ≡ cond (is_among missing.now s) (Some no_counts) (counts_at pages.old.entries s) }
-    ensures room { room_of pages.old ≤ room_of pages.new + 9 }
+    ensures room { room_of pages.old ≤ room_of pages.new + 34 }
     ensures used { AllUsed pages.old.entries → AllUsed pages.new.entries }
 {
     let mut rest = missing;

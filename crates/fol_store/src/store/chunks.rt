@@ -62,7 +62,7 @@ impl Store {
             bag: Some(id),
         };
         let quiet = self.none_waits(place);
-        match slots::admit(self.alloc, &mut self.bags, id, c, quiet) {
+        match slots::admit(&mut self.bags, id, c, quiet) {
             Ok(()) => match self.places.set(c, claimed) {
                 Ok(()) => {}
                 Err(_) => slots::unlist(&mut self.bags, id),
@@ -217,7 +217,7 @@ impl Store {
         ensures same { SameMeaning self.old self.new }
     {
         self.places.unname(c);
-        slots::dismiss(self.alloc, &mut self.bags, id, c);
+        slots::dismiss(&mut self.bags, id, c);
     }
 
     /// A listed bag that has the chunk loses it, and the blocks and entities that lie on it, which are `size`, go into the chunk's spot,
@@ -238,7 +238,7 @@ impl Store {
     {
         spots::shift_contents_from_bag(&mut self.bags, id, c, size, &mut self.spots, i)?;
         self.places.unname(c);
-        slots::dismiss(self.alloc, &mut self.bags, id, c);
+        slots::dismiss(&mut self.bags, id, c);
         Ok(())
     }
 }

@@ -169,15 +169,29 @@ impl Store {
         Some(list)
     }
 
-    /// Whether a bag has no chunk but these.
+    /// Whether a bag has no chunk but these. False too where memory runs out.
     fn has_no_other(&self, id: usize, chunks: &[ChunkPos]) -> bool
         requires here { (bag_of self.now id).here ≡ true }
         requires order { IsStrictlySortedBy chunk_cmp chunks.now }
         ensures { result ≡ true → (q : ChunkPos) → (place self.now q).bag ≡ Some id
             → is_recorded chunks.now q ≡ true }
     {
+        match self.chunks_of(id) {
+            Ok(own) => self.has_none_outside(id, &own, chunks),
+            Err(_) => false,
+        }
+    }
+
+    /// Whether a bag, which was listed for some chunks, has no chunk but these.
+    fn has_none_outside(&self, id: usize, own: &[ChunkPos], chunks: &[ChunkPos]) -> bool
+        requires here { (bag_of self.now id).here ≡ true }
+        requires own { own.now ≡ (bag_of self.now id).chunks }
+        requires order { IsStrictlySortedBy chunk_cmp chunks.now }
+        ensures { result ≡ true → (q : ChunkPos) → (place self.now q).bag ≡ Some id
+            → is_recorded chunks.now q ≡ true }
+    {
         let list = ChunkList::of(chunks);
-        for c in self.chunks_of(id) {
+        for c in own {
             if has_bag(self.places.at(*c), id) && !list.has(*c) {
                 return false;
             }

@@ -275,8 +275,9 @@ impl Store {
             → ⊥)) }
     {
         let list = ChunkList::of(chunks);
-        for k in 0..self.chunks_of(id).len() {
-            let c = self.chunks_of(id)[k];
+        let own = self.chunks_of(id)?;
+        for k in 0..own.len() {
+            let c = own[k];
             if !list.has(c) {
                 match self.evict(id, c) {
                     Ok(()) => {}

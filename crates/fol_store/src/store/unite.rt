@@ -136,15 +136,17 @@ impl Store {
         ensures { IfOk result (λ list.
             IsUnion (bag_of self.now into).chunks (bag_of self.now from).chunks list.items) }
     {
-        members::union(self.alloc, self.chunks_of(into), self.chunks_of(from))
+        let chunks = self.chunks_of(into)?;
+        let others = self.chunks_of(from)?;
+        members::union(self.alloc, &chunks, &others)
     }
 
-    /// The chunks of a bag.
-    pub(super) fn chunks_of(&self, id: usize) -> &[ChunkPos]
+    /// The chunks of a bag, in memory of their own.
+    pub(super) fn chunks_of(&self, id: usize) -> Result<Vec<ChunkPos>, AllocError>
         requires { (bag_of self.now id).here ≡ true }
-        ensures { result.now ≡ (bag_of self.now id).chunks }
+        ensures { IfOk result (λ chunks. chunks.items ≡ (bag_of self.now id).chunks) }
     {
-        self.bags.slot(id).list.as_slice()
+        self.bags.slot(id).list.copy(self.alloc)
     }
 
     /// What lies on the chunks of a whole bag goes into another one, whose chunks are those of both. If memory runs out, the other has to

@@ -11,12 +11,8 @@ use Rattle.fol_keyed.proofs.Keyed.{differ_append, differ_permuted}
 use Rattle.fol_keyed.proofs.Places.{same_chunk-true, same_chunk-self, chunk_cmp_total, chunk_cmp_tells}
 use Rattle.fol_keyed.proofs.Sorted.{differ_from_sorted}
 use Rattle.fol_bags.proofs.Ordered.{strict_by}
-use Rattle.fol_bags.proofs.Recorded.{recorded_at}
+use Rattle.fol_bags.proofs.Recorded.{recorded_in}
 use Rattle.fol_bags.proofs.members.union.Goals as goal
-
--- one that stands in the list
-recorded_in : (xs : List ChunkPos) (x : ChunkPos) → Contains xs x → is_recorded xs x ≡ true
-recorded_in xs x (i, l, e) = ap (is_recorded xs) (sym e) ∙ recorded_at xs i x l
 
 pub returns : goal.returns
 returns c =

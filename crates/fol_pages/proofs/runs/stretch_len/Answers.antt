@@ -13,14 +13,14 @@ abbrev origin : SectionPos
 origin = record { x = pos 0; z = pos 0 }
 
 -- one section more of the page
-module _ (page : ℤ × ℤ) (sections : List SectionPos) (i : ℕ) (l : i < length sections) (at : (page_of (get_or sections i origin).x, page_of (get_or sections i origin).z) ≡ page)
-    (before : (s : SectionPos) → is_among (take i sections) s ≡ true → (page_of s.x ≡ page.0) × (page_of s.z ≡ page.1)) where
-  page_more : (s : SectionPos) → is_among (take (i + 1) sections) s ≡ true → (page_of s.x ≡ page.0) × (page_of s.z ≡ page.1)
+module _ (page : ℤ × ℤ) (sections : List SectionPos) (i : ℕ) (l : i < length sections) (at : (page_of (get_or sections i origin).x, (get_or sections i origin).z) ≡ page)
+    (before : (s : SectionPos) → is_among (take i sections) s ≡ true → (page_of s.x ≡ page.0) × (s.z ≡ page.1)) where
+  page_more : (s : SectionPos) → is_among (take (i + 1) sections) s ≡ true → (page_of s.x ≡ page.0) × (s.z ≡ page.1)
   page_more s h = elim (or_cases (is_among (take i sections) s) (same_section s (get_or sections i origin)) (sym (list_any_more (same_section s) sections i origin l) ∙ h)) [
     | inl e ↦ before s e
     | inr e ↦
         let k = same_section-true s (get_or sections i origin) e in
-        (ap (λ (q : SectionPos). page_of q.x) k ∙ ap (λ (p : ℤ × ℤ). p.0) at, ap (λ (q : SectionPos). page_of q.z) k ∙ ap (λ (p : ℤ × ℤ). p.1) at)
+        (ap (λ (q : SectionPos). page_of q.x) k ∙ ap (λ (p : ℤ × ℤ). p.0) at, ap (λ (q : SectionPos). q.z) k ∙ ap (λ (p : ℤ × ℤ). p.1) at)
   ]
 
 pub loop-i-init : goal.loop-i-init

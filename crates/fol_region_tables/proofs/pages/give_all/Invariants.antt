@@ -14,7 +14,7 @@ invariant-loop-rest l = record {
   owner : (q : SectionPos) → cond (is_among l.rest q) l.id (owner_in l.pages.entries q) ≡ cond (is_among l.sections q) l.id (owner_in l.initial.pages.entries q);
   within : (q : SectionPos) → is_among l.rest q ≡ true → is_among l.sections q ≡ true;
   there : (x z : ℤ) → has_page l.initial.pages.entries x z ≡ true → has_page l.pages.entries x z ≡ true;
-  room : (pages : List (ℤ × ℤ)) → ((s : SectionPos) → is_new (owner_in l.initial.pages.entries) l.sections s ≡ true → is_listed pages (page_of s.x) (page_of s.z) ≡ true)
+  room : (pages : List (ℤ × ℤ)) → ((s : SectionPos) → is_new (owner_in l.initial.pages.entries) l.sections s ≡ true → is_listed pages (page_of s.x) s.z ≡ true)
       → spare l.initial.pages + count_by (is_absent l.pages.entries) pages ≤ spare l.pages + count_by (is_absent l.initial.pages.entries) pages;
   owned : AllOwned l.initial.pages.entries → AllOwned l.pages.entries;
 }

@@ -6,4 +6,4 @@ use Rattle.fol_region_tables.proofs.PageOwners.{in_blank}
 use Rattle.fol_region_tables.proofs.pages.page_with.Goals as goal
 
 pub returns : goal.returns
-returns c = λ k. c.write_on.ensures k ∙ ap (cond (list_any (λ s. nat_eq (place_of s) k) c.args.sections.now) c.args.id) (in_blank 64 k)
+returns c = λ k. c.write_on.ensures k ∙ ap (cond (list_any (λ s. nat_eq (place_of s) k) c.args.sections.now) c.args.id) (in_blank 32 k)

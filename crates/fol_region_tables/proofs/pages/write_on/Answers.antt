@@ -15,7 +15,7 @@ origin = record { x = pos 0; z = pos 0 }
 abbrev at_place : ℕ → SectionPos → Bool
 at_place k s = nat_eq (place_of s) k
 
-written : (id : ℕ) (first now : List ℕ) (whole : 64 ≤ length now) (sections : List SectionPos) (i : ℕ) → i < length sections → (place : ℕ) → place ≡ place_of (get_or sections i origin) → place < 64
+written : (id : ℕ) (first now : List ℕ) (whole : 32 ≤ length now) (sections : List SectionPos) (i : ℕ) → i < length sections → (place : ℕ) → place ≡ place_of (get_or sections i origin) → place < 32
     → ((k : ℕ) → slice_index_or now k 0 ≡ cond (list_any (at_place k) (take i sections)) id (slice_index_or first k 0))
     → (k : ℕ) → slice_index_or (slice_set now place id) k 0 ≡ cond (list_any (at_place k) (take (i + 1) sections)) id (slice_index_or first k 0)
 written id first now whole sections i l place is few before k = elim (cases_eq (place_of (get_or sections i origin)) k) [
@@ -42,7 +42,7 @@ loop-s-init c = λ k. refl
 
 pub loop-s-preserved : goal.loop-s-preserved
 loop-s-preserved c =
-    let n : length c.loop-s.page.owners ≡ 64 = search rules in
+    let n : length c.loop-s.page.owners ≡ 32 = search rules in
     written c.args.id c.args.page.now.owners c.loop-s.page.owners (omega (arith, n)) c.args.sections.now c.loop-s.s-index c.loop-s-test.true c.place_of.result c.place_of.ensures.value c.place_of.ensures.few c.loop-s.invariant
 
 pub returns : goal.returns

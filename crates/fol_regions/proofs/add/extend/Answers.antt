@@ -75,10 +75,10 @@ returns-clause-change c =
 
 pub grow-target-requires-clause-room : goal.grow-target-requires-clause-room
 grow-target-requires-clause-room c =
-    lie_in-more (is_among c.args.wanted.now) 9 c.args.tables.now.free c.requires.free
-    (added.wanted_nine c.args.grid.now c.args.tables.now c.keeps_lists.ensures c.requires.rules c.requires.numbers c.args.c c.requires.in_range c.args.wanted.now c.requires.wanted)
+    lie_in-more (is_among c.args.wanted.now) 34 c.args.tables.now.free c.requires.free
+    (added.wanted_near c.args.grid.now c.args.tables.now c.keeps_lists.ensures c.requires.rules c.requires.numbers c.args.c c.requires.in_range c.args.wanted.now c.requires.wanted)
 
 pub returns-clause-free : goal.returns-clause-free
 returns-clause-free c =
-    let nine = added.wanted_nine c.args.grid.now c.args.tables.now c.keeps_lists.ensures c.requires.rules c.requires.numbers c.args.c c.requires.in_range c.args.wanted.now c.requires.wanted in
-    omega (arith, c.grow-target.ensures.grows.free 9 nine, c.pair_near.ensures.free, c.settle.ensures.rooms.free)
+    let near = added.wanted_near c.args.grid.now c.args.tables.now c.keeps_lists.ensures c.requires.rules c.requires.numbers c.args.c c.requires.in_range c.args.wanted.now c.requires.wanted in
+    omega (arith, c.grow-target.ensures.grows.free 34 near, c.pair_near.ensures.free, c.settle.ensures.rooms.free)

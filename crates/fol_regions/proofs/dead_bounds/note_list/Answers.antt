@@ -20,7 +20,7 @@ pub run-requires : goal.run-requires
 run-requires c =
     let part = c.split_at.result.0.now in
     let first : get_or c.loop-rest.rest.now 0 origin ≡ get_or part 0 origin = part_at c.loop-rest.rest.now part c.split_at.result.1.now c.split_at.ensures.by_index.0 0 origin (omega (arith, c.split_at.ensures.front_len, c.side_len.ensures.some)) in
-    let run : nat_abs (int_rem_euclid (get_or part 0 origin).x (pos 8)) + c.side_len.result ≤ 8 = rw first at (c.side_len.ensures.run origin) in
+    let run : nat_abs (int_rem_euclid (get_or part 0 origin).x (pos 32)) + c.side_len.result ≤ 32 = rw first at (c.side_len.ensures.run origin) in
     omega (arith, run, c.split_at.ensures.front_len)
 
 pub loop-rest-preserved : goal.loop-rest-preserved

@@ -21,7 +21,7 @@ loop-s-preserved c =
     let is_dead : SectionPos → Bool = λ q. nat_eq (near_on first q) 0 in
     elim c.if-near_in-eq0.branch [
       | then-near_in-eq0 w ↦
-          let whole : 64 ≤ length now.sections = search rules in
+          let whole : 32 ≤ length now.sections = search rules in
           let none : near_on now s ≡ 0 = sym c.near_in.ensures ∙ w.if-near_in-eq0.true in
           let dead : is_dead s ≡ true = eq-eqb _ _ (sym (inv.near s) ∙ none) in
           rw (w.page-is, w.dead-is) (record {

@@ -30,7 +30,7 @@ returns-in-Some-clause-pages c =
     let was = sym (ap option_copied_mut (sym c.in-Some.is) ∙ rw c.page_of.ensures at c.get_mut.ensures.value) in
     let w = c.get_mut.follows.holds c.clear_on-dead.new.page in
     let updates = rw c.page_of.ensures at (w.3 (ap is_some (sym c.get_mut.ensures.value ∙ ap option_copied_mut c.in-Some.is))) in
-    pages-same c.args.pages.now.entries _ (page_of c.args.first.x) (page_of c.args.first.z) _ (λ a b. updates.0 (a, b)) (ap is_some was)
+    pages-same c.args.pages.now.entries _ (page_of c.args.first.x) c.args.first.z _ (λ a b. updates.0 (a, b)) (ap is_some was)
 
 pub returns-in-None-clause-dead : goal.returns-in-None-clause-dead
 unfolding page_at

@@ -14,7 +14,7 @@ pub returns-then-is_done-clause-out : goal.returns-then-is_done-clause-out
 unfolding page_at is_same
 returns-then-is_done-clause-out c = λ q.
     let updates = rw c.page_of.ensures at c.remove.ensures.updates in
-    counts-gone c.clear_stretch-dead.new.pages.entries _ (page_of c.args.first.x) (page_of c.args.first.z) (c.clear_stretch-dead.ensures.empty c.if-is_done.true) (λ a b. updates.0 (a, b)) q
+    counts-gone c.clear_stretch-dead.new.pages.entries _ (page_of c.args.first.x) c.args.first.z (c.clear_stretch-dead.ensures.empty c.if-is_done.true) (λ a b. updates.0 (a, b)) q
     ∙ c.clear_stretch-dead.ensures.out q
 
 -- the page is not there any more
@@ -25,7 +25,7 @@ returns-then-is_done-clause-used c =
     let part = c.args.part.now in
     let cleared = c.clear_stretch-dead.new.pages.entries in
     let x = page_of c.args.first.x in
-    let z = page_of c.args.first.z in
+    let z = c.args.first.z in
     let updates = rw c.page_of.ensures at c.remove.ensures.updates in
     used-out first _ c.args.first (λ q. is_among part q && nat_eq (near_at first q) 0) (λ q h. all_among (IsOnPage c.args.first) part q c.requires.page (and_parts (is_among part q) (nat_eq (near_at first q) 0) h).0)
     (λ q. counts-gone cleared _ x z (c.clear_stretch-dead.ensures.empty c.if-is_done.true) (λ a b. updates.0 (a, b)) q ∙ c.clear_stretch-dead.ensures.out q)

@@ -13,7 +13,7 @@ loop-s-init c = λ q on. refl
 pub loop-s-preserved : goal.loop-s-preserved
 loop-s-preserved c =
     let origin : SectionPos = record { x = pos 0; z = pos 0 } in
-    let whole : 64 ≤ length c.loop-s.page.sections = search rules in
+    let whole : 32 ≤ length c.loop-s.page.sections = search rules in
     marked_more c.args.page.now c.loop-s.page c.args.part.now c.loop-s.s-index origin c.loop-s-test.true whole c.place_of.result c.place_of.ensures.value c.loop-s.invariant
 
 pub returns : goal.returns

@@ -25,7 +25,7 @@ unfolding page_at is_same
 returns-in-Some-clause-pages c =
     let w = c.get_mut.follows.holds c.mark_on.new.page in
     let updates = rw c.page_of.ensures at (w.3 (ap is_some (sym c.get_mut.ensures.value ∙ ap option_copied_mut c.in-Some.is))) in
-    pages-more c.args.pages.now.entries _ (page_of c.args.first.x) (page_of c.args.first.z) c.mark_on.new.page (λ a b. updates.0 (a, b))
+    pages-more c.args.pages.now.entries _ (page_of c.args.first.x) c.args.first.z c.mark_on.new.page (λ a b. updates.0 (a, b))
 
 pub returns-in-Some-clause-used : goal.returns-in-Some-clause-used
 returns-in-Some-clause-used c = used-put c.args.pages.now.entries _ (is_among c.args.part.now) no_counts (returns-in-Some-clause-put c) c.args.first c.requires.some (returns-in-Some-clause-pages c)
@@ -47,13 +47,13 @@ returns-in-None-clause-pages c =
     let same = c.get_mut.follows.holds-at-none in
     let r = ok_value c.insert.result (c.insert.ensures.succeeds (rw same (c.requires.room (ap is_some (sym none))))) in
     let updates = rw (same, c.page_of-in-None.ensures) at (IfOk-at_ok _ r.1 c.insert.ensures.updates) in
-    pages-more c.args.pages.now.entries _ (page_of c.args.first.x) (page_of c.args.first.z) c.page_with.result (λ a b. updates.0 (a, b))
+    pages-more c.args.pages.now.entries _ (page_of c.args.first.x) c.args.first.z c.page_with.result (λ a b. updates.0 (a, b))
 
 pub returns-in-None-clause-room : goal.returns-in-None-clause-room
 unfolding page_at has_page
 returns-in-None-clause-room c =
     let none = ap option_copied_mut (sym c.in-None.is) ∙ rw c.page_of.ensures at c.get_mut.ensures.value in
-    let absent : has_page c.args.pages.now.entries (page_of c.args.first.x) (page_of c.args.first.z) ≡ false = ap is_some (sym none) in
+    let absent : has_page c.args.pages.now.entries (page_of c.args.first.x) c.args.first.z ≡ false = ap is_some (sym none) in
     let spare = rw c.get_mut.follows.holds-at-none at c.insert.ensures.spare in
     omega (arith, spare, ap (λ b. cond {A = ℕ} b 0 1) absent)
 

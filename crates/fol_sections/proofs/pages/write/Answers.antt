@@ -11,7 +11,7 @@ use Rattle.fol_sections.proofs.pages.write.Goals as goal
 pub returns-in-Some-clause-put : goal.returns-in-Some-clause-put
 unfolding page_at is_same
 returns-in-Some-clause-put c = λ q.
-    let n : length c.in-Some.page.now.sections ≡ 64 = search rules in
+    let n : length c.in-Some.page.now.sections ≡ 32 = search rules in
     let value = rw c.page_of.ensures at c.get_mut.ensures.value in
     let was = ap option_copied_mut (sym c.in-Some.is) ∙ value in
     let w = c.get_mut.follows.holds (record { sections = slice_set c.in-Some.page.now.sections c.place_of.result c.args.counts }) in
@@ -29,4 +29,4 @@ unfolding page_at is_same
 returns-in-Some-clause-pages c =
     let w = c.get_mut.follows.holds (record { sections = slice_set c.in-Some.page.now.sections c.place_of.result c.args.counts }) in
     let updates = rw c.page_of.ensures at (w.3 (ap is_some (sym c.get_mut.ensures.value ∙ ap option_copied_mut c.in-Some.is))) in
-    pages-same c.args.pages.now.entries _ (page_of c.args.s.x) (page_of c.args.s.z) _ (λ a b. updates.0 (a, b)) c.requires.there
+    pages-same c.args.pages.now.entries _ (page_of c.args.s.x) c.args.s.z _ (λ a b. updates.0 (a, b)) c.requires.there

@@ -68,7 +68,7 @@ loop-i-preserved c =
     let same : c.place_of.result + c.loop-i.i ≡ place_of place = sym (at ∙ ap (λ n. n + c.loop-i.i) (sym c.place_of.ensures.value)) in
     elim c.match-page-at.branch [
       | in-Some w ↦
-          let whole : 64 ≤ length c.loop-i.page.sections = search rules in
+          let whole : 32 ≤ length c.loop-i.page.sections = search rules in
           let had : counts_on c.loop-i.page place ≡ Some w.in-Some.counts = ap (λ n. slice_index_or c.loop-i.page.sections n None) (sym same) ∙ w.in-Some.is in
           let now : Counts = record { loaded = w.in-Some.counts.loaded; near = w.turned-near.result } in
           let turns = step_turns c.loop-i.page whole c.args.s place on (c.place_of.result + c.loop-i.i) same w.in-Some.counts now had c.args.turn w.turned-near.ensures in

@@ -1,10 +1,10 @@
 use Rattle.std.proofs.Common.{◌≡◌, ◌<◌, refl, arith, true, get_or, length}
 use Rattle.std.specs.Prelude.{pos}
 use Rattle.fol_model.specs.declared.places.SectionPos.{SectionPos}
-use Rattle.fol_sections.specs.Pages.{InNine}
+use Rattle.fol_sections.specs.Pages.{InNear}
 use Rattle.fol_model.specs.Geometry.{is_among}
 use Rattle.fol_sections.proofs.MarkSteps.{after_within, filled_more, part_within}
-use Rattle.fol_sections.proofs.NinePages.{nine_few, room_left, some_absent}
+use Rattle.fol_sections.proofs.NearPages.{near_few, room_left, some_absent}
 use Rattle.fol_sections.proofs.NumberSteps.{among_at}
 use Rattle.fol_sections.proofs.PageStretches.{stretch_on}
 use Rattle.fol_sections.proofs.sections.fill.Goals as goal
@@ -17,7 +17,7 @@ loop-rest-init c = record { filled = λ q. refl; within = λ q h. h; used = λ u
 
 pub put_stretch-requires : goal.put_stretch-requires
 put_stretch-requires c =
-    let near : InNine c.args.missing.now = c.requires.near in
+    let near : InNear c.args.missing.now = c.requires.near in
     let part = c.split_at.result.0.now in
     let some : 0 < length part = omega (arith, c.split_at.ensures.front_len, c.stretch_len.ensures.some) in
     let listed : is_among part (get_or part 0 origin) ≡ true = among_at part 0 origin some in
@@ -28,7 +28,7 @@ put_stretch-requires c =
       room = λ none. omega (
         arith,
         c.loop-rest.invariant.room near,
-        nine_few c.args.pages.now.entries near.x near.z,
+        near_few c.args.pages.now.entries near.x near.z,
         c.requires.room,
         some_absent c.args.missing.now near (get_or part 0 origin) member c.loop-rest.pages.entries none,
       );
@@ -56,5 +56,5 @@ loop-rest-preserved c =
 
 pub returns-clause-room : goal.returns-clause-room
 returns-clause-room c =
-    let near : InNine c.args.missing.now = c.requires.near in
-    omega (arith, c.loop-rest.invariant.room near, nine_few c.args.pages.now.entries near.x near.z)
+    let near : InNear c.args.missing.now = c.requires.near in
+    omega (arith, c.loop-rest.invariant.room near, near_few c.args.pages.now.entries near.x near.z)

@@ -7,7 +7,7 @@ use Rattle.fol_regions.proofs.regions.Regions.copy.Goals as goal
 
 pub of_parts-requires : goal.of_parts-requires
 of_parts-requires c =
-    let room = steps.room_kept c.self.inside.tables c.in_ok-tables.tables (9 * c.self.inside.spare) (625 * c.self.inside.spare) c.self.invariant.0.room c.in_ok-tables.ensures.free
+    let room = steps.room_kept c.self.inside.tables c.in_ok-tables.tables (34 * c.self.inside.spare) (625 * c.self.inside.spare) c.self.invariant.0.room c.in_ok-tables.ensures.free
     (c.in_ok-tables.ensures.ahead.0, omega (arith, c.in_ok-tables.ensures.ahead.1)) (c.in_ok-tables.ensures.behind.0, omega (arith, c.in_ok-tables.ensures.behind.1)) in
     steps.alike_kept c.self.inside.grid c.self.inside.sections c.self.inside.tables c.self.inside.spare c.self.invariant.0 c.in_ok-sections.sections c.in_ok-tables.tables c.self.inside.spare c.in_ok-sections.ensures.same c.in_ok-tables.ensures.same (omega arith)
     (omega (arith, c.self.invariant.0.spare, c.in_ok-sections.ensures.spare)) room

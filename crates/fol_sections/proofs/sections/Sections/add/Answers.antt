@@ -6,7 +6,7 @@ use Rattle.fol_model.specs.declared.places.ChunkPos.{ChunkPos}
 use Rattle.fol_model.specs.declared.places.SectionPos.{SectionPos}
 use Rattle.fol_model.specs.GridState.{at_chunk}
 use Rattle.fol_sections.specs.Table.{is_missing}
-use Rattle.fol_sections.proofs.AddTable.{home_near, added_full, added_counted, added_filled, full-is, here_around, limits_more, missing_absent, missing_nine, missing_rows, missing_length, here-more, presence-more}
+use Rattle.fol_sections.proofs.AddTable.{home_near, added_full, added_counted, added_filled, full-is, here_around, limits_more, missing_absent, missing_pages, missing_rows, missing_length, here-more, presence-more}
 use Rattle.fol_sections.proofs.Bounds.{chunks_few}
 use Rattle.fol_sections.proofs.KeptSteps.{kept_add}
 use Rattle.fol_sections.proofs.Margins.{near_few}
@@ -48,10 +48,10 @@ take_hold-requires-clause-hold c =
 pub take_hold-requires-clause-room : goal.take_hold-requires-clause-room
 take_hold-requires-clause-room c = let spare = rw (← c.self.view_is) at c.requires.spare in omega (arith, spare, c.self.invariant.1.pages)
 
-pub take_hold-requires-clause-nine : goal.take_hold-requires-clause-nine
-take_hold-requires-clause-nine c =
+pub take_hold-requires-clause-pages : goal.take_hold-requires-clause-pages
+take_hold-requires-clause-pages c =
     let found = rw (c.section_of-home.ensures, c.create_radius-radius.ensures) at c.find_missing.ensures.found in
-    rw c.deref.ensures.value (missing_nine _ _ _ c.self.inside.count c.self.inside.filled.items c.self.inside.spare c.self.invariant.0 c.args.c c.requires.in_range _ found)
+    rw c.deref.ensures.value (missing_pages _ _ _ c.self.inside.count c.self.inside.filled.items c.self.inside.spare c.self.invariant.0 c.args.c c.requires.in_range _ found)
 
 pub take_hold-requires-clause-near : goal.take_hold-requires-clause-near
 take_hold-requires-clause-near c = rw c.section_of-home.ensures (home_near _ _ _ c.self.inside.count c.self.inside.filled.items c.self.inside.spare c.self.invariant.0 c.args.c c.requires.in_range)

@@ -17,5 +17,6 @@ pub returns : goal.returns
 returns c =
     let h : (slot (the_view c.self.inside) c.args.id).here ≡ true = sym (ap (λ (b : Bag). b.here) (bag_slot (the_view c.self.inside) c.args.id)) ∙ (rw (← c.self.view_is) at c.requires) in
     let e : c.slot.result.now ≡ slot (the_view c.self.inside) c.args.id = c.slot.ensures in
-    let list : c.as_slice.result.now ≡ (bag_of (the_view c.self.inside) c.args.id).chunks = c.as_slice.ensures ∙ ap (λ (b : Slot). b.list) e ∙ listed_here c.args.id (the_view c.self.inside) c.self.invariant h ∙ sym (ap (λ (b : Bag). b.chunks) (bag_slot (the_view c.self.inside) c.args.id)) in
-    rw (← c.self.view_is) list
+    let list : c.slot.result.now.list ≡ (bag_of (the_view c.self.inside) c.args.id).chunks = ap (λ (b : Slot). b.list) e ∙ listed_here c.args.id (the_view c.self.inside) c.self.invariant h ∙ sym (ap (λ (b : Bag). b.chunks) (bag_slot (the_view c.self.inside) c.args.id)) in
+    let shown : c.slot.result.now.list ≡ (bag_of c.args.self.now c.args.id).chunks = rw (← c.self.view_is) list in
+    rw shown at c.copy.ensures
