@@ -1,0 +1,4 @@
+pub mod Facts
+mod Matching
+pub mod Passing
+pub mod Tying
