@@ -33,6 +33,10 @@ use Rattle.fol_offers.specs.Fit.{IsFitTick}
 use Rattle.fol_offers.specs.Places.{region_at}
 use Rattle.fol_offers.specs.Tied.{InUse, Runs, Tied, Waits}
 
+pub no_worker : (o : Option ℕ) → ((j : ℕ) → o ≡ Some j → ⊥) → o ≡ None
+no_worker None none = refl
+no_worker (Some j) none = absurd (none j refl)
+
 -- ---- a region that is free
 
 module _ (m : Meaning) (r : ℕ) (grid : IsGrid m.opening.grid) (run : Run m.opening m.history) (free : is_free m r ≡ true) where
@@ -73,8 +77,11 @@ module _ (m : Meaning) (r : ℕ) (t : Tick) (grid : IsGrid m.opening.grid) (run 
   whole : Run m.opening (w.before ++ (w.between ++ []))
   whole = rw (w.history, ← append-nil w.between) at run
 
+  later : Allowed (after_all at w.between) (Begin t.worker t.region) × SameBegin t.region t.worker at (after_all at w.between)
+  later = late_begin_is_the_same m.opening w.before w.between [] t.region t.worker grid whole (rw own w.allowed) (rw own w.calm)
+
   same : SameBegin t.region t.worker at (after_all at w.between)
-  same = (late_begin_is_the_same m.opening w.before w.between [] t.region t.worker grid whole (rw own w.allowed) (rw own w.calm)).1
+  same = later.1
 
   good : Good m.opening at
   good = good_run m.opening w.before (w.between ++ []) grid whole
@@ -95,6 +102,10 @@ module _ (m : Meaning) (r : ℕ) (t : Tick) (grid : IsGrid m.opening.grid) (run 
     next = w.is.next;
     moved = w.is.moved;
   }
+
+  -- its region is Ready
+  pub waits_ready : (world_of m).grid.state r ≡ Ready
+  waits_ready = ap (λ (x : World). x.grid.state r) (sym there) ∙ (ap (λ (q : ℕ). (after_all at w.between).grid.state q) (sym own) ∙ later.0.0)
 
 -- ---- a tick that runs
 
@@ -144,3 +155,11 @@ pub stays_free : (m n : Meaning) (r : ℕ) → Stays m n → is_free n r ≡ is_
 stays_free m n r same =
     let world_is : world_of n ≡ world_of m = λ k. world (same.opening k) (same.history k) in
     λ k. is_owing (world_is k) r && not (same.prepared k r)
+
+-- a prepared region is Ready
+pub prepared_ready : (m : Meaning) (s : Keeper Offer) (xs : List ℕ) (r : ℕ) → Tied m s xs → Run m.opening m.history → is_prepared m r ≡ true → (world_of m).grid.state r ≡ Ready
+prepared_ready m s xs r t run marked =
+    let z = t.prepared r marked in
+    let i : ℕ = z.0 in
+    let u : InUse m r (place_at s i) = subst (λ (x : ℕ). InUse m x (place_at s i)) z.3 (t.used i z.2 (subst (λ (x : ℕ). 0 < x) (sym z.3) z.1)) in
+    waits_ready m r u.tick t.grid run (u.waits (no_worker (place_at s i).found (λ j found. true≢false (sym marked ∙ (u.runs j found).unprepared))))

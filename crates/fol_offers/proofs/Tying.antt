@@ -9,13 +9,20 @@ use Rattle.fol_model.specs.ActionStep.{at_id}
 use Rattle.fol_model.specs.GridNumbers.{IsGrid}
 use Rattle.fol_data.specs.declared.tick.Tick.{Tick}
 use Rattle.fol_model.specs.declared.events.Entry.{Entry}
+use Rattle.fol_model.specs.declared.events.Event.{Event}
 use Rattle.fol_model.specs.declared.events.Event.TheVariants.{Begin}
-use Rattle.fol_model.specs.Run.{Allowed}
+use Rattle.fol_model.specs.OpenTick.{is_end}
+use Rattle.fol_laws.specs.LateBegin.{is_stop, touches}
+use Rattle.fol_model.specs.QueuedTask.{begun}
+use Rattle.fol_model.specs.World.{World, start}
+use Rattle.fol_model.specs.Run.{Allowed, after, world}
+use Rattle.fol_laws.proofs.LongerRuns.{world_more}
+use Rattle.fol_core.specs.Answers.{is_over}
 use Rattle.fol_laws.proofs.FunctionsChanged.{at_here, at_other}
 use Rattle.fol_core.specs.Ahead.{Learns, Prepares, NonePrepared, Withdraws}
 use Rattle.fol_core.specs.Ticks.{IsTick}
 use Rattle.fol_tick_laws.proofs.OpenTicks.{learnt_opens}
-use Rattle.fol_core.specs.Meaning.{Meaning, Stays, is_prepared, world_of}
+use Rattle.fol_core.specs.Meaning.{Meaning, Records, Stays, is_prepared, world_of}
 use Rattle.fol_slots.specs.declared.view.Place.{Place}
 use Rattle.fol_slots.specs.Shown.{Keeper, knowing, place_at, keeping, offering, finding}
 use Rattle.fol_slots.specs.Hands as hands
@@ -23,6 +30,7 @@ use Rattle.fol_slots.proofs.Callers.{as_many, place_here, place_else}
 use Rattle.fol_offers.specs.declared.offer.Offer.{Offer}
 use Rattle.fol_offers.specs.Places.{region_at}
 use Rattle.fol_offers.specs.Tied.{InUse, Runs, Tied, Waits, nothing, of_tick}
+use Rattle.fol_offers.proofs.Facts.{no_worker}
 use Rattle.fol_offers.proofs.Passing.{Passes, in_use_passes, passes_same, passes_one}
 
 none_some : {A : Type 0} (a : A) → None ≡ Some a → ⊥
@@ -30,10 +38,6 @@ none_some a e = cc
 
 some_same : (a b : ℕ) → Some a ≡ Some b → a ≡ b
 some_same a b e = cc
-
-no_worker : (o : Option ℕ) → ((j : ℕ) → o ≡ Some j → ⊥) → o ≡ None
-no_worker None none = refl
-no_worker (Some j) none = absurd (none j refl)
 
 set_twice : {A : Type 0} (l : List A) (i : ℕ) (a b : A) → set (set l i a) i b ≡ set l i b
 set_twice [] i a b = refl
@@ -45,11 +49,34 @@ none_at zero i = refl
 none_at (suc n) zero = refl
 none_at (suc n) (suc i) = none_at n i
 
+-- whether the history is over does not change with what is prepared
+same_world : (m n : Meaning) → n.opening ≡ m.opening → n.history ≡ m.history → world_of n ≡ world_of m
+same_world m n opening history = λ k. world (opening k) (history k)
+
+same_over : (m n : Meaning) → n.opening ≡ m.opening → n.history ≡ m.history → is_over (world_of n) ≡ is_over (world_of m)
+same_over m n opening history = ap is_over (same_world m n opening history)
+
+stays_over : (m n : Meaning) → Stays m n → is_over (world_of n) ≡ is_over (world_of m)
+stays_over m n same = same_over m n same.opening same.history
+
+-- the world after one entry more
+pub one_more : (m n : Meaning) (e : Entry) → n.opening ≡ m.opening → n.history ≡ m.history ++ e ∷ [] → world_of n ≡ after (world_of m) e.event
+one_more m n e opening history = (λ k. world (opening k) (history k)) ∙ world_more (start m.opening) m.history e
+
+-- nor with a Begin
+pub over_begun : (w : World) (k r : ℕ) → is_over (after w (Begin k r)) ≡ is_over w
+unfolding begun
+over_begun w k r = refl
+
+begun_over : (m n : Meaning) (by k r : ℕ) → n.opening ≡ m.opening → n.history ≡ m.history ++ (record { by = by; event = Begin k r }) ∷ [] → is_over (world_of n) ≡ is_over (world_of m)
+begun_over m n by k r opening history = ap is_over (one_more m n (record { by = by; event = Begin k r }) opening history) ∙ over_begun (world_of m) k r
+
 -- nothing is offered yet
 pub tied_first : (m : Meaning) (s : Keeper Offer) (n : ℕ) → IsGrid m.opening.grid → NonePrepared m → s.slots.slots ≡ n → length s.places ≡ n → n < 65536
     → ((i : ℕ) → i < n → (place_at s i).kept ≡ Some nothing) → Tied m s (replicate n 0)
 tied_first m s n grid none slots places few empty = let long : length (replicate n 0) ≡ n = length-replicate n 0 in record {
   grid = grid;
+  calm = λ _. none;
   places = places ∙ sym long;
   slots = slots ∙ sym long;
   few = rw long few;
@@ -63,6 +90,7 @@ tied_first m s n grid none slots places few empty = let long : length (replicate
 pub tied_stays : (m n : Meaning) (s : Keeper Offer) (xs : List ℕ) → Stays m n → Tied m s xs → Tied n s xs
 tied_stays m n s xs same t = record {
   grid = rw same.opening t.grid;
+  calm = λ over r. ap (λ (f : ℕ → Bool). f r) same.prepared ∙ t.calm (sym (stays_over m n same) ∙ over) r;
   places = t.places;
   slots = t.slots;
   few = t.few;
@@ -87,13 +115,14 @@ module _ (m n : Meaning) (s : Keeper Offer) (xs : List ℕ) (t : Tied m s xs) (i
   place = place_here s i p (let l = t.places in omega (arith, l, inside))
 
   -- where the slot is of region q then, and each other region's tick is where it was
-  pub tied_changes : n.opening ≡ m.opening → (q ≡ 0 → p.kept ≡ Some nothing) → (0 < q → InUse n q p)
+  pub tied_changes : n.opening ≡ m.opening → (is_over (world_of n) ≡ true → NonePrepared n) → (q ≡ 0 → p.kept ≡ Some nothing) → (0 < q → InUse n q p)
       → ((j : ℕ) → j < length xs → j ≢ i → 0 < region_at xs j → Passes m n (region_at xs j))
       → (0 < q → (j : ℕ) → j < length xs → j ≢ i → region_at xs j ≢ q)
       → ((r : ℕ) → is_prepared n r ≡ true → (r ≡ q) ⊎ ((is_prepared m r ≡ true) × (r ≢ region_at xs i)))
       → (0 < q ⊎ ((r : ℕ) → is_prepared n r ≡ true → r ≢ q)) → Tied n (knowing s i p) (set xs i q)
-  tied_changes opening empty own others alone marked some = record {
+  tied_changes opening calm empty own others alone marked some = record {
     grid = rw opening t.grid;
+    calm = calm;
     places = as_many s i p ∙ t.places ∙ sym long;
     slots = t.slots ∙ sym long;
     few = rw long t.few;
@@ -158,11 +187,12 @@ module _ (m n : Meaning) (s : Keeper Offer) (xs : List ℕ) (t : Tied m s xs) (i
   others_pass opening history b prepared q ne = passes_same m n q opening history (ap (λ (f : ℕ → Bool). f q) prepared ∙ at_other (is_prepared m) r b q ne)
 
   -- a region was offered in a slot that was not in use
-  pub tied_offers : (tick : Tick) → region_at xs i ≡ 0 → ((j : ℕ) → region_at xs j ≢ r) → Prepares m n r → Allowed (world_of m) (Begin 0 r)
+  pub tied_offers : (tick : Tick) → region_at xs i ≡ 0 → ((j : ℕ) → region_at xs j ≢ r) → is_over (world_of m) ≡ false → Prepares m n r → Allowed (world_of m) (Begin 0 r)
       → IsTick (world_of m) (length m.history) 0 r tick → length tick.due ≤ tick.body.queues.spare → Tied n (offering (keeping s i (Some (of_tick tick))) i) (set xs i r)
-  tied_offers tick unused fresh did allowed is room =
+  tied_offers tick unused fresh on did allowed is room =
       let p : Place Offer = hands.place None (Some (of_tick tick)) None in
       subst (λ (k : Keeper Offer). Tied n k (set xs i r)) (sym (offered_after s i there (of_tick tick))) (tied_changes m n s xs t i r p inside did.opening
+          (λ over. absurd (true≢false (sym over ∙ (same_over m n did.opening did.history ∙ on))))
           (λ e. absurd (let z = some in omega (arith, e, z)))
           (λ _. record {
             kept = refl;
@@ -195,6 +225,7 @@ module _ (m n : Meaning) (s : Keeper Offer) (xs : List ℕ) (t : Tied m s xs) (i
       let p : Place Offer = hands.place (Some nothing) (place_at s i).offered None in
       let apart : (j : ℕ) → j < length xs → j ≢ i → region_at xs j ≢ r = λ j low ne e. ne (sym (t.apart i j inside low (subst (λ (x : ℕ). 0 < x) (sym own) some) (own ∙ sym e))) in
       subst (λ (k : Keeper Offer). Tied n k (set xs i 0)) (sym (emptied_after s i there kept (Some nothing))) (tied_changes m n s xs t i 0 p inside did.opening
+          (λ over q. falls did.prepared q (t.calm (sym (same_over m n did.opening did.history) ∙ over) q))
           (λ _. refl)
           (λ z. absurd (omega (arith, z)))
           (λ j low ne pos. others_pass did.opening did.history false did.prepared (region_at xs j) (apart j low ne))
@@ -202,6 +233,12 @@ module _ (m n : Meaning) (s : Keeper Offer) (xs : List ℕ) (t : Tied m s xs) (i
           (λ q e. inr ((back did.prepared q e).0, λ z. (back did.prepared q e).1 (z ∙ own)))
           (inr (λ q e z. let pos = (t.prepared q ((back did.prepared q e).0)).1 in omega (arith, z, pos))))
     where
+      falls : is_prepared n ≡ at_id (is_prepared m) r false → (q : ℕ) → is_prepared m q ≡ false → is_prepared n q ≡ false
+      falls prepared q none = elim (eqb_tells r q) [
+        | inl y ↦ ap (is_prepared n) (sym y.1) ∙ (ap (λ (f : ℕ → Bool). f r) prepared ∙ at_here (is_prepared m) r false)
+        | inr y ↦ ap (λ (f : ℕ → Bool). f q) prepared ∙ (at_other (is_prepared m) r false q (λ z. y.1 (sym z)) ∙ none)
+      ]
+
       back : is_prepared n ≡ at_id (is_prepared m) r false → (q : ℕ) → is_prepared n q ≡ true → (is_prepared m q ≡ true) × (q ≢ r)
       back prepared q e = elim (eqb_tells r q) [
         | inl y ↦ absurd (true≢false (sym e ∙ (ap (is_prepared n) (sym y.1) ∙ (ap (λ (f : ℕ → Bool). f r) prepared ∙ at_here (is_prepared m) r false))))
@@ -209,8 +246,8 @@ module _ (m n : Meaning) (s : Keeper Offer) (xs : List ℕ) (t : Tied m s xs) (i
       ]
 
   -- a worker was found to have the tick of a prepared region, and its Begin was recorded
-  pub tied_learns : (by k : ℕ) → region_at xs i ≡ r → is_prepared m r ≡ true → Learns m n by k r → Tied n (finding s i k) xs
-  tied_learns by k own marked did =
+  pub tied_learns : (by k : ℕ) → region_at xs i ≡ r → is_prepared m r ≡ true → is_over (world_of m) ≡ false → Learns m n by k r → Tied n (finding s i k) xs
+  tied_learns by k own marked on did =
       let old : Place Offer = place_at s i in
       let u : InUse m r old = subst (λ (x : ℕ). InUse m x old) own (t.used i inside (subst (λ (x : ℕ). 0 < x) (sym own) some)) in
       let p : Place Offer = hands.place old.kept old.offered (Some k) in
@@ -219,6 +256,7 @@ module _ (m n : Meaning) (s : Keeper Offer) (xs : List ℕ) (t : Tied m s xs) (i
       let made : Meaning = record m { history = waits.before } in
       let apart : (j : ℕ) → j < length xs → j ≢ i → region_at xs j ≢ r = λ j low ne z. ne (sym (t.apart i j inside low (subst (λ (x : ℕ). 0 < x) (sym own) some) (own ∙ sym z))) in
       let changed : Tied n (knowing s i p) (set xs i r) = tied_changes m n s xs t i r p inside did.opening
+          (λ over. absurd (true≢false (sym over ∙ (begun_over m n by k r did.opening did.history ∙ on))))
           (λ z. absurd (let y = some in omega (arith, z, y)))
           (λ _. record {
             kept = u.kept;
@@ -259,3 +297,23 @@ came_back m s k xs i r b tick t inside own marked is body has =
 
     same_value : (a c : Tick) → Some a ≡ Some c → a ≡ c
     same_value a c e = cc
+
+-- ---- events
+
+-- an event that touches no prepared region, and is no End and no Stop
+pub tied_event : (m n : Meaning) (s : Keeper Offer) (xs : List ℕ) (by : ℕ) (event : Event) → Tied m s xs → Records m n by event
+    → ((q : ℕ) → is_prepared m q ≡ true → touches (world_of m) q event ≡ false) → is_stop event ≡ false → ((q : ℕ) → is_end q event ≡ false)
+    → is_over (world_of n) ≡ is_over (world_of m) → Tied n s xs
+tied_event m n s xs by event t did spares on another over = record {
+  grid = rw did.opening t.grid;
+  calm = λ is r. ap (λ (f : ℕ → Bool). f r) did.prepared ∙ t.calm (sym over ∙ is) r;
+  places = t.places;
+  slots = t.slots;
+  few = t.few;
+  unused = t.unused;
+  used = λ i low p. in_use_passes m n (region_at xs i) (place_at s i)
+      (passes_one m n (region_at xs i) (record { by = by; event = event }) did.opening did.history (ap (λ (f : ℕ → Bool). f (region_at xs i)) did.prepared) (spares (region_at xs i)) on (another (region_at xs i)))
+      (t.used i low p);
+  apart = t.apart;
+  prepared = λ r e. t.prepared r (ap (λ (f : ℕ → Bool). f r) (sym did.prepared) ∙ e);
+}

@@ -6,7 +6,9 @@ use Rattle.fol_model.specs.GridNumbers.{IsGrid}
 use Rattle.fol_model.specs.Run.{Allowed, world}
 use Rattle.fol_laws.specs.LateBegin.{NoneTouches}
 use Rattle.fol_data.specs.declared.tick.Tick.{Tick}
-use Rattle.fol_core.specs.Meaning.{Meaning, is_prepared}
+use Rattle.fol_core.specs.Ahead.{NonePrepared}
+use Rattle.fol_core.specs.Answers.{is_over}
+use Rattle.fol_core.specs.Meaning.{Meaning, is_prepared, world_of}
 use Rattle.fol_core.specs.Ticks.{IsTick}
 use Rattle.fol_tick_laws.specs.OpenTicks.{IsOpen}
 use Rattle.fol_slots.specs.declared.view.Place.{Place}
@@ -50,6 +52,8 @@ pub record InUse (m : Meaning) (r : ℕ) (p : Place Offer) : Type 0 where
 -- the slots in use are those of the regions in the list, all others are kept with nothing in them, and each prepared region has one
 pub record Tied (m : Meaning) (s : Keeper Offer) (regions : List ℕ) : Type 0 where
   pub grid : IsGrid m.opening.grid
+  -- once the history is over, no region is prepared
+  pub calm : is_over (world_of m) ≡ true → NonePrepared m
   pub places : length s.places ≡ length regions
   pub slots : s.slots.slots ≡ length regions
   pub few : length regions < 65536

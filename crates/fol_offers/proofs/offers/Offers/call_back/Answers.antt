@@ -1,7 +1,8 @@
-use Rattle.std.proofs.Common.{rules, ◌≡◌, ℕ, ◌<◌, List, set, sym, subst, ap, ◌∙◌, true, Some, inl, inr}
+use Rattle.std.proofs.Common.{rules, ◌≡◌, ℕ, ◌<◌, List, set, sym, subst, ap, ◌∙◌, true, false, Some, inl, inr}
 use Rattle.fol_data.specs.declared.tick.Tick.{Tick}
 use Rattle.fol_core.specs.Ahead.{Learns, Withdraws}
-use Rattle.fol_core.specs.Meaning.{Meaning, is_prepared}
+use Rattle.fol_core.specs.Answers.{is_over}
+use Rattle.fol_core.specs.Meaning.{Meaning, is_prepared, world_of}
 use Rattle.fol_slots.specs.Shown.{Keeper, keeping, finding, place_at}
 use Rattle.fol_offers.specs.declared.offer.Offer.{Offer}
 use Rattle.fol_offers.specs.Shown.{Shown}
@@ -52,7 +53,7 @@ invariant_of-self-in-Busy c =
     let n : Meaning = c.learn.new.self in
     let marked : is_prepared m c.args.region ≡ true = subst (λ (v : Shown). is_prepared v.core c.args.region ≡ true) (sym c.self.view_is) c.requires.prepared in
     subst (λ (x : Keeper Offer). Tied n x c.self.inside.places) (sym c.in-Busy.ensures.answer)
-        (tied_learns m n c.self.inside.keeper c.self.inside.places c.self.invariant c.in-Some.i c.args.region c.in-Some.ensures.some.0 (c.self.invariant.prepared c.args.region marked).1 c.args.by c.in-Busy.worker c.in-Some.ensures.some.1 marked c.learn.ensures)
+        (tied_learns m n c.self.inside.keeper c.self.inside.places c.self.invariant c.in-Some.i c.args.region c.in-Some.ensures.some.0 (c.self.invariant.prepared c.args.region marked).1 c.args.by c.in-Busy.worker c.in-Some.ensures.some.1 marked (subst (λ (v : Shown). is_over (world_of v.core) ≡ false) (sym c.self.view_is) c.requires.on) c.learn.ensures)
 
 pub returns-in-Kept : goal.returns-in-Kept
 returns-in-Kept c =

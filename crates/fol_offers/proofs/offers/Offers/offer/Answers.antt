@@ -60,4 +60,4 @@ invariant_of-self-2 c =
     let at_end : c.offer.new.seat ≡ offering (keeping s i (Some (of_tick tick))) i = c.offer.ensures ∙ ap (λ (x : Keeper Offer). offering x i) c.body-nothing.ensures.seat in
     subst (λ (x : Keeper Offer). Tied n x c.put.new.self) (sym at_end)
         (subst (λ (ys : List ℕ). Tied n (offering (keeping s i (Some (of_tick tick))) i) ys) (sym c.in_ok-i.ensures.placed)
-        (tied_offers m n s xs tied i r c.in_ok-i.ensures.free.0 given.above tick c.in_ok-i.ensures.free.1 (free_has_none m s xs r tied run free) c.prepare-tick.ensures.prepared allowed c.prepare-tick.ensures.tick c.prepare-tick.ensures.room))
+        (tied_offers m n s xs tied i r c.in_ok-i.ensures.free.0 given.above tick c.in_ok-i.ensures.free.1 (free_has_none m s xs r tied run free) (search rules) c.prepare-tick.ensures.prepared allowed c.prepare-tick.ensures.tick c.prepare-tick.ensures.room))
