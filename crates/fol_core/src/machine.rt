@@ -2,7 +2,7 @@
 
 ghost use Rattle.std.specs.Prelude.{ℕ, ◌≡◌, ◌+◌, ◌≤◌, ◌<◌, ◌^◌, [], ◌∷◌, ◌++◌, length, vec_len, vec_capacity, IfOk, OnOk, OnErr, IfSome, IfNone, Some, true, false};
 ghost use Rattle.fol_model.specs.Run.{Run};
-ghost use Rattle.fol_core.specs.Meaning.{Records, Stays, world_of};
+ghost use Rattle.fol_core.specs.Meaning.{Records, Stays, is_prepared, world_of};
 ghost use Rattle.fol_core.specs.Ahead.{NonePrepared};
 ghost use Rattle.fol_core.specs.Answers.{is_free, some_id, state_result};
 ghost use Rattle.fol_core.specs.First.{AreFirst, untouched};
@@ -134,6 +134,13 @@ impl Core {
         ensures { result ≡ some_id ((world_of self.now).grid.owner s) }
     {
         self.tables.regions.owner(s)
+    }
+
+    /// Whether a region is prepared: its tick is out, and no Begin of it is recorded.
+    pub fn is_prepared(&self, id: u64) -> bool
+        ensures { result ≡ is_prepared self.now id }
+    {
+        self.marks.has(id)
     }
 
     /// The state of a region; `None` exactly where the id was not given out.

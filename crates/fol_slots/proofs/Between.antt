@@ -1,5 +1,5 @@
 -- What is known between the steps of `meet` and of `take_in`.
-use Rattle.std.proofs.Common.{◌≡◌, ℕ, ◌<◌, List, [], ◌∷◌, sym, ap, ◌∙◌, subst, Option, Some, None}
+use Rattle.std.proofs.Common.{◌≡◌, ℕ, ◌<◌, List, [], ◌∷◌, sym, ap, ◌∙◌, subst, Option, Some, None, IsSomeAnd}
 use Rattle.std.specs.Option.{unwrap_or}
 use Rattle.atomic_table.specs.Table.{Me, rest}
 use Rattle.atomic_table.specs.Seated.{TableId}
@@ -34,17 +34,6 @@ module _ {T : Type 0} where
     record { keeper = ap (λ (x : Mine T). x.0.keeper) is ∙ kp.keeper; worker = ap (λ (x : Mine T). x.0.worker) is ∙ wk.worker; slot = ap (λ (x : Mine T). x.0.slot) is ∙ (wk.slot_is ∙ some) },
     ap (λ (x : Mine T). x.0.out) is ∙ kp.out,
   )
-
-  -- What the meeting showed, as callers see the seats.
-  pub record Meets (k : Keeper T) (w : Worker T) (i : ℕ) : Type 0 where
-    pub found : (n : ℕ) → (place_at k i).found ≡ Some n → n ≡ w.number
-    pub not_kept : (place_at k i).kept ≡ None
-    pub claimed : w.claimed ≡ (place_at k i).offered
-
-  pub met : (i j r : ℕ) (z y : TableId) (k w a : Mine T) (ks : Keeper T) (ws : Worker T) → a ≡ (both_of k.0 w.0, k.1) → keeper y k.0 ≡ ks → worker z w.0 ≡ ws → Met a.0 i r → j ≡ i → Meets ks ws j
-  met i j r z y k w a ks ws e ke we m same =
-      let f = subst (λ (v : View T). Met v i r) (ap (λ (x : Mine T). x.0) e) m in
-      subst (λ (t : Keeper T × Worker T). Meets t.0 t.1 j) (λ n. (ke n, we n)) (subst (λ (n : ℕ). Meets (keeper y k.0) (worker z w.0) n) (sym same) record { found = f.found; not_kept = f.not_kept; claimed = f.claimed })
 
   -- The view before the store of `take_in`, and the one after it.
   abbrev pub at_store : View T → View T → ℕ → View T

@@ -1,5 +1,6 @@
 -- Lists read by `get_elem?`, and a function changed at one number.
-use Rattle.std.proofs.Common.{◌≡◌, ◌≢◌, ◌⊎◌, ℕ, zero, suc, ◌<◌, List, [], ◌∷◌, ◌++◌, length, get_or, sym, refl, ap, inl, inr, ⊎_elim, arith, Option, Some, None, IsSome, IsSomeAnd, true, false, true≢false, zero}
+use Rattle.std.proofs.Common.{◌≡◌, ◌≢◌, ◌⊎◌, ℕ, zero, suc, ◌<◌, List, [], ◌∷◌, ◌++◌, length, get_or, sym, refl, ap, inl, inr, ⊎_elim, arith, Option, Some, None, IsSome, IsSomeAnd, true, false, true≢false, subst}
+use Rattle.std.specs.Option.{ForSome}
 use mathlib.Core.Option.{some, some-injective, some-ne-none}
 use native.Mathlib.Decide.{ℕ_discrete}
 use lib.ListN.{get_elem?}
@@ -28,6 +29,14 @@ module _ {A : Type 0} where
   pub some_and : (o : Option A) (P : A → Type 0) → IsSomeAnd o P → (x : A) × (o ≡ Some x) × P x
   some_and None P h = absurd h
   some_and (Some x) P h = (x, refl, h)
+
+  pub some_fit : (o : Option A) (P : A → Type 0) → IsSome o → ForSome o P → IsSomeAnd o P
+  some_fit None P is h = absurd (not_true is)
+  some_fit (Some x) P is h = h x refl
+
+  pub fit_some : (o : Option A) (P : A → Type 0) → IsSomeAnd o P → ForSome o P
+  fit_some None P h = absurd h
+  fit_some (Some x) P h = λ y e. subst P (some_same x y e) h
 
 module _ {V : Type 0} where
   pub below_length : (l : List V) (i : ℕ) (a : V) → get_elem? l i ≡ some a → i < length l

@@ -11,7 +11,7 @@ use Rattle.fol_slots.specs.Words.{word_of}
 use Rattle.fol_slots.specs.Hands.{place_at, Ruled}
 use Rattle.fol_slots.specs.Steps.{claiming, missing, out_at}
 use Rattle.fol_slots.specs.Steps as tells
-use Rattle.fol_slots.proofs.Changes.{none_some, some_same, some_and, put, put_here, put_else}
+use Rattle.fol_slots.proofs.Changes.{none_some, some_same, some_and, some_fit, put, put_here, put_else}
 use Rattle.fol_slots.proofs.AtSlot.{at_slot, same_view, same_words, small_word}
 
 module _ {T : Type 0} (fit : T → Type 0) (n : ℕ) where
@@ -34,8 +34,7 @@ module _ {T : Type 0} (fit : T → Type 0) (n : ℕ) where
       exchanged w 1 new Goal
       (λ is.
       let ready = ok.ready is in
-      let fits = ok.fits (omega arith) in
-      let body = some_and (place_at r.ps i).offered fit fits in
+      let body = some_and (place_at r.ps i).offered fit (some_fit (place_at r.ps i).offered fit (ok.offered (omega arith)) ok.fits) in
       let x : T = body.0 in
       let u : V = claiming v i x in
       let hold' : ℕ → Option ℕ = put r.hold v.number (Some i) in
@@ -52,7 +51,8 @@ module _ {T : Type 0} (fit : T → Type 0) (n : ℕ) where
               kept = λ e. absurd (omega arith);
               keeps = λ e. let z = ok.keeps e in absurd (omega arith);
               ready = λ e. absurd (omega arith);
-              fits = λ _. fits;
+              fits = ok.fits;
+              offered = λ _. ok.offered (omega arith);
               home = λ e. absurd (omega arith);
               empty = λ _ e. absurd (none_some id (sym e ∙ out_now));
               ticks = λ _. put_here r.hold v.number (Some i) (new - 1) (omega arith);
@@ -110,6 +110,7 @@ module _ {T : Type 0} (fit : T → Type 0) (n : ℕ) where
               keeps = ok.keeps;
               ready = λ e. absurd (omega arith);
               fits = ok.fits;
+              offered = ok.offered;
               home = λ e. absurd (omega arith);
               empty = λ _ _. refl;
               ticks = ok.ticks;

@@ -42,6 +42,7 @@ module _ {T : Type 0} where
     keeps = ok.keeps;
     ready = λ e. let t = ok.ready e in (t.0, same ∙ t.1);
     fits = ok.fits;
+    offered = ok.offered;
     home = λ e o. ok.home e (sym same ∙ o);
     empty = λ e o. ok.empty e (sym same ∙ o);
     ticks = λ e. forth (w - 1) (ok.ticks e);

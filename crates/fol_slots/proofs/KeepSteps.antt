@@ -13,7 +13,7 @@ use Rattle.fol_slots.specs.declared.view.View.{View}
 use Rattle.fol_slots.specs.Hands.{place, place_at, SlotFits, SeatFits, Ruled}
 use Rattle.fol_slots.specs.Steps.{knows, out_at}
 use Rattle.fol_slots.specs.Steps as tells
-use Rattle.fol_slots.proofs.Changes.{not_true, none_some, some_same, none_of, some_of, is_some, some_and, same_default, put, put_here, put_else}
+use Rattle.fol_slots.proofs.Changes.{not_true, none_some, some_same, none_of, some_of, is_some, some_and, some_fit, fit_some, same_default, put, put_here, put_else}
 use Rattle.fol_slots.proofs.AtSlot.{at_slot, same_homes, small_word}
 
 abbrev nowhere : {T : Type 0} → Place T
@@ -100,7 +100,7 @@ module _ {T : Type 0} (fit : T → Type 0) (n : ℕ) where
       exchanged w 1 0 (λ k. (u : V) × (a : Act (Option T)) × Valid s.homes m.1 a × Ruled fit n (stepped s i k id m.1 u a) × tells.keeps fit st m w (u, carried_after m.1 a))
       (λ one.
       let ready = ok.ready one in
-      let fits = ok.fits (omega arith) in
+      let fits = some_fit old.offered fit (ok.offered (omega arith)) ok.fits in
       let body = some_and old.offered fit fits in
       let some_offered : IsSome old.offered = is_some old.offered body.0 body.1 in
       let p : Place T = place old.offered old.offered None in (
@@ -111,7 +111,8 @@ module _ {T : Type 0} (fit : T → Type 0) (n : ℕ) where
           kept = λ _. some_offered;
           keeps = λ _. refl;
           ready = λ e. absurd (omega arith);
-          fits = λ e. absurd (omega arith);
+          fits = ok.fits;
+          offered = λ e. absurd (omega arith);
           home = λ _ _. refl;
           empty = λ e. absurd (omega arith);
           ticks = λ e. absurd (omega arith);
@@ -134,6 +135,7 @@ module _ {T : Type 0} (fit : T → Type 0) (n : ℕ) where
           keeps = ok.keeps;
           ready = λ e. absurd (other e);
           fits = ok.fits;
+          offered = ok.offered;
           home = λ e. absurd (omega arith);
           empty = λ e o. sym at_home ∙ ok.empty e o;
           ticks = ok.ticks;
@@ -169,7 +171,8 @@ module _ {T : Type 0} (fit : T → Type 0) (n : ℕ) where
               kept = λ e. absurd (omega arith);
               keeps = λ e. absurd (not_true e);
               ready = λ _. (refl, in_place);
-              fits = λ _. fits;
+              fits = fit_some old.kept fit fits;
+              offered = λ _. is_some old.kept body.0 body.1;
               home = λ e. absurd (omega arith);
               empty = λ e. absurd (omega arith);
               ticks = λ e. absurd (omega arith);
@@ -185,7 +188,7 @@ module _ {T : Type 0} (fit : T → Type 0) (n : ℕ) where
       )
 
   pub takes_out : (st : Step (Option T)) (slots id : ℕ) (m : M) → st.word < n → Alone m.0 → m.0.out ≡ None → IsSome (place_at m.0.places st.word).kept
-      → Allows (Ruled fit n) slots id m st.word (λ k. k) (tells.takes_out st m)
+      → Allows (Ruled fit n) slots id m st.word (λ k. k) (tells.takes_out fit st m)
   takes_out st slots id m inside who home kept s r deep_is at small =
       let i : ℕ = st.word in
       let v : V = m.0 in
@@ -208,6 +211,7 @@ module _ {T : Type 0} (fit : T → Type 0) (n : ℕ) where
               keeps = ok.keeps;
               ready = λ e. absurd (omega arith);
               fits = ok.fits;
+              offered = ok.offered;
               home = λ _ e. absurd (none_some id (sym e ∙ here));
               empty = λ _ e. absurd (none_some id (sym e ∙ here));
               ticks = ok.ticks;
@@ -226,7 +230,7 @@ module _ {T : Type 0} (fit : T → Type 0) (n : ℕ) where
             (λ j ne e. absurd (none_some j (sym in_place ∙ e))) (λ j ne e. absurd (ne (some_same j id (sym e ∙ here))))
             (λ _ _ _. ap (λ (ps : List (Place T)). (place_at ps i).offered) is)
             (λ j ne e. absurd (ne (e ∙ sym known_now.seat))) r.unmade,
-        refl,
+        (ok.fits, refl),
       )
 
   pub puts_back : (st : Step (Option T)) (slots id : ℕ) (m : M) (v : V) (x : T) → st.word < n → m ≡ (v, (st.word, Some x) ∷ []) → Alone v → v.out ≡ Some st.word → IsSome (place_at v.places st.word).kept
@@ -255,6 +259,7 @@ module _ {T : Type 0} (fit : T → Type 0) (n : ℕ) where
               keeps = λ _. zero_is;
               ready = λ e. absurd (omega arith);
               fits = ok.fits;
+              offered = ok.offered;
               home = λ _ _. refl;
               empty = λ e. absurd (omega arith);
               ticks = ok.ticks;

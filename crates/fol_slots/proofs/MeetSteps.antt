@@ -1,5 +1,5 @@
 -- The steps of the keeper's seat with a worker's seat joined into it keep the rule.
-use Rattle.std.proofs.Common.{◌≡◌, ℕ, ◌+◌, ◌-◌, ◌<◌, ◌≤◌, List, [], ◌∷◌, get_or, set, sym, refl, ap, ◌∙◌, subst, inr, ⊎_elim, arith, length-set, get_or-set_other, get_or-set_same, Option, Some, None, true}
+use Rattle.std.proofs.Common.{◌≡◌, ℕ, ◌+◌, ◌-◌, ◌<◌, ◌≤◌, List, [], ◌∷◌, get_or, set, sym, refl, ap, ◌∙◌, subst, inr, ⊎_elim, arith, length-set, get_or-set_other, get_or-set_same, Option, Some, None, IsSomeAnd, true}
 use mathlib.Core.Logic.{dite}
 use mathlib.Core.Option.{some, none}
 use native.Mathlib.Decide.{ℕ_discrete}
@@ -10,7 +10,7 @@ use Rattle.fol_slots.specs.declared.view.View.{View}
 use Rattle.fol_slots.specs.Hands.{place, place_at, Ruled}
 use Rattle.fol_slots.specs.Steps.{knows, out_at, taking_in, Met}
 use Rattle.fol_slots.specs.Steps as tells
-use Rattle.fol_slots.proofs.Changes.{none_some, some_same, none_of, some_of, put, put_here, put_else}
+use Rattle.fol_slots.proofs.Changes.{none_some, some_same, none_of, some_of, some_fit, put, put_here, put_else}
 use Rattle.fol_slots.proofs.AtSlot.{at_slot, same_homes}
 use Rattle.fol_slots.proofs.KeepSteps.{Known, known}
 
@@ -58,7 +58,7 @@ module _ {T : Type 0} (fit : T → Type 0) (n : ℕ) where
         owner = ap r.owner (let z : get_or s.words i 0 - 1 ≡ v.number = omega arith in z) ∙ mine.0;
       }
 
-  met : (s : State (Option T) V) (r : Ruled fit n s) (id : ℕ) (v : V) (i : ℕ) → Holder s r id v i → Met v i (get_or s.words i 0)
+  met : (s : State (Option T) V) (r : Ruled fit n s) (id : ℕ) (v : V) (i : ℕ) → Holder s r id v i → Met fit v i (get_or s.words i 0)
   met s r id v i h =
       let slot = h.known_now.slot in
       let w_is = h.word in record {
@@ -66,6 +66,7 @@ module _ {T : Type 0} (fit : T → Type 0) (n : ℕ) where
         found = λ k e. let z = slot.found k e in let y = z.0 in omega arith;
         not_kept = none_of (place_at v.places i).kept (λ e. let z = slot.keeps e in omega arith);
         claimed = h.claimed;
+        fits = subst (λ (o : Option T). IsSomeAnd o fit) (sym h.claimed) (some_fit (place_at v.places i).offered fit (slot.offered (let one = h.positive in omega arith)) slot.fits);
       }
 
   -- the slot is at home, empty, while the joined seat does not have it out
@@ -81,7 +82,7 @@ module _ {T : Type 0} (fit : T → Type 0) (n : ℕ) where
       (slot.out_by out.0 out.1)) in
       (in_place, slot.empty (omega arith) in_place)
 
-  pub meets : (st : Step (Option T)) (slots id : ℕ) (m : M) → st.word < n → Joined st.word m.0 → m.0.out ≡ None → Allows (Ruled fit n) slots id m st.word (λ k. k) (tells.meets st m)
+  pub meets : (st : Step (Option T)) (slots id : ℕ) (m : M) → st.word < n → Joined st.word m.0 → m.0.out ≡ None → Allows (Ruled fit n) slots id m st.word (λ k. k) (tells.meets fit st m)
   meets st slots id m inside who home s r deep_is at small =
       let i : ℕ = st.word in
       let v : V = m.0 in
@@ -108,6 +109,7 @@ module _ {T : Type 0} (fit : T → Type 0) (n : ℕ) where
               keeps = ok.keeps;
               ready = λ e. absurd (omega arith);
               fits = ok.fits;
+              offered = ok.offered;
               home = λ e. absurd (omega arith);
               empty = λ _ _. refl;
               ticks = ok.ticks;
@@ -128,7 +130,7 @@ module _ {T : Type 0} (fit : T → Type 0) (n : ℕ) where
         (met s r id v i h, refl),
       )
 
-  pub meets_out : (st : Step (Option T)) (slots id : ℕ) (m : M) → st.word < n → Joined st.word m.0 → m.0.out ≡ None → Allows (Ruled fit n) slots id m st.word (λ k. k) (tells.meets_out st m)
+  pub meets_out : (st : Step (Option T)) (slots id : ℕ) (m : M) → st.word < n → Joined st.word m.0 → m.0.out ≡ None → Allows (Ruled fit n) slots id m st.word (λ k. k) (tells.meets_out fit st m)
   meets_out st slots id m inside who home s r deep_is at small =
       let i : ℕ = st.word in
       let v : V = m.0 in
@@ -153,6 +155,7 @@ module _ {T : Type 0} (fit : T → Type 0) (n : ℕ) where
               keeps = ok.keeps;
               ready = λ e. absurd (omega arith);
               fits = ok.fits;
+              offered = ok.offered;
               home = λ _ e. absurd (none_some id (sym e ∙ out_now));
               empty = λ _ e. absurd (none_some id (sym e ∙ out_now));
               ticks = ok.ticks;
@@ -202,7 +205,8 @@ module _ {T : Type 0} (fit : T → Type 0) (n : ℕ) where
               kept = λ _. refl;
               keeps = λ _. refl;
               ready = λ e. absurd (omega arith);
-              fits = λ e. absurd (omega arith);
+              fits = ok.fits;
+              offered = λ e. absurd (omega arith);
               home = λ _ _. refl;
               empty = λ e. absurd (omega arith);
               ticks = λ e. absurd (omega arith);

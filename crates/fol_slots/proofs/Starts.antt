@@ -51,7 +51,8 @@ module _ {T : Type 0} (fit : T → Type 0) where
       kept = λ _. refl;
       keeps = λ _. refl;
       ready = λ e. absurd (omega arith);
-      fits = λ e. absurd (omega arith);
+      fits = λ x e. absurd (none_some x e);
+      offered = λ e. absurd (omega arith);
       home = λ _ _. refl;
       empty = λ e. absurd (omega arith);
       ticks = λ e. absurd (omega arith);

@@ -1,6 +1,7 @@
 -- The rule of the table: one pair of hands for each body.
 -- A body is at home in its slot, or in the hands of the one worker whose number stands in the slot's word, or in the keeper's hands within a call of the keeper.
-use Rattle.std.specs.Prelude.{◌≡◌, ◌⊎◌, ℕ, ◌+◌, ◌-◌, ◌<◌, ◌≤◌, List, length, slice_index, slice_index_or, Option, Some, None, IsSome, IsSomeAnd, true}
+use Rattle.std.specs.Prelude.{◌≡◌, ◌⊎◌, ℕ, ◌+◌, ◌-◌, ◌<◌, ◌≤◌, List, length, slice_index, slice_index_or, Option, Some, None, IsSome, true}
+use Rattle.std.specs.Option.{ForSome}
 use mathlib.Core.Option.{some}
 use mathlib.Core.Option as maybe
 use lib.ListN.{get_elem?}
@@ -25,8 +26,9 @@ module _ {T : Type 0} (fit : T → Type 0) (keeper : ℕ) (owner : ℕ → ℕ) 
     pub keeps : IsSome p.kept → w ≡ 0
     -- at Ready the slot is at home with the body that was offered
     pub ready : w ≡ 1 → (h ≡ some (some p.offered)) × (outer i ≡ None)
-    -- what was offered, and is not kept again, is fit
-    pub fits : 1 ≤ w → IsSomeAnd p.offered fit
+    -- what was offered last is fit, whatever became of it, and there is such a body where the slot is not kept
+    pub fits : ForSome p.offered fit
+    pub offered : 1 ≤ w → IsSome p.offered
     -- at Kept the slot is at home with the body that the keeper shows, and at Ticking it is empty, unless it is out
     pub home : w ≡ 0 → outer i ≡ None → h ≡ some (some p.kept)
     pub empty : 2 ≤ w → outer i ≡ None → h ≡ some (some None)

@@ -1,5 +1,6 @@
 -- The views, and what each atomic step tells the seat that makes it.
 use Rattle.std.specs.Prelude.{◌≡◌, ◌≢◌, ℕ, ◌+◌, ◌-◌, ◌<◌, List, [], ◌∷◌, ◌++◌, map, slice_set, Option, Some, None, IsSomeAnd, Bool, true, false}
+use Rattle.std.specs.Option.{ForSome}
 use Rattle.atomic_table.specs.Table.{Me, Step}
 use Rattle.fol_slots.specs.declared.view.Place.{Place}
 use Rattle.fol_slots.specs.declared.view.View.{View}
@@ -85,28 +86,29 @@ module _ {T : Type 0} where
   abbrev pub offers : Tells T
   offers st m r n = let p = place_at m.0.places st.word in n ≡ (knows m.0 st.word (place None p.kept None), m.1)
 
-  -- A kept slot comes out, with the body that the keeper shows,
-  abbrev pub takes_out : Tells T
-  takes_out st m r n = n ≡ (out_at m.0 (Some st.word), (st.word, (place_at m.0.places st.word).kept) ∷ m.1)
+  -- A kept slot comes out, with the body that the keeper shows; the one that was offered there last is fit,
+  abbrev pub takes_out : (T → Type 0) → Tells T
+  takes_out fit st m r n = ForSome (place_at m.0.places st.word).offered fit × (n ≡ (out_at m.0 (Some st.word), (st.word, (place_at m.0.places st.word).kept) ∷ m.1))
 
   -- and goes home with another.
   abbrev pub puts_back : Tells T
   puts_back st m r n = (x : T) → m.1 ≡ (st.word, Some x) ∷ [] → n ≡ (knows m.0 st.word (place (Some x) (place_at m.0.places st.word).offered None), [])
 
   -- What the keeper's seat learns of a slot whose worker's seat was joined into it, where the word is r.
-  pub record Met (v : View T) (i r : ℕ) : Type 0 where
+  pub record Met (fit : T → Type 0) (v : View T) (i r : ℕ) : Type 0 where
     pub word : r ≡ v.number + 1
     pub found : (k : ℕ) → (place_at v.places i).found ≡ Some k → k ≡ v.number
     pub not_kept : (place_at v.places i).kept ≡ None
     pub claimed : v.claimed ≡ (place_at v.places i).offered
+    pub fits : IsSomeAnd v.claimed fit
 
   -- The worker of the word is noted as found.
-  abbrev pub meets : Tells T
-  meets st m r n = let p = place_at m.0.places st.word in Met m.0 st.word r × (n ≡ (knows m.0 st.word (place p.kept p.offered (Some (r - 1))), m.1))
+  abbrev pub meets : (T → Type 0) → Tells T
+  meets fit st m r n = let p = place_at m.0.places st.word in Met fit m.0 st.word r × (n ≡ (knows m.0 st.word (place p.kept p.offered (Some (r - 1))), m.1))
 
   -- The same is learnt, and the slot comes out empty,
-  abbrev pub meets_out : Tells T
-  meets_out st m r n = Met m.0 st.word r × (n ≡ (out_at m.0 (Some st.word), (st.word, None) ∷ m.1))
+  abbrev pub meets_out : (T → Type 0) → Tells T
+  meets_out fit st m r n = Met fit m.0 st.word r × (n ≡ (out_at m.0 (Some st.word), (st.word, None) ∷ m.1))
 
   -- and goes home with another body: Ticking becomes Kept.
   abbrev pub takes_in : Tells T

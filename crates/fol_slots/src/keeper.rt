@@ -1,5 +1,6 @@
 //! What the keeper does, without a worker.
 ghost use Rattle.std.specs.Prelude.{◌≡◌, ◌<◌, Some, None, IsSome, IsSomeAnd};
+ghost use Rattle.std.specs.Option.{ForSome};
 ghost use Rattle.fol_slots.specs.declared.word.Word.TheVariants.{Kept};
 
 use crate::answer::Keep;
@@ -44,12 +45,14 @@ impl<T: Body> Slots<T> {
         shared.store::<Offering>(&mut seat.pass, i as usize, READY);
     }
 
-    /// Gives the body of slot `i`, which the keeper keeps, and puts another there.
+    /// Gives the body of slot `i`, which the keeper keeps, and puts another there. The body that was last offered there is
+    /// fit, whatever became of it.
     pub fn body(&self, seat: &mut KeeperSeat<T>, i: u32, new: T) -> T
         requires slots { seat.old.slots ≡ slots_id self.now }
         requires kept { IsSome (place_at seat.old i).kept }
         requires inside { i < slot_count self.now }
         ensures old { (place_at seat.old i).kept ≡ Some result }
+        ensures offered { ForSome (place_at seat.old i).offered T.fit }
         ensures seat { seat.new ≡ keeping seat.old i (Some new) }
         ensures word { WordIs T.fit seat.new i Kept }
     {

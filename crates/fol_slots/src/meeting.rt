@@ -1,5 +1,5 @@
 //! What the keeper does with the seat of a worker that holds a slot.
-ghost use Rattle.std.specs.Prelude.{◌≡◌, ℕ, Some, None, IsSome};
+ghost use Rattle.std.specs.Prelude.{◌≡◌, ℕ, Some, None, IsSome, IsSomeAnd};
 ghost use Rattle.fol_slots.specs.declared.word.Word.TheVariants.{Kept, Ticking};
 
 use crate::body::Body;
@@ -15,7 +15,7 @@ impl<T: Body> Slots<T> {
 
     /// Shows what is known of the slot that the worker's seat holds: its word was Ticking with the worker's number, a
     /// worker that the keeper's seat showed as found there was this one, the keeper does not keep the slot, and the
-    /// claimed body is the one last offered there. The keeper's seat then shows the worker as found.
+    /// claimed body is fit, and the one last offered there. The keeper's seat then shows the worker as found.
     pub fn meet(&self, seat: WorkerSeat<T>, keeper: &mut KeeperSeat<T>) -> WorkerSeat<T>
         requires seat { seat.slots ≡ slots_id self.now }
         requires keeper { keeper.old.slots ≡ slots_id self.now }
@@ -25,6 +25,7 @@ impl<T: Body> Slots<T> {
             → k ≡ seat.number }
         ensures not_kept { (place_at keeper.old (held_slot seat)).kept ≡ None }
         ensures claimed { seat.claimed ≡ (place_at keeper.old (held_slot seat)).offered }
+        ensures fits { IsSomeAnd seat.claimed T.fit }
         ensures seat { result ≡ seat }
         ensures keeper { keeper.new ≡ finding keeper.old (held_slot seat) seat.number }
     {
@@ -49,6 +50,7 @@ impl<T: Body> Slots<T> {
             → k ≡ seat.number }
         ensures not_kept { (place_at keeper.old (held_slot seat)).kept ≡ None }
         ensures claimed { seat.claimed ≡ (place_at keeper.old (held_slot seat)).offered }
+        ensures fits { IsSomeAnd seat.claimed T.fit }
         ensures seat { result ≡ freed seat }
         ensures keeper { keeper.new ≡ keeping keeper.old (held_slot seat) (Some body) }
         ensures word_after { WordIs T.fit keeper.new (held_slot seat) Kept }

@@ -55,8 +55,8 @@ impl<T> Play<Option<T>, View<T>> for Offering {
 /// A kept slot comes out.
 pub struct TakingOut;
 
-impl<T> Play<Option<T>, View<T>> for TakingOut {
-    ghost then = { takes_out };
+impl<T: Body> Play<Option<T>, View<T>> for TakingOut {
+    ghost then = { takes_out T.fit };
 }
 
 /// A kept slot goes home with a new body.
@@ -69,15 +69,15 @@ impl<T> Play<Option<T>, View<T>> for PuttingBack {
 /// The keeper meets the worker that holds a slot.
 pub struct Meeting;
 
-impl<T> Play<Option<T>, View<T>> for Meeting {
-    ghost then = { meets };
+impl<T: Body> Play<Option<T>, View<T>> for Meeting {
+    ghost then = { meets T.fit };
 }
 
 /// The same, and the slot comes out.
 pub struct MeetingOut;
 
-impl<T> Play<Option<T>, View<T>> for MeetingOut {
-    ghost then = { meets_out };
+impl<T: Body> Play<Option<T>, View<T>> for MeetingOut {
+    ghost then = { meets_out T.fit };
 }
 
 /// The keeper takes a slot in from the worker, and it goes home with a body.

@@ -67,7 +67,7 @@ open_more m n by event t records other is =
     }
 
 -- no entry more
-open_same : (m n : Meaning) → n.opening ≡ m.opening → n.history ≡ m.history → KeepsOpen m n
+pub open_same : (m n : Meaning) → n.opening ≡ m.opening → n.history ≡ m.history → KeepsOpen m n
 open_same m n opening history t is = record {
   made = record {
     before = is.made.before;

@@ -21,7 +21,7 @@ load-requires g c =
 
 pub exchange-requires : goal.exchange-requires
 exchange-requires g c =
-    let out = ap (λ m. m.1) c.load.ensures.2 in
+    let out = ap (λ m. m.1) c.load.ensures.2.1 in
     let x = (place_at c.seat.inside.pass.me.0.places c.args.i).kept in (
       search rules,
       (x, out ∙ ap (λ l. (c.args.i, x) ∷ rest l) (sym out)),
@@ -33,7 +33,7 @@ load-requires-2 g c =
     let slots = c.args.self.now in
     let inv = c.seat.invariant in
     let v = out_at c.seat.inside.pass.me.0 (Some i) in
-    let now = c.exchange.ensures.3 ∙ ap (λ m. (m.0, (i, Some c.args.new) ∷ rest m.1)) c.load.ensures.2 ∙ ap (λ l. (v, (i, Some c.args.new) ∷ l)) inv.empty in (
+    let now = c.exchange.ensures.3 ∙ ap (λ m. (m.0, (i, Some c.args.new) ∷ rest m.1)) c.load.ensures.2.1 ∙ ap (λ l. (v, (i, Some c.args.new) ∷ l)) inv.empty in (
       search rules,
       subst (λ k. i < k) (sym slots.one_word_each) c.requires.inside,
       puts_back g.T.Body.fit _ (step 0 i 0 0 none) _ _ _ v c.args.new (subst (λ k. i < k) slots.one_slot_each c.requires.inside) now (record { keeper = inv.keeper; worker = inv.worker }) refl
@@ -45,7 +45,7 @@ invariant_of-seat g c =
     let i = c.args.i in
     let inv = c.seat.invariant in
     let v = out_at c.seat.inside.pass.me.0 (Some i) in
-    let now = c.exchange.ensures.3 ∙ ap (λ m. (m.0, (i, Some c.args.new) ∷ rest m.1)) c.load.ensures.2 ∙ ap (λ l. (v, (i, Some c.args.new) ∷ l)) inv.empty in
+    let now = c.exchange.ensures.3 ∙ ap (λ m. (m.0, (i, Some c.args.new) ∷ rest m.1)) c.load.ensures.2.1 ∙ ap (λ l. (v, (i, Some c.args.new) ∷ l)) inv.empty in
     let is = c.load-2.ensures.2 c.args.new (ap (λ m. m.1) now) in
     let was = ap (λ m. m.0) now in record {
       keeper = ap (λ m. m.0.keeper) is ∙ (ap (λ u. u.keeper) was ∙ inv.keeper);

@@ -1,0 +1,68 @@
+use Rattle.std.proofs.Common.{rules, ◌≡◌, ℕ, ◌<◌, List, set, sym, subst, ap, ◌∙◌, true, false, Some, inl, inr}
+use Rattle.fol_data.specs.declared.tick.Tick.{Tick}
+use Rattle.fol_core.specs.Ahead.{Learns, Withdraws}
+use Rattle.fol_core.specs.Answers.{is_over}
+use Rattle.fol_core.specs.Meaning.{Meaning, is_prepared, world_of}
+use Rattle.fol_slots.specs.Shown.{Keeper, keeping, finding, place_at}
+use Rattle.fol_offers.specs.declared.offer.Offer.{Offer}
+use Rattle.fol_offers.specs.Shown.{Shown}
+use Rattle.fol_offers.specs.Tied.{Tied, Waits, nothing}
+use Rattle.fol_offers.proofs.Facts.{waits_now}
+use Rattle.fol_offers.proofs.Tying.{came_back, tied_withdraws, tied_learns}
+use Rattle.fol_offers.proofs.offers.Offers.call_back.Goals as goal
+
+pub withdraw-is_ready-requires-clause-prepared : goal.withdraw-is_ready-requires-clause-prepared
+withdraw-is_ready-requires-clause-prepared c =
+    let m : Meaning = c.self.inside.core in
+    let marked : is_prepared m c.args.region ≡ true = subst (λ (v : Shown). is_prepared v.core c.args.region ≡ true) (sym c.self.view_is) c.requires.prepared in
+    let w = came_back m c.self.inside.keeper c.try_keep.new.seat c.self.inside.places c.in-Some.i c.args.region c.body.result c.into_tick-tick.result c.self.invariant c.in-Some.ensures.some.0 c.in-Some.ensures.some.1 marked c.in-Kept.ensures.answer.1 c.body.ensures.old c.into_tick-tick.ensures in
+    ap (is_prepared m) w.is.region ∙ marked
+
+pub withdraw-is_ready-requires-clause-tick : goal.withdraw-is_ready-requires-clause-tick
+withdraw-is_ready-requires-clause-tick c =
+    let m : Meaning = c.self.inside.core in
+    let marked : is_prepared m c.args.region ≡ true = subst (λ (v : Shown). is_prepared v.core c.args.region ≡ true) (sym c.self.view_is) c.requires.prepared in
+    let w = came_back m c.self.inside.keeper c.try_keep.new.seat c.self.inside.places c.in-Some.i c.args.region c.body.result c.into_tick-tick.result c.self.invariant c.in-Some.ensures.some.0 c.in-Some.ensures.some.1 marked c.in-Kept.ensures.answer.1 c.body.ensures.old c.into_tick-tick.ensures in
+    waits_now m c.args.region c.into_tick-tick.result c.self.invariant.grid (search rules) w
+
+pub withdraw-is_ready-requires-clause-room : goal.withdraw-is_ready-requires-clause-room
+withdraw-is_ready-requires-clause-room c =
+    let m : Meaning = c.self.inside.core in
+    let marked : is_prepared m c.args.region ≡ true = subst (λ (v : Shown). is_prepared v.core c.args.region ≡ true) (sym c.self.view_is) c.requires.prepared in
+    let w = came_back m c.self.inside.keeper c.try_keep.new.seat c.self.inside.places c.in-Some.i c.args.region c.body.result c.into_tick-tick.result c.self.invariant c.in-Some.ensures.some.0 c.in-Some.ensures.some.1 marked c.in-Kept.ensures.answer.1 c.body.ensures.old c.into_tick-tick.ensures in
+    w.room
+
+pub invariant_of-self : goal.invariant_of-self
+invariant_of-self c =
+    let m : Meaning = c.self.inside.core in
+    let n : Meaning = c.withdraw-is_ready.new.self in
+    let s : Keeper Offer = c.self.inside.keeper in
+    let xs : List ℕ = c.self.inside.places in
+    let i : ℕ = c.in-Some.i in
+    let marked : is_prepared m c.args.region ≡ true = subst (λ (v : Shown). is_prepared v.core c.args.region ≡ true) (sym c.self.view_is) c.requires.prepared in
+    let w = came_back m s c.try_keep.new.seat xs i c.args.region c.body.result c.into_tick-tick.result c.self.invariant c.in-Some.ensures.some.0 c.in-Some.ensures.some.1 marked c.in-Kept.ensures.answer.1 c.body.ensures.old c.into_tick-tick.ensures in
+    let did : Withdraws m n c.args.region = subst (λ (r : ℕ). Withdraws m n r) w.is.region c.withdraw-is_ready.ensures.withdrawn in
+    let at_end : c.body.new.seat ≡ keeping (keeping s i (place_at s i).offered) i (Some nothing) = c.body.ensures.seat ∙ ap (λ (x : Keeper Offer). keeping x i (Some nothing)) c.in-Kept.ensures.answer.1 in
+    subst (λ (x : Keeper Offer). Tied n x c.clear.new.self) (sym at_end)
+        (subst (λ (ys : List ℕ). Tied n (keeping (keeping s i (place_at s i).offered) i (Some nothing)) ys) (sym c.clear.ensures)
+        (tied_withdraws m n s xs c.self.invariant i c.args.region c.in-Some.ensures.some.0 (c.self.invariant.prepared c.args.region marked).1 (place_at s i).offered c.in-Some.ensures.some.1 did))
+
+pub invariant_of-self-in-Busy : goal.invariant_of-self-in-Busy
+invariant_of-self-in-Busy c =
+    let m : Meaning = c.self.inside.core in
+    let n : Meaning = c.learn.new.self in
+    let marked : is_prepared m c.args.region ≡ true = subst (λ (v : Shown). is_prepared v.core c.args.region ≡ true) (sym c.self.view_is) c.requires.prepared in
+    subst (λ (x : Keeper Offer). Tied n x c.self.inside.places) (sym c.in-Busy.ensures.answer)
+        (tied_learns m n c.self.inside.keeper c.self.inside.places c.self.invariant c.in-Some.i c.args.region c.in-Some.ensures.some.0 (c.self.invariant.prepared c.args.region marked).1 c.args.by c.in-Busy.worker c.in-Some.ensures.some.1 marked (subst (λ (v : Shown). is_over (world_of v.core) ≡ false) (sym c.self.view_is) c.requires.on) c.learn.ensures)
+
+pub returns-in-Kept : goal.returns-in-Kept
+returns-in-Kept c =
+    let m : Meaning = c.self.inside.core in
+    let n : Meaning = c.withdraw-is_ready.new.self in
+    let marked : is_prepared m c.args.region ≡ true = subst (λ (v : Shown). is_prepared v.core c.args.region ≡ true) (sym c.self.view_is) c.requires.prepared in
+    let w = came_back m c.self.inside.keeper c.try_keep.new.seat c.self.inside.places c.in-Some.i c.args.region c.body.result c.into_tick-tick.result c.self.invariant c.in-Some.ensures.some.0 c.in-Some.ensures.some.1 marked c.in-Kept.ensures.answer.1 c.body.ensures.old c.into_tick-tick.ensures in
+    let did : Withdraws m n c.args.region = subst (λ (r : ℕ). Withdraws m n r) w.is.region c.withdraw-is_ready.ensures.withdrawn in
+    record {
+      slots = ap (λ (x : Keeper Offer). x.slots) c.body.ensures.seat ∙ (ap (λ (x : Keeper Offer). x.slots) c.in-Kept.ensures.answer.1 ∙ ap (λ (v : Shown). v.slots) c.self.view_is);
+      came = inl (subst (λ (v : Shown). Withdraws v.core n c.args.region) c.self.view_is did);
+    }

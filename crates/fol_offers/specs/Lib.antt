@@ -1,0 +1,4 @@
+pub mod Fit
+pub mod Places
+pub mod Shown
+pub mod Tied
