@@ -37,10 +37,6 @@ recorded_insert (x ∷ xs) (suc i) c q = rw (recorded_insert xs i c q) (grouped 
     grouped true b d = refl
     grouped false b d = refl
 
--- what was there still is
-pub recorded_kept : (xs : List ChunkPos) (i : ℕ) (c q : ChunkPos) → is_recorded xs q ≡ true → is_recorded (insert xs i c) q ≡ true
-recorded_kept xs i c q r = recorded_insert xs i c q ∙ rw r refl
-
 -- one at a known place
 pub recorded_where : (xs : List ChunkPos) (i : ℕ) (c : ChunkPos) → i < length xs → ((d : ChunkPos) → get_or xs i d ≡ c) → is_recorded xs c ≡ true
 recorded_where xs i c l e = ap (is_recorded xs) (sym (e c)) ∙ recorded_at xs i c l
