@@ -4,6 +4,7 @@
 //! A workload is a module with a function `run`, and has one line in `run_named`.
 #![tactic(auto)]
 
+mod early;
 mod inbox;
 mod lock;
 mod rate;
@@ -32,6 +33,7 @@ fn run_named<R: Threads + Wait + Sync + Clock + Print>(
     word: &str,
 ) -> io::Result<()> {
     match word {
+        "early" => early::run(rt, alloc),
         "inbox" => inbox::run(rt, alloc),
         "lock" => lock::run(rt, alloc),
         "regions" => regions::run(rt, alloc),
