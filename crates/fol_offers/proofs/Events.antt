@@ -10,7 +10,9 @@ use Rattle.fol_model.specs.declared.events.Unloaded.{Unloaded}
 use Rattle.fol_model.specs.declared.events.Unloaded.TheVariants as unloads
 use Rattle.fol_model.specs.declared.events.Accept.TheVariants as accepts
 use Rattle.fol_model.specs.declared.actions.Action.{Action}
-use Rattle.fol_model.specs.declared.events.Event.TheVariants.{Load, Post, Unload}
+use Rattle.fol_model.specs.declared.events.Event.TheVariants.{Load, PhaseOpen, Post, Unload}
+use Rattle.fol_core.specs.declared.answers.Phase.{Phase}
+use Rattle.fol_core.specs.declared.answers.Phase.TheVariants as phases
 use Rattle.fol_core.specs.declared.answers.Posting.{Posting}
 use Rattle.fol_core.specs.declared.answers.Posting.TheVariants as postings
 use Rattle.fol_model.specs.GridState.{is_loaded, is_ready}
@@ -20,7 +22,7 @@ use Rattle.fol_model.specs.World.{World}
 use Rattle.fol_model.specs.Run.{Run, after}
 use Rattle.fol_laws.specs.LateBegin.{draws_in, ground, load_touches, post_touches, unload_touches}
 use Rattle.fol_core.specs.Ahead.{Spares, may_touch}
-use Rattle.fol_core.specs.Answers.{LoadRecords, PostRecords, UnloadRecords, is_over}
+use Rattle.fol_core.specs.Answers.{LoadRecords, PhaseRecords, PostRecords, UnloadRecords, is_over}
 use Rattle.fol_core.specs.Meaning.{Meaning, Stays, Unchanged, is_prepared, world_of}
 use Rattle.fol_slots.specs.Shown.{Keeper}
 use Rattle.fol_offers.specs.declared.offer.Offer.{Offer}
@@ -113,3 +115,9 @@ module _ (m n : Meaning) (s : Keeper Offer) (xs : List ℕ) (by : ℕ) (c : Chun
   tied_posts d x (Ok (postings.Full present wanted)) spares did none = tied_event m n s xs by (Post by c d x (accepts.Full present wanted)) t did spares refl (λ q. refl) (ap is_over (one_more m n _ did.opening did.history) ∙ over_posted (world_of m) c d x)
   tied_posts d x (Ok (postings.Over back)) spares did none = same did
   tied_posts d x (Err back) spares did none = tied_stays m n s xs none t
+
+  pub tied_phases : (k : ℕ) (r : Result Phase AllocError) → IfOk r (λ a. PhaseRecords m n by k a) → OnErr r (Stays m n) → Tied n s xs
+  tied_phases k (Ok phases.Opened) did none = tied_event m n s xs by (PhaseOpen k) t did (λ q marked. refl) refl (λ q. refl) (ap is_over (one_more m n _ did.opening did.history))
+  tied_phases k (Ok phases.InPhase) did none = same did
+  tied_phases k (Ok phases.Over) did none = same did
+  tied_phases k (Err e) did none = tied_stays m n s xs none t

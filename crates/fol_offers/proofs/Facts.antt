@@ -126,13 +126,13 @@ pub free_has_none : (m : Meaning) (s : Keeper Offer) (xs : List ℕ) (r : ℕ) �
 free_has_none m s xs r t run free i is =
     let given = free_given m r t.grid run free in
     let above : 0 < r = given.above in
-    let inside : i < length xs = elim (leb_tells (length xs) i) [ | inl y ↦ absurd (let z = get_or-eq_default xs 0 {n = i} y.1 in omega (arith, z, is, above)) | inr n ↦ n.1 ] in
+    let inside : i < length xs = elim (leb_tells (length xs) i) [ inl y ↦ absurd (let z = get_or-eq_default xs 0 {n = i} y.1 in omega (arith, z, is, above)) | inr n ↦ n.1 ] in
     let u = t.used i inside (subst (λ (x : ℕ). 0 < x) (sym is) above) in
     let unprepared = free_unprepared m r t.grid run free in
     none_or_some (place_at s i).found
-        (λ e. absurd (true≢false (sym (u.waits e).prepared ∙ ap (is_prepared m) is ∙ unprepared)))
-        (λ k e. let runs = u.runs k e in
-          absurd (free_not_ticking m r t.grid run free (ap (λ (x : ℕ). (world_of m).grid.state x) (sym (runs.of ∙ is)) ∙ open_ticks m (record u.tick { worker = k }) t.grid run runs.opened)))
+    (λ e. absurd (true≢false (sym (u.waits e).prepared ∙ ap (is_prepared m) is ∙ unprepared)))
+    (λ k e. let runs = u.runs k e in
+    absurd (free_not_ticking m r t.grid run free (ap (λ (x : ℕ). (world_of m).grid.state x) (sym (runs.of ∙ is)) ∙ open_ticks m (record u.tick { worker = k }) t.grid run runs.opened)))
   where
     none_or_some : (o : Option ℕ) → (o ≡ None → ⊥) → ((k : ℕ) → o ≡ Some k → ⊥) → ⊥
     none_or_some None none some = none refl

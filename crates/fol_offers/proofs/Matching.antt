@@ -32,10 +32,10 @@ module _ (xs : List ℕ) (rows rows' : List (ℕ × ℕ)) (m : AreMatched xs row
     ];
     all = λ j p. dite (ℕ_discrete j i)
         (λ same. let here : region_at (set xs i r) j ≡ r = ap (region_at (set xs i r)) same ∙ get_or-set_same xs i r 0 inside in
-          rw here (hit _ _ _ _ (eq-eqb r r refl) (updates r) ∙ ap (λ (z : ℕ). Some z) (sym same)))
+        rw here (hit _ _ _ _ (eq-eqb r r refl) (updates r) ∙ ap (λ (z : ℕ). Some z) (sym same)))
         (λ ne. let here : region_at (set xs i r) j ≡ region_at xs j = get_or-set_other xs i j r 0 ne in
-          let n = ne_eqb r (region_at xs j) (λ e. fresh j (sym e)) in
-          rw here (miss _ _ _ _ n (updates (region_at xs j)) ∙ m.all j (subst (λ (z : ℕ). 0 < z) here p)));
+        let n = ne_eqb r (region_at xs j) (λ e. fresh j (sym e)) in
+        rw here (miss _ _ _ _ n (updates (region_at xs j)) ∙ m.all j (subst (λ (z : ℕ). 0 < z) here p)));
   }
 
   pub clear_matched : (r i : ℕ) → i < length xs → region_at xs i ≡ r
@@ -49,7 +49,7 @@ module _ (xs : List ℕ) (rows rows' : List (ℕ × ℕ)) (m : AreMatched xs row
     all = λ j p. dite (ℕ_discrete j i)
         (λ same. absurd (let z = ap (region_at (set xs i 0)) same ∙ get_or-set_same xs i 0 0 inside in omega arith))
         (λ ne. let here : region_at (set xs i 0) j ≡ region_at xs j = get_or-set_other xs i j 0 0 ne in
-          let old = m.all j (subst (λ (z : ℕ). 0 < z) here p) in
-          let n = ne_eqb r (region_at xs j) (λ d. let e : region_at xs i ≡ region_at xs j = is ∙ d in let a = m.all i (subst (λ (z : ℕ). 0 < z) (here ∙ sym e) p) in ne (sym (some_same i j (sym a ∙ (ap (λ (z : ℕ). lookup (nat_eq z) rows) e ∙ old))))) in
-          rw here (miss _ _ _ _ n (updates (region_at xs j)) ∙ old));
+        let old = m.all j (subst (λ (z : ℕ). 0 < z) here p) in
+        let n = ne_eqb r (region_at xs j) (λ d. let e : region_at xs i ≡ region_at xs j = is ∙ d in let a = m.all i (subst (λ (z : ℕ). 0 < z) (here ∙ sym e) p) in ne (sym (some_same i j (sym a ∙ (ap (λ (z : ℕ). lookup (nat_eq z) rows) e ∙ old))))) in
+        rw here (miss _ _ _ _ n (updates (region_at xs j)) ∙ old));
   }

@@ -55,22 +55,22 @@ pub passes_one : (m n : Meaning) (q : ℕ) (e : Entry) → n.opening ≡ m.openi
     → (is_prepared m q ≡ true → touches (world_of m) q e.event ≡ false) → is_stop e.event ≡ false → is_end q e.event ≡ false → Passes m n q
 passes_one m n q e opening history prepared spares on other = record {
   waits = λ t w.
-    let there : after_all (world m.opening w.before) w.between ≡ world_of m = sym (world_both (start m.opening) w.before w.between) ∙ ap (world m.opening) (sym w.history) in
-    let calm : touches (after_all (world m.opening w.before) w.between) q e.event ≡ false = ap (λ (x : World). touches x q e.event) there ∙ spares w.prepared in
-    record {
-      prepared = prepared ∙ w.prepared;
-      before = w.before;
-      between = w.between ++ e ∷ [];
-      history = history ∙ ap (λ (h : List Entry). h ++ e ∷ []) w.history ∙ append_assoc w.before w.between (e ∷ []);
-      calm = rw opening (none_more (world m.opening w.before) q w.between e w.calm calm on);
-      allowed = rw opening w.allowed;
-      is = rw opening w.is;
-      room = w.room;
-    };
+      let there : after_all (world m.opening w.before) w.between ≡ world_of m = sym (world_both (start m.opening) w.before w.between) ∙ ap (world m.opening) (sym w.history) in
+      let calm : touches (after_all (world m.opening w.before) w.between) q e.event ≡ false = ap (λ (x : World). touches x q e.event) there ∙ spares w.prepared in
+      record {
+        prepared = prepared ∙ w.prepared;
+        before = w.before;
+        between = w.between ++ e ∷ [];
+        history = history ∙ ap (λ (h : List Entry). h ++ e ∷ []) w.history ∙ append_assoc w.before w.between (e ∷ []);
+        calm = rw opening (none_more (world m.opening w.before) q w.between e w.calm calm on);
+        allowed = rw opening w.allowed;
+        is = rw opening w.is;
+        room = w.room;
+      };
   runs = λ k t r.
-    let after_it : Meaning = record m { history = n.history } in
-    let records : Records m after_it e.by e.event = record { opening = refl; history = history; prepared = refl } in
-    let u : Tick = record t { worker = k } in
-    let another : is_end u.region e.event ≡ false = rw r.of other in
-    record { of = r.of; unprepared = prepared ∙ r.unprepared; opened = open_same after_it n opening refl u (open_more m after_it e.by e.event u records another r.opened) };
+      let after_it : Meaning = record m { history = n.history } in
+      let records : Records m after_it e.by e.event = record { opening = refl; history = history; prepared = refl } in
+      let u : Tick = record t { worker = k } in
+      let another : is_end u.region e.event ≡ false = rw r.of other in
+      record { of = r.of; unprepared = prepared ∙ r.unprepared; opened = open_same after_it n opening refl u (open_more m after_it e.by e.event u records another r.opened) };
 }

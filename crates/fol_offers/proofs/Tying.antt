@@ -23,10 +23,12 @@ use Rattle.fol_core.specs.Ahead.{Learns, Prepares, NonePrepared, Withdraws}
 use Rattle.fol_core.specs.Ticks.{IsTick}
 use Rattle.fol_tick_laws.proofs.OpenTicks.{learnt_opens}
 use Rattle.fol_core.specs.Meaning.{Meaning, Records, Stays, is_prepared, world_of}
+use Rattle.std.specs.Prelude.{All, slice_get}
+use Rattle.atomic_table.specs.Seated.{TableId}
 use Rattle.fol_slots.specs.declared.view.Place.{Place}
-use Rattle.fol_slots.specs.Shown.{Keeper, knowing, place_at, keeping, offering, finding}
+use Rattle.fol_slots.specs.Shown.{Keeper, knowing, place_at, keeping, offering, finding, new_keeper}
 use Rattle.fol_slots.specs.Hands as hands
-use Rattle.fol_slots.proofs.Callers.{as_many, place_here, place_else}
+use Rattle.fol_slots.proofs.Callers.{as_many, place_here, place_else, new_as_many, body_new}
 use Rattle.fol_offers.specs.declared.offer.Offer.{Offer}
 use Rattle.fol_offers.specs.Places.{region_at}
 use Rattle.fol_offers.specs.Tied.{InUse, Runs, Tied, Waits, nothing, of_tick}
@@ -86,6 +88,19 @@ tied_first m s n grid none slots places few empty = let long : length (replicate
   prepared = λ r e. absurd (true≢false (sym e ∙ none r));
 }
 
+-- in the slots of new seats, with bodies of which none has a tick
+pub tied_start : (m : Meaning) (z : TableId) (bodies : List Offer) (n : ℕ) → IsGrid m.opening.grid → NonePrepared m → z.slots ≡ n → length bodies ≡ n → n < 65536
+    → All (λ b. b ≡ nothing) bodies → Tied m (new_keeper z bodies) (replicate n 0)
+tied_start m z bodies n grid none slots count few all = tied_first m (new_keeper z bodies) n grid none slots (new_as_many z bodies ∙ count) few
+    (λ i low. let b : Offer = get_or bodies i nothing in
+    let is : b ≡ nothing = all i nothing (rw count low) in
+    ap (λ (p : Place Offer). p.kept) (body_new z bodies i nothing (get_at bodies i nothing (rw count low) is)))
+  where
+    get_at : (xs : List Offer) (i : ℕ) (b : Offer) → i < length xs → get_or xs i nothing ≡ b → slice_get xs i ≡ Some b
+    get_at [] i b low e = absurd (omega arith)
+    get_at (x ∷ xs) zero b low e = ap (λ (y : Offer). Some y) e
+    get_at (x ∷ xs) (suc i) b low e = get_at xs i b (omega arith) e
+
 -- the core stands for what it stood for
 pub tied_stays : (m n : Meaning) (s : Keeper Offer) (xs : List ℕ) → Stays m n → Tied m s xs → Tied n s xs
 tied_stays m n s xs same t = record {
@@ -139,20 +154,20 @@ module _ (m n : Meaning) (s : Keeper Offer) (xs : List ℕ) (t : Tied m s xs) (i
         let low_j : j < length xs = rw long at low in
         let pos_j : 0 < region_at xs j = subst (λ (r : ℕ). 0 < r) is pos in
         subst (λ (x : Place Offer). InUse n (region_at (set xs i q) j) x) (sym (place_else s i j p ne))
-            (subst (λ (r : ℕ). InUse n r (place_at s j)) (sym is) (in_use_passes m n (region_at xs j) (place_at s j) (others j low_j ne pos_j) (t.used j low_j pos_j))));
+        (subst (λ (r : ℕ). InUse n r (place_at s j)) (sym is) (in_use_passes m n (region_at xs j) (place_at s j) (others j low_j ne pos_j) (t.used j low_j pos_j))));
     apart = λ j k low_j low_k pos e. dite (ℕ_discrete j i)
         (λ same. dite (ℕ_discrete k i) (λ also. same ∙ sym also)
         (λ ne. let is : region_at (set xs i q) j ≡ q = ap (region_at (set xs i q)) same ∙ here in
-          absurd (alone (subst (λ (r : ℕ). 0 < r) is pos) k (rw long at low_k) ne (sym (else k ne) ∙ sym e ∙ is))))
+        absurd (alone (subst (λ (r : ℕ). 0 < r) is pos) k (rw long at low_k) ne (sym (else k ne) ∙ sym e ∙ is))))
         (λ ne. dite (ℕ_discrete k i)
         (λ also. let is : region_at (set xs i q) k ≡ q = ap (region_at (set xs i q)) also ∙ here in
-          absurd (alone (subst (λ (r : ℕ). 0 < r) (e ∙ is) pos) j (rw long at low_j) ne (sym (else j ne) ∙ e ∙ is)))
+        absurd (alone (subst (λ (r : ℕ). 0 < r) (e ∙ is) pos) j (rw long at low_j) ne (sym (else j ne) ∙ e ∙ is)))
         (λ other. t.apart j k (rw long at low_j) (rw long at low_k) (subst (λ (r : ℕ). 0 < r) (else j ne) pos) (sym (else j ne) ∙ e ∙ else k other)));
     prepared = λ r e. elim (marked r e) [
       | inl is ↦ elim some [
-          | inl pos ↦ (i, subst (λ (x : ℕ). 0 < x) (sym is) pos, subst (λ (l : ℕ). i < l) (sym long) inside, here ∙ sym is)
-          | inr not ↦ absurd (not r e is)
-        ]
+        | inl pos ↦ (i, subst (λ (x : ℕ). 0 < x) (sym is) pos, subst (λ (l : ℕ). i < l) (sym long) inside, here ∙ sym is)
+        | inr not ↦ absurd (not r e is)
+      ]
       | inr was ↦ let z = t.prepared r was.0 in
           let ne : z.0 ≢ i = λ same. was.1 (sym z.3 ∙ ap (region_at xs) same) in
           (z.0, z.1, subst (λ (l : ℕ). z.0 < l) (sym long) z.2, else z.0 ne ∙ z.3)
@@ -192,32 +207,32 @@ module _ (m n : Meaning) (s : Keeper Offer) (xs : List ℕ) (t : Tied m s xs) (i
   tied_offers tick unused fresh on did allowed is room =
       let p : Place Offer = hands.place None (Some (of_tick tick)) None in
       subst (λ (k : Keeper Offer). Tied n k (set xs i r)) (sym (offered_after s i there (of_tick tick))) (tied_changes m n s xs t i r p inside did.opening
-          (λ over. absurd (true≢false (sym over ∙ (same_over m n did.opening did.history ∙ on))))
-          (λ e. absurd (let z = some in omega (arith, e, z)))
-          (λ _. record {
-            kept = refl;
-            tick = tick;
-            offered = refl;
-            waits = λ _. record {
-              prepared = ap (λ (f : ℕ → Bool). f r) did.prepared ∙ at_here (is_prepared m) r true;
-              before = m.history;
-              between = [];
-              history = did.history ∙ sym (append-nil m.history);
-              calm = tt;
-              allowed = rw did.opening allowed;
-              is = rw did.opening is;
-              room = room;
-            };
-            runs = λ k e. absurd (none_some k e);
-          })
-          (λ j low ne pos. others_pass did.opening did.history true did.prepared (region_at xs j) (fresh j))
-          (λ _ j _ _. fresh j)
-          (λ q e. elim (eqb_tells r q) [
-            | inl y ↦ inl (sym y.1)
-            | inr y ↦ let was : is_prepared m q ≡ true = sym (at_other (is_prepared m) r true q (λ z. y.1 (sym z))) ∙ (ap (λ (f : ℕ → Bool). f q) (sym did.prepared) ∙ e) in
-                let pos = (t.prepared q was).1 in inr (was, λ z. let same : q ≡ 0 = z ∙ unused in omega (arith, same, pos))
-          ])
-          (inl some))
+      (λ over. absurd (true≢false (sym over ∙ (same_over m n did.opening did.history ∙ on))))
+      (λ e. absurd (let z = some in omega (arith, e, z)))
+      (λ _. record {
+        kept = refl;
+        tick = tick;
+        offered = refl;
+        waits = λ _. record {
+          prepared = ap (λ (f : ℕ → Bool). f r) did.prepared ∙ at_here (is_prepared m) r true;
+          before = m.history;
+          between = [];
+          history = did.history ∙ sym (append-nil m.history);
+          calm = tt;
+          allowed = rw did.opening allowed;
+          is = rw did.opening is;
+          room = room;
+        };
+        runs = λ k e. absurd (none_some k e);
+      })
+      (λ j low ne pos. others_pass did.opening did.history true did.prepared (region_at xs j) (fresh j))
+      (λ _ j _ _. fresh j)
+      (λ q e. elim (eqb_tells r q) [
+        | inl y ↦ inl (sym y.1)
+        | inr y ↦ let was : is_prepared m q ≡ true = sym (at_other (is_prepared m) r true q (λ z. y.1 (sym z))) ∙ (ap (λ (f : ℕ → Bool). f q) (sym did.prepared) ∙ e) in
+            let pos = (t.prepared q was).1 in inr (was, λ z. let same : q ≡ 0 = z ∙ unused in omega (arith, same, pos))
+      ])
+      (inl some))
 
   -- the tick of a region came back out of its slot
   pub tied_withdraws : (kept : Option Offer) → region_at xs i ≡ r → Withdraws m n r → Tied n (keeping (keeping s i kept) i (Some nothing)) (set xs i 0)
@@ -225,13 +240,13 @@ module _ (m n : Meaning) (s : Keeper Offer) (xs : List ℕ) (t : Tied m s xs) (i
       let p : Place Offer = hands.place (Some nothing) (place_at s i).offered None in
       let apart : (j : ℕ) → j < length xs → j ≢ i → region_at xs j ≢ r = λ j low ne e. ne (sym (t.apart i j inside low (subst (λ (x : ℕ). 0 < x) (sym own) some) (own ∙ sym e))) in
       subst (λ (k : Keeper Offer). Tied n k (set xs i 0)) (sym (emptied_after s i there kept (Some nothing))) (tied_changes m n s xs t i 0 p inside did.opening
-          (λ over q. falls did.prepared q (t.calm (sym (same_over m n did.opening did.history) ∙ over) q))
-          (λ _. refl)
-          (λ z. absurd (omega (arith, z)))
-          (λ j low ne pos. others_pass did.opening did.history false did.prepared (region_at xs j) (apart j low ne))
-          (λ z. absurd (omega (arith, z)))
-          (λ q e. inr ((back did.prepared q e).0, λ z. (back did.prepared q e).1 (z ∙ own)))
-          (inr (λ q e z. let pos = (t.prepared q ((back did.prepared q e).0)).1 in omega (arith, z, pos))))
+      (λ over q. falls did.prepared q (t.calm (sym (same_over m n did.opening did.history) ∙ over) q))
+      (λ _. refl)
+      (λ z. absurd (omega (arith, z)))
+      (λ j low ne pos. others_pass did.opening did.history false did.prepared (region_at xs j) (apart j low ne))
+      (λ z. absurd (omega (arith, z)))
+      (λ q e. inr ((back did.prepared q e).0, λ z. (back did.prepared q e).1 (z ∙ own)))
+      (inr (λ q e z. let pos = (t.prepared q ((back did.prepared q e).0)).1 in omega (arith, z, pos))))
     where
       falls : is_prepared n ≡ at_id (is_prepared m) r false → (q : ℕ) → is_prepared m q ≡ false → is_prepared n q ≡ false
       falls prepared q none = elim (eqb_tells r q) [
@@ -256,28 +271,28 @@ module _ (m n : Meaning) (s : Keeper Offer) (xs : List ℕ) (t : Tied m s xs) (i
       let made : Meaning = record m { history = waits.before } in
       let apart : (j : ℕ) → j < length xs → j ≢ i → region_at xs j ≢ r = λ j low ne z. ne (sym (t.apart i j inside low (subst (λ (x : ℕ). 0 < x) (sym own) some) (own ∙ sym z))) in
       let changed : Tied n (knowing s i p) (set xs i r) = tied_changes m n s xs t i r p inside did.opening
-          (λ over. absurd (true≢false (sym over ∙ (begun_over m n by k r did.opening did.history ∙ on))))
-          (λ z. absurd (let y = some in omega (arith, z, y)))
-          (λ _. record {
-            kept = u.kept;
-            tick = u.tick;
-            offered = u.offered;
-            waits = λ z. absurd (none_some k (sym z));
-            runs = λ j z. subst (λ (x : ℕ). Runs n r x u.tick) (some_same k j z) record {
-              of = waits.is.region;
-              unprepared = ap (λ (f : ℕ → Bool). f r) did.prepared ∙ at_here (is_prepared m) r false;
-              opened = learnt_opens made m n waits.between by k r u.tick waits.is waits.allowed refl waits.history waits.calm did;
-            };
-          })
-          (λ j low ne pos. passes_one m n (region_at xs j) e did.opening did.history
-              (ap (λ (f : ℕ → Bool). f (region_at xs j)) did.prepared ∙ at_other (is_prepared m) r false (region_at xs j) (apart j low ne))
-              (λ _. ne_eqb r (region_at xs j) (λ z. apart j low ne (sym z))) refl refl)
-          (λ _ j low ne. apart j low ne)
-          (λ q z. elim (eqb_tells r q) [
-            | inl y ↦ inl (sym y.1)
-            | inr y ↦ inr (sym (at_other (is_prepared m) r false q (λ x. y.1 (sym x))) ∙ (ap (λ (f : ℕ → Bool). f q) (sym did.prepared) ∙ z), λ x. y.1 (sym (x ∙ own)))
-          ])
-          (inl some) in
+      (λ over. absurd (true≢false (sym over ∙ (begun_over m n by k r did.opening did.history ∙ on))))
+      (λ z. absurd (let y = some in omega (arith, z, y)))
+      (λ _. record {
+        kept = u.kept;
+        tick = u.tick;
+        offered = u.offered;
+        waits = λ z. absurd (none_some k (sym z));
+        runs = λ j z. subst (λ (x : ℕ). Runs n r x u.tick) (some_same k j z) record {
+          of = waits.is.region;
+          unprepared = ap (λ (f : ℕ → Bool). f r) did.prepared ∙ at_here (is_prepared m) r false;
+          opened = learnt_opens made m n waits.between by k r u.tick waits.is waits.allowed refl waits.history waits.calm did;
+        };
+      })
+      (λ j low ne pos. passes_one m n (region_at xs j) e did.opening did.history
+      (ap (λ (f : ℕ → Bool). f (region_at xs j)) did.prepared ∙ at_other (is_prepared m) r false (region_at xs j) (apart j low ne))
+      (λ _. ne_eqb r (region_at xs j) (λ z. apart j low ne (sym z))) refl refl)
+      (λ _ j low ne. apart j low ne)
+      (λ q z. elim (eqb_tells r q) [
+        | inl y ↦ inl (sym y.1)
+        | inr y ↦ inr (sym (at_other (is_prepared m) r false q (λ x. y.1 (sym x))) ∙ (ap (λ (f : ℕ → Bool). f q) (sym did.prepared) ∙ z), λ x. y.1 (sym (x ∙ own)))
+      ])
+      (inl some) in
       subst (λ (ys : List ℕ). Tied n (knowing s i p) ys) (ap (set xs i) (sym own) ∙ set-get_or xs i 0) changed
 
 -- the body of a slot that was kept has the tick that waited there

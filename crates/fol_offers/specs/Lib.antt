@@ -1,4 +1,5 @@
 pub mod Fit
 pub mod Places
 pub mod Shown
+pub mod Starts
 pub mod Tied

@@ -10,6 +10,8 @@
 mod offer;
 mod offers;
 mod places;
+#[cfg(test)]
+mod tests;
 
 pub use offer::Offer;
-pub use offers::Offers;
+pub use offers::{Offers, OffersAndSeats};

@@ -1,22 +1,23 @@
 //! A core and the slots in which the ticks of its regions are offered.
 
-ghost use Rattle.std.specs.Prelude.{◌≡◌, ◌<◌, ℕ, true, false, length, [], ◌∷◌, IfOk, OnOk, OnErr, Some, IsTrue};
+ghost use Rattle.std.specs.Prelude.{◌≡◌, ◌+◌, ◌≤◌, ◌<◌, ℕ, true, false, [], ◌∷◌, All, IfOk, OnOk, OnErr, IsTrue, vec_len};
 ghost use Rattle.fol_model.specs.Geometry.{is_chunk};
 ghost use Rattle.fol_model.specs.Limits.{is_action, is_delay, may_post};
 ghost use Rattle.fol_model.specs.GridNumbers.{IsGrid};
-ghost use Rattle.fol_slots.specs.Shown.{place_at};
-ghost use Rattle.fol_slots.specs.Table.{slots_id};
+ghost use Rattle.fol_slots.specs.Shown.{AreNew};
+ghost use Rattle.fol_slots.specs.Table.{slots_id, slot_count};
 ghost use Rattle.fol_core.specs.Ahead.{NonePrepared, Prepares, Withdraws};
-ghost use Rattle.fol_core.specs.Answers.{is_free, is_over};
+ghost use Rattle.fol_core.specs.Answers.{PhaseRecords, is_free, is_over, phase_result};
 ghost use Rattle.fol_core.specs.Meaning.{Stays, is_prepared, world_of};
 ghost use Rattle.fol_offers.specs.Shown.{CallsAllBack, CallsBack, Clears, Loads, OffersNext, Posts, Unloads};
+ghost use Rattle.fol_offers.specs.Starts.{AreNewSlots};
 ghost use Rattle.fol_offers.specs.Tied.{nothing};
 
 use crate::offer::Offer;
 use crate::places::Places;
-use fol_core::{Core, Posting};
+use fol_core::{Core, Phase, Posting};
 use fol_model::{Action, ChunkPos, Entry, Loaded, Unloaded};
-use fol_slots::{Keep, KeeperSeat, Slots};
+use fol_slots::{Keep, KeeperSeat, Slots, SlotsAndSeats, WorkerSeats};
 use std::alloc::{AllocError, Global};
 use std::marker::Model;
 
@@ -27,6 +28,14 @@ pub struct Offers {
     core: Core,
     keeper: KeeperSeat<Offer>,
     places: Places,
+}
+
+/// What `Offers::start` makes.
+pub struct OffersAndSeats {
+    pub offers: Offers,
+    pub slots: Slots<Offer>,
+    /// The workers' seats, in order of their numbers.
+    pub seats: WorkerSeats<Offer>,
 }
 
 impl Model for Offers {
@@ -41,28 +50,64 @@ impl Model for Offers {
 }
 
 impl Offers {
-    /// A core of which nothing is offered, and the keeper's seat of so many slots, in which nothing lies. Fails only when out of memory.
-    pub fn new(
+    /// Slots of this core, of which nothing is offered yet: so many of them, and seats for so many workers. Fails only when out of memory.
+    pub fn start(
         alloc: Global,
         core: Core,
-        keeper: KeeperSeat<Offer>,
         count: u32,
-    ) -> Result<Offers, AllocError>
+        workers: u32,
+    ) -> Result<OffersAndSeats, AllocError>
         requires grid { IsGrid core.opening.grid }
         requires none { NonePrepared core }
-        requires slots { keeper.slots.slots ≡ count }
-        requires places { length keeper.places ≡ count }
-        requires few { count < 65536 }
-        requires empty { (i : ℕ) → i < count → (place_at keeper i).kept ≡ Some nothing }
-        ensures core { IfOk result (λ o. o.core ≡ core) }
-        ensures slots { IfOk result (λ o. o.slots ≡ keeper.slots) }
+        requires count { (0 < count) × (count < 65536) }
+        requires workers { workers ≤ 64 }
+        ensures core { IfOk result (λ made. made.offers.core ≡ core) }
+        ensures slots { IfOk result (λ made. made.offers.slots ≡ slots_id made.slots) }
+        ensures count { IfOk result (λ made. slot_count made.slots ≡ count) }
+        ensures seats { IfOk result (λ made. AreNew (slots_id made.slots) workers made.seats) }
     {
-        let places = Places::new(alloc, count)?;
-        Ok(Offers {
-            core,
-            keeper,
-            places,
-        })
+        match new_slots(alloc, count, workers) {
+            Ok((slots, places)) => {
+                let SlotsAndSeats {
+                    slots,
+                    keeper,
+                    seats,
+                } = slots;
+                let offers = Offers {
+                    core,
+                    keeper,
+                    places,
+                };
+                Ok(OffersAndSeats {
+                    offers,
+                    slots,
+                    seats,
+                })
+            }
+            Err(_) => {
+                drop(core);
+                Err(AllocError)
+            }
+        }
+    }
+
+    /// The ticks of all phases so far.
+    pub fn phase_ticks(&self) -> u32
+        ensures { result ≡ (world_of self.now.core).sum }
+    {
+        self.core.phase_ticks()
+    }
+
+    /// Opens a phase of `n` ticks, as `Core::open_phase`. Its regions are for `offer_next` then.
+    pub fn open_phase(&mut self, by: u32, n: u32) -> Result<Phase, AllocError>
+        requires some { 1 ≤ n }
+        requires within { (world_of self.old.core).sum + n ≤ 10000 }
+        ensures slots { self.new.slots ≡ self.old.slots }
+        ensures answer { IfOk result (λ a. a ≡ phase_result (world_of self.old.core)) }
+        ensures recorded { IfOk result (PhaseRecords self.old.core self.new.core by n) }
+        ensures refused { OnErr result (Stays self.old.core self.new.core) }
+    {
+        self.core.open_phase(by, n)
     }
 
     /// The entries of the core so far.
@@ -103,12 +148,7 @@ impl Offers {
 
     /// Offers the tick of a Ready region that owes one and is not offered yet. Then the region is prepared. If memory runs out, or each slot
     /// is in use, it is not, and nothing has changed.
-    fn offer(
-        &mut self,
-        alloc: Global,
-        slots: &Slots<Offer>,
-        region: u64,
-    ) -> Result<(), AllocError>
+    fn offer(&mut self, alloc: Global, slots: &Slots<Offer>, region: u64) -> Result<(), AllocError>
         requires own { self.old.slots ≡ slots_id slots.now }
         requires on { is_over (world_of self.old.core) ≡ false }
         requires free { is_free self.old.core region ≡ true }
@@ -139,7 +179,9 @@ impl Offers {
         };
         match slots.try_keep(&mut self.keeper, i) {
             Keep::Kept => {
-                let tick = slots.body(&mut self.keeper, i, Offer { tick: None }).into_tick();
+                let tick = slots
+                    .body(&mut self.keeper, i, Offer { tick: None })
+                    .into_tick();
                 let _is_ready = self.core.withdraw(tick);
                 self.places.clear(i);
             }
@@ -185,12 +227,7 @@ impl Offers {
 
     /// Adds a ticket to a chunk, as `Core::load`, once each offered tick of a region that this may touch was called back. The regions that
     /// were called back and still owe a tick are for `offer` then. If memory runs out, nothing is recorded but Begins that were learnt.
-    pub fn load(
-        &mut self,
-        slots: &Slots<Offer>,
-        by: u32,
-        c: ChunkPos,
-    ) -> Result<Loaded, AllocError>
+    pub fn load(&mut self, slots: &Slots<Offer>, by: u32, c: ChunkPos) -> Result<Loaded, AllocError>
         requires own { self.old.slots ≡ slots_id slots.now }
         requires in_range { IsTrue (is_chunk c) }
         ensures { Loads self.old self.new by c result }
@@ -245,6 +282,44 @@ impl Offers {
         match self.clear(slots, by, c) {
             Ok(()) => self.core.post(by, c, delay, action),
             Err(_) => Err(action),
+        }
+    }
+}
+
+/// So many bodies without a tick.
+fn no_offers(alloc: Global, count: u32) -> Result<Vec<Offer>, AllocError>
+    ensures count { IfOk result (λ bodies. vec_len bodies ≡ count) }
+    ensures nothing { IfOk result (λ bodies. All (λ b. b ≡ nothing) bodies.items) }
+{
+    let mut bodies = Vec::with_capacity(alloc, count as usize)?;
+    for _ in 0..count {
+        bodies.push_reserved(Offer { tick: None });
+    }
+    Ok(bodies)
+}
+
+/// So many slots in which nothing lies, with all their seats, and that none is in use.
+fn new_slots(
+    alloc: Global,
+    count: u32,
+    workers: u32,
+) -> Result<(SlotsAndSeats<Offer>, Places), AllocError>
+    requires count { (0 < count) × (count < 65536) }
+    requires workers { workers ≤ 64 }
+    ensures { IfOk result (AreNewSlots count workers) }
+{
+    let places = Places::new(alloc, count)?;
+    match no_offers(alloc, count) {
+        Ok(bodies) => match Slots::new(alloc, bodies, workers) {
+            Ok(slots) => Ok((slots, places)),
+            Err(_) => {
+                drop(places);
+                Err(AllocError)
+            }
+        },
+        Err(_) => {
+            drop(places);
+            Err(AllocError)
         }
     }
 }

@@ -11,4 +11,4 @@ loop-region-preserved c =
     let i : ℕ = c.loop-region.region-index in
     let xs : List ℕ = c.args.regions.now in
     subst (λ (ys : List ℕ). CallsAllBack c.args.self.now c.call_back_one.new.self c.args.by ys) (sym (take_more xs i c.loop-region-test.true))
-        (back_both c.args.by c.args.self.now c.loop-region.self c.call_back_one.new.self (take i xs) (get_or xs i 0 ∷ []) c.loop-region.invariant c.call_back_one.ensures)
+    (back_both c.args.by c.args.self.now c.loop-region.self c.call_back_one.new.self (take i xs) (get_or xs i 0 ∷ []) c.loop-region.invariant c.call_back_one.ensures)

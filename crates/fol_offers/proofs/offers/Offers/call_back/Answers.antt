@@ -44,8 +44,8 @@ invariant_of-self c =
     let did : Withdraws m n c.args.region = subst (λ (r : ℕ). Withdraws m n r) w.is.region c.withdraw-is_ready.ensures.withdrawn in
     let at_end : c.body.new.seat ≡ keeping (keeping s i (place_at s i).offered) i (Some nothing) = c.body.ensures.seat ∙ ap (λ (x : Keeper Offer). keeping x i (Some nothing)) c.in-Kept.ensures.answer.1 in
     subst (λ (x : Keeper Offer). Tied n x c.clear.new.self) (sym at_end)
-        (subst (λ (ys : List ℕ). Tied n (keeping (keeping s i (place_at s i).offered) i (Some nothing)) ys) (sym c.clear.ensures)
-        (tied_withdraws m n s xs c.self.invariant i c.args.region c.in-Some.ensures.some.0 (c.self.invariant.prepared c.args.region marked).1 (place_at s i).offered c.in-Some.ensures.some.1 did))
+    (subst (λ (ys : List ℕ). Tied n (keeping (keeping s i (place_at s i).offered) i (Some nothing)) ys) (sym c.clear.ensures)
+    (tied_withdraws m n s xs c.self.invariant i c.args.region c.in-Some.ensures.some.0 (c.self.invariant.prepared c.args.region marked).1 (place_at s i).offered c.in-Some.ensures.some.1 did))
 
 pub invariant_of-self-in-Busy : goal.invariant_of-self-in-Busy
 invariant_of-self-in-Busy c =
@@ -53,7 +53,7 @@ invariant_of-self-in-Busy c =
     let n : Meaning = c.learn.new.self in
     let marked : is_prepared m c.args.region ≡ true = subst (λ (v : Shown). is_prepared v.core c.args.region ≡ true) (sym c.self.view_is) c.requires.prepared in
     subst (λ (x : Keeper Offer). Tied n x c.self.inside.places) (sym c.in-Busy.ensures.answer)
-        (tied_learns m n c.self.inside.keeper c.self.inside.places c.self.invariant c.in-Some.i c.args.region c.in-Some.ensures.some.0 (c.self.invariant.prepared c.args.region marked).1 c.args.by c.in-Busy.worker c.in-Some.ensures.some.1 marked (subst (λ (v : Shown). is_over (world_of v.core) ≡ false) (sym c.self.view_is) c.requires.on) c.learn.ensures)
+    (tied_learns m n c.self.inside.keeper c.self.inside.places c.self.invariant c.in-Some.i c.args.region c.in-Some.ensures.some.0 (c.self.invariant.prepared c.args.region marked).1 c.args.by c.in-Busy.worker c.in-Some.ensures.some.1 marked (subst (λ (v : Shown). is_over (world_of v.core) ≡ false) (sym c.self.view_is) c.requires.on) c.learn.ensures)
 
 pub returns-in-Kept : goal.returns-in-Kept
 returns-in-Kept c =

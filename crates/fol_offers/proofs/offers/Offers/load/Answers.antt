@@ -27,14 +27,14 @@ returns-then-is_over c =
 pub load-requires-2-clause-spares : goal.load-requires-2-clause-spares
 load-requires-2-clause-spares c =
     subst (λ (v : Shown). Spares v.core (load_touches (world_of v.core).grid c.args.c)) (sym c.self-2.view_is)
-        (load_spared c.args.self.now c.clear.new.self c.self.inside.keeper c.self.inside.places c.args.by c.args.c
-        (subst (λ (v : Shown). Tied v.core c.self.inside.keeper c.self.inside.places) c.self.view_is c.self.invariant)
-        (subst (λ (v : Shown). Run v.core.opening v.core.history) c.self.view_is (search rules)) c.in_ok-clear.ensures.ok)
+    (load_spared c.args.self.now c.clear.new.self c.self.inside.keeper c.self.inside.places c.args.by c.args.c
+    (subst (λ (v : Shown). Tied v.core c.self.inside.keeper c.self.inside.places) c.self.view_is c.self.invariant)
+    (subst (λ (v : Shown). Run v.core.opening v.core.history) c.self.view_is (search rules)) c.in_ok-clear.ensures.ok)
 
 pub invariant_of-self-2 : goal.invariant_of-self-2
 invariant_of-self-2 c =
     let spares = subst (λ (v : Shown). Spares v.core (load_touches (world_of v.core).grid c.args.c)) (sym c.self-2.view_is)
-        (load_spared c.args.self.now c.clear.new.self c.self.inside.keeper c.self.inside.places c.args.by c.args.c
-        (subst (λ (v : Shown). Tied v.core c.self.inside.keeper c.self.inside.places) c.self.view_is c.self.invariant)
-        (subst (λ (v : Shown). Run v.core.opening v.core.history) c.self.view_is (search rules)) c.in_ok-clear.ensures.ok) in
+    (load_spared c.args.self.now c.clear.new.self c.self.inside.keeper c.self.inside.places c.args.by c.args.c
+    (subst (λ (v : Shown). Tied v.core c.self.inside.keeper c.self.inside.places) c.self.view_is c.self.invariant)
+    (subst (λ (v : Shown). Run v.core.opening v.core.history) c.self.view_is (search rules)) c.in_ok-clear.ensures.ok) in
     tied_loads c.self-2.inside.core c.load-2.new.self c.self-2.inside.keeper c.self-2.inside.places c.args.by c.args.c c.self-2.invariant c.load-2.result spares c.load-2.ensures.recorded c.load-2.ensures.refused

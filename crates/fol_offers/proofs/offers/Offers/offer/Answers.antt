@@ -41,7 +41,7 @@ offer-requires-clause-kept c =
     let allowed = free_may_begin m c.args.region tied.grid run free (search rules) in
     let fits : IsFit (of_tick c.prepare-tick.result) = fit_now m c.args.region c.prepare-tick.result tied.grid run allowed c.prepare-tick.ensures.tick in
     subst (λ (x : Keeper Offer). IsSomeAnd (place_at x i).kept IsFit) (sym c.body-nothing.ensures.seat)
-        (subst (λ (p : Place Offer). IsSomeAnd p.kept IsFit) (sym (place_here s i _ (subst (λ (l : ℕ). i < l) (sym tied.places) c.in_ok-i.ensures.free.0))) fits)
+    (subst (λ (p : Place Offer). IsSomeAnd p.kept IsFit) (sym (place_here s i _ (subst (λ (l : ℕ). i < l) (sym tied.places) c.in_ok-i.ensures.free.0))) fits)
 
 pub invariant_of-self-2 : goal.invariant_of-self-2
 invariant_of-self-2 c =
@@ -59,5 +59,5 @@ invariant_of-self-2 c =
     let given = free_given m r tied.grid run free in
     let at_end : c.offer.new.seat ≡ offering (keeping s i (Some (of_tick tick))) i = c.offer.ensures ∙ ap (λ (x : Keeper Offer). offering x i) c.body-nothing.ensures.seat in
     subst (λ (x : Keeper Offer). Tied n x c.put.new.self) (sym at_end)
-        (subst (λ (ys : List ℕ). Tied n (offering (keeping s i (Some (of_tick tick))) i) ys) (sym c.in_ok-i.ensures.placed)
-        (tied_offers m n s xs tied i r c.in_ok-i.ensures.free.0 given.above tick c.in_ok-i.ensures.free.1 (free_has_none m s xs r tied run free) (search rules) c.prepare-tick.ensures.prepared allowed c.prepare-tick.ensures.tick c.prepare-tick.ensures.room))
+    (subst (λ (ys : List ℕ). Tied n (offering (keeping s i (Some (of_tick tick))) i) ys) (sym c.in_ok-i.ensures.placed)
+    (tied_offers m n s xs tied i r c.in_ok-i.ensures.free.0 given.above tick c.in_ok-i.ensures.free.1 (free_has_none m s xs r tied run free) (search rules) c.prepare-tick.ensures.prepared allowed c.prepare-tick.ensures.tick c.prepare-tick.ensures.room))

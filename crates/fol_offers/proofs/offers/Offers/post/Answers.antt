@@ -28,14 +28,14 @@ returns-then-is_over c =
 pub post-requires-in-Ok-clause-spares : goal.post-requires-in-Ok-clause-spares
 post-requires-in-Ok-clause-spares c =
     subst (λ (v : Shown). Spares v.core (post_touches (world_of v.core).grid c.args.c)) (sym c.self-2.view_is)
-        (post_spared c.args.self.now c.clear.new.self c.self.inside.keeper c.self.inside.places c.args.by c.args.c
-        (subst (λ (v : Shown). Tied v.core c.self.inside.keeper c.self.inside.places) c.self.view_is c.self.invariant)
-        (subst (λ (v : Shown). Run v.core.opening v.core.history) c.self.view_is (search rules)) c.in-Ok.ensures.ok)
+    (post_spared c.args.self.now c.clear.new.self c.self.inside.keeper c.self.inside.places c.args.by c.args.c
+    (subst (λ (v : Shown). Tied v.core c.self.inside.keeper c.self.inside.places) c.self.view_is c.self.invariant)
+    (subst (λ (v : Shown). Run v.core.opening v.core.history) c.self.view_is (search rules)) c.in-Ok.ensures.ok)
 
 pub invariant_of-self-in-Ok : goal.invariant_of-self-in-Ok
 invariant_of-self-in-Ok c =
     let spares = subst (λ (v : Shown). Spares v.core (post_touches (world_of v.core).grid c.args.c)) (sym c.self-2.view_is)
-        (post_spared c.args.self.now c.clear.new.self c.self.inside.keeper c.self.inside.places c.args.by c.args.c
-        (subst (λ (v : Shown). Tied v.core c.self.inside.keeper c.self.inside.places) c.self.view_is c.self.invariant)
-        (subst (λ (v : Shown). Run v.core.opening v.core.history) c.self.view_is (search rules)) c.in-Ok.ensures.ok) in
+    (post_spared c.args.self.now c.clear.new.self c.self.inside.keeper c.self.inside.places c.args.by c.args.c
+    (subst (λ (v : Shown). Tied v.core c.self.inside.keeper c.self.inside.places) c.self.view_is c.self.invariant)
+    (subst (λ (v : Shown). Run v.core.opening v.core.history) c.self.view_is (search rules)) c.in-Ok.ensures.ok) in
     tied_posts c.self-2.inside.core c.post-in-Ok.new.self c.self-2.inside.keeper c.self-2.inside.places c.args.by c.args.c c.self-2.invariant c.args.delay c.args.action c.post-in-Ok.result spares c.post-in-Ok.ensures.recorded c.post-in-Ok.ensures.refused

@@ -27,14 +27,14 @@ returns-then-is_over c =
 pub unload-requires-2-clause-spares : goal.unload-requires-2-clause-spares
 unload-requires-2-clause-spares c =
     subst (λ (v : Shown). Spares v.core (unload_touches (world_of v.core) c.args.c)) (sym c.self-2.view_is)
-        (unload_spared c.args.self.now c.clear.new.self c.self.inside.keeper c.self.inside.places c.args.by c.args.c
-        (subst (λ (v : Shown). Tied v.core c.self.inside.keeper c.self.inside.places) c.self.view_is c.self.invariant)
-        (subst (λ (v : Shown). Run v.core.opening v.core.history) c.self.view_is (search rules)) c.in_ok-clear.ensures.ok)
+    (unload_spared c.args.self.now c.clear.new.self c.self.inside.keeper c.self.inside.places c.args.by c.args.c
+    (subst (λ (v : Shown). Tied v.core c.self.inside.keeper c.self.inside.places) c.self.view_is c.self.invariant)
+    (subst (λ (v : Shown). Run v.core.opening v.core.history) c.self.view_is (search rules)) c.in_ok-clear.ensures.ok)
 
 pub invariant_of-self-2 : goal.invariant_of-self-2
 invariant_of-self-2 c =
     let spares = subst (λ (v : Shown). Spares v.core (unload_touches (world_of v.core) c.args.c)) (sym c.self-2.view_is)
-        (unload_spared c.args.self.now c.clear.new.self c.self.inside.keeper c.self.inside.places c.args.by c.args.c
-        (subst (λ (v : Shown). Tied v.core c.self.inside.keeper c.self.inside.places) c.self.view_is c.self.invariant)
-        (subst (λ (v : Shown). Run v.core.opening v.core.history) c.self.view_is (search rules)) c.in_ok-clear.ensures.ok) in
+    (unload_spared c.args.self.now c.clear.new.self c.self.inside.keeper c.self.inside.places c.args.by c.args.c
+    (subst (λ (v : Shown). Tied v.core c.self.inside.keeper c.self.inside.places) c.self.view_is c.self.invariant)
+    (subst (λ (v : Shown). Run v.core.opening v.core.history) c.self.view_is (search rules)) c.in_ok-clear.ensures.ok) in
     tied_unloads c.self-2.inside.core c.unload-2.new.self c.self-2.inside.keeper c.self-2.inside.places c.args.by c.args.c c.self-2.invariant c.unload-2.result spares c.unload-2.ensures.recorded c.unload-2.ensures.refused
