@@ -53,13 +53,7 @@ impl Model for MemShelf {
 
     ghost Value = { MemShelfState };
 
-    ghost view = { λ s. record {
-      files = s.files.items;
-      failing = s.failing.items;
-      reads = s.reads;
-      unheld_faults = s.unheld_faults;
-      taken = s.taken;
-    } };
+    ghost view = { λ s. record { files = s.files.items; failing = s.failing.items; reads = s.reads; unheld_faults = s.unheld_faults; taken = s.taken } };
 }
 
 /// The file under a name.

@@ -27,13 +27,7 @@ impl Model for MemSink {
 
     ghost Value = { MemSinkState };
 
-    ghost view = { λ s. record {
-      bytes = s.bytes.items;
-      room = s.room;
-      failing = s.failing.items;
-      puts = s.puts;
-      faults = s.faults;
-    } };
+    ghost view = { λ s. record { bytes = s.bytes.items; room = s.room; failing = s.failing.items; puts = s.puts; faults = s.faults } };
 
     ghost invariant = { λ s. (vec_len s.bytes ≤ s.room) × (s.room ≤ vec_capacity s.bytes) };
 }
