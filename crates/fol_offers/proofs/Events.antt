@@ -10,7 +10,7 @@ use Rattle.fol_model.specs.declared.events.Unloaded.{Unloaded}
 use Rattle.fol_model.specs.declared.events.Unloaded.TheVariants as unloads
 use Rattle.fol_model.specs.declared.events.Accept.TheVariants as accepts
 use Rattle.fol_model.specs.declared.actions.Action.{Action}
-use Rattle.fol_model.specs.declared.events.Event.TheVariants.{Load, PhaseOpen, Post, Unload}
+use Rattle.fol_model.specs.declared.events.Event.TheVariants.{Load, PhaseOpen, Post, Stop, Unload}
 use Rattle.fol_core.specs.declared.answers.Phase.{Phase}
 use Rattle.fol_core.specs.declared.answers.Phase.TheVariants as phases
 use Rattle.fol_core.specs.declared.answers.Posting.{Posting}
@@ -21,8 +21,8 @@ use Rattle.fol_model.specs.Holds.{loaded, posted, unloaded}
 use Rattle.fol_model.specs.World.{World}
 use Rattle.fol_model.specs.Run.{Run, after}
 use Rattle.fol_laws.specs.LateBegin.{draws_in, ground, load_touches, post_touches, unload_touches}
-use Rattle.fol_core.specs.Ahead.{Spares, may_touch}
-use Rattle.fol_core.specs.Answers.{LoadRecords, PhaseRecords, PostRecords, UnloadRecords, is_over}
+use Rattle.fol_core.specs.Ahead.{NonePrepared, Spares, may_touch}
+use Rattle.fol_core.specs.Answers.{LoadRecords, PhaseRecords, PostRecords, StopRecords, UnloadRecords, is_over}
 use Rattle.fol_core.specs.Meaning.{Meaning, Stays, Unchanged, is_prepared, world_of}
 use Rattle.fol_slots.specs.Shown.{Keeper}
 use Rattle.fol_offers.specs.declared.offer.Offer.{Offer}
@@ -99,25 +99,29 @@ module _ (m n : Meaning) (s : Keeper Offer) (xs : List ℕ) (by : ℕ) (c : Chun
   same did = tied_stays m n s xs record { opening = did.opening; history = did.history; prepared = did.prepared } t
 
   pub tied_loads : (r : Result Loaded AllocError) → Spares m (load_touches (world_of m).grid c) → IfOk r (λ a. LoadRecords m n by c a) → OnErr r (Stays m n) → Tied n s xs
-  tied_loads (Ok loads.Counted) spares did none = tied_event m n s xs by (Load by c loads.Counted) t did spares refl (λ q. refl) (ap is_over (one_more m n _ did.opening did.history) ∙ over_loaded (world_of m) c)
-  tied_loads (Ok (loads.Full present wanted)) spares did none = tied_event m n s xs by (Load by c (loads.Full present wanted)) t did spares refl (λ q. refl) (ap is_over (one_more m n _ did.opening did.history) ∙ over_loaded (world_of m) c)
+  tied_loads (Ok loads.Counted) spares did none = tied_event m n s xs by (Load by c loads.Counted) t did (λ q z. (spares q z, refl)) (λ q. refl) (λ over. t.calm (sym (ap is_over (one_more m n _ did.opening did.history) ∙ over_loaded (world_of m) c) ∙ over))
+  tied_loads (Ok (loads.Full present wanted)) spares did none = tied_event m n s xs by (Load by c (loads.Full present wanted)) t did (λ q z. (spares q z, refl)) (λ q. refl) (λ over. t.calm (sym (ap is_over (one_more m n _ did.opening did.history) ∙ over_loaded (world_of m) c) ∙ over))
   tied_loads (Ok loads.Over) spares did none = same did
   tied_loads (Err e) spares did none = tied_stays m n s xs none t
 
   pub tied_unloads : (r : Result Unloaded AllocError) → Spares m (unload_touches (world_of m) c) → IfOk r (λ a. UnloadRecords m n by c a) → OnErr r (Stays m n) → Tied n s xs
-  tied_unloads (Ok unloads.Lowered) spares did none = tied_event m n s xs by (Unload by c unloads.Lowered) t did spares refl (λ q. refl) (ap is_over (one_more m n _ did.opening did.history) ∙ over_unloaded (world_of m) c)
-  tied_unloads (Ok unloads.NoTicket) spares did none = tied_event m n s xs by (Unload by c unloads.NoTicket) t did spares refl (λ q. refl) (ap is_over (one_more m n _ did.opening did.history) ∙ over_unloaded (world_of m) c)
+  tied_unloads (Ok unloads.Lowered) spares did none = tied_event m n s xs by (Unload by c unloads.Lowered) t did (λ q z. (spares q z, refl)) (λ q. refl) (λ over. t.calm (sym (ap is_over (one_more m n _ did.opening did.history) ∙ over_unloaded (world_of m) c) ∙ over))
+  tied_unloads (Ok unloads.NoTicket) spares did none = tied_event m n s xs by (Unload by c unloads.NoTicket) t did (λ q z. (spares q z, refl)) (λ q. refl) (λ over. t.calm (sym (ap is_over (one_more m n _ did.opening did.history) ∙ over_unloaded (world_of m) c) ∙ over))
   tied_unloads (Ok unloads.Over) spares did none = same did
   tied_unloads (Err e) spares did none = tied_stays m n s xs none t
 
   pub tied_posts : (d : ℕ) (x : Action) (r : Result Posting Action) → Spares m (post_touches (world_of m).grid c) → IfOk r (λ a. PostRecords m n by c d x a) → OnErr r (Stays m n) → Tied n s xs
-  tied_posts d x (Ok (postings.Posted k)) spares did none = tied_event m n s xs by (Post by c d x (accepts.Posted k)) t did spares refl (λ q. refl) (ap is_over (one_more m n _ did.opening did.history) ∙ over_posted (world_of m) c d x)
-  tied_posts d x (Ok (postings.Full present wanted)) spares did none = tied_event m n s xs by (Post by c d x (accepts.Full present wanted)) t did spares refl (λ q. refl) (ap is_over (one_more m n _ did.opening did.history) ∙ over_posted (world_of m) c d x)
+  tied_posts d x (Ok (postings.Posted k)) spares did none = tied_event m n s xs by (Post by c d x (accepts.Posted k)) t did (λ q z. (spares q z, refl)) (λ q. refl) (λ over. t.calm (sym (ap is_over (one_more m n _ did.opening did.history) ∙ over_posted (world_of m) c d x) ∙ over))
+  tied_posts d x (Ok (postings.Full present wanted)) spares did none = tied_event m n s xs by (Post by c d x (accepts.Full present wanted)) t did (λ q z. (spares q z, refl)) (λ q. refl) (λ over. t.calm (sym (ap is_over (one_more m n _ did.opening did.history) ∙ over_posted (world_of m) c d x) ∙ over))
   tied_posts d x (Ok (postings.Over back)) spares did none = same did
   tied_posts d x (Err back) spares did none = tied_stays m n s xs none t
 
   pub tied_phases : (k : ℕ) (r : Result Phase AllocError) → IfOk r (λ a. PhaseRecords m n by k a) → OnErr r (Stays m n) → Tied n s xs
-  tied_phases k (Ok phases.Opened) did none = tied_event m n s xs by (PhaseOpen k) t did (λ q marked. refl) refl (λ q. refl) (ap is_over (one_more m n _ did.opening did.history))
+  tied_phases k (Ok phases.Opened) did none = tied_event m n s xs by (PhaseOpen k) t did (λ q z. (refl, refl)) (λ q. refl) (λ over. t.calm (sym (ap is_over (one_more m n _ did.opening did.history)) ∙ over))
   tied_phases k (Ok phases.InPhase) did none = same did
   tied_phases k (Ok phases.Over) did none = same did
   tied_phases k (Err e) did none = tied_stays m n s xs none t
+
+  pub tied_stops : (b : Bool) → NonePrepared m → StopRecords m n by b → Tied n s xs
+  tied_stops true none did = same did
+  tied_stops false none did = tied_event m n s xs by (Stop by) t did (λ q z. absurd (true≢false (sym z ∙ none q))) (λ q. refl) (λ over. none)

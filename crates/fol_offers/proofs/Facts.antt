@@ -163,3 +163,10 @@ prepared_ready m s xs r t run marked =
     let i : ℕ = z.0 in
     let u : InUse m r (place_at s i) = subst (λ (x : ℕ). InUse m x (place_at s i)) z.3 (t.used i z.2 (subst (λ (x : ℕ). 0 < x) (sym z.3) z.1)) in
     waits_ready m r u.tick t.grid run (u.waits (no_worker (place_at s i).found (λ j found. true≢false (sym marked ∙ (u.runs j found).unprepared))))
+
+-- and its id was given out
+pub prepared_below : (m : Meaning) (s : Keeper Offer) (xs : List ℕ) (r : ℕ) → Tied m s xs → Run m.opening m.history → is_prepared m r ≡ true → r < (world_of m).grid.next
+prepared_below m s xs r t run marked =
+    let rules : Rules (world_of m).grid = rules_hold m.opening m.history [] t.grid (rw append-nil run) in
+    let ready : (world_of m).grid.state r ≡ Ready = prepared_ready m s xs r t run marked in
+    rules.below_next r (λ dead. let never : false ≡ true = rw dead at (ap is_ready ready) in absurd (true≢false (sym never)))

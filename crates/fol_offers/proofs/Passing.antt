@@ -52,17 +52,17 @@ none_more w r (x ∷ xs) e none calm on = (none.0, none.1, none_more (after w x.
 
 -- there is one entry more, which touches the region no more than an End of it or a Stop would
 pub passes_one : (m n : Meaning) (q : ℕ) (e : Entry) → n.opening ≡ m.opening → n.history ≡ m.history ++ e ∷ [] → is_prepared n q ≡ is_prepared m q
-    → (is_prepared m q ≡ true → touches (world_of m) q e.event ≡ false) → is_stop e.event ≡ false → is_end q e.event ≡ false → Passes m n q
-passes_one m n q e opening history prepared spares on other = record {
+    → (is_prepared m q ≡ true → (touches (world_of m) q e.event ≡ false) × (is_stop e.event ≡ false)) → is_end q e.event ≡ false → Passes m n q
+passes_one m n q e opening history prepared spares other = record {
   waits = λ t w.
       let there : after_all (world m.opening w.before) w.between ≡ world_of m = sym (world_both (start m.opening) w.before w.between) ∙ ap (world m.opening) (sym w.history) in
-      let calm : touches (after_all (world m.opening w.before) w.between) q e.event ≡ false = ap (λ (x : World). touches x q e.event) there ∙ spares w.prepared in
+      let calm : touches (after_all (world m.opening w.before) w.between) q e.event ≡ false = ap (λ (x : World). touches x q e.event) there ∙ (spares w.prepared).0 in
       record {
         prepared = prepared ∙ w.prepared;
         before = w.before;
         between = w.between ++ e ∷ [];
         history = history ∙ ap (λ (h : List Entry). h ++ e ∷ []) w.history ∙ append_assoc w.before w.between (e ∷ []);
-        calm = rw opening (none_more (world m.opening w.before) q w.between e w.calm calm on);
+        calm = rw opening (none_more (world m.opening w.before) q w.between e w.calm calm (spares w.prepared).1);
         allowed = rw opening w.allowed;
         is = rw opening w.is;
         room = w.room;

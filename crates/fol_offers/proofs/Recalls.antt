@@ -1,5 +1,5 @@
 -- Several regions are called back, one after another.
-use Rattle.std.proofs.Common.{◌≡◌, ◌≢◌, ℕ, ◌<◌, List, [], ◌∷◌, ◌++◌, sym, refl, ap, ◌∙◌, subst, Bool, true, false, ◌||◌, nat_eq, true≢false, inl, inr, arith, append_assoc, if◌then◌else◌, ◌+◌, suc, length, take, get_or}
+use Rattle.std.proofs.Common.{◌≡◌, ◌≢◌, ℕ, ◌<◌, List, [], ◌∷◌, ◌++◌, sym, refl, ap, ◌∙◌, subst, Bool, true, false, ◌||◌, nat_eq, true≢false, inl, inr, arith, append_assoc, if◌then◌else◌, cond, ◌+◌, suc, length, take, get_or}
 use Rattle.std.proofs.Math.Seq.{take-suc}
 use Rattle.std.specs.List.{AllByRecursion, filter, list_any}
 use Rattle.std.proofs.lemmas.Bool.{and_parts, eq-eqb, ne_eqb}
@@ -23,14 +23,17 @@ use Rattle.fol_laws.specs.LateBegin.{draws_in, ground, load_touches, post_touche
 use Rattle.fol_laws.proofs.FunctionsChanged.{at_here, at_other}
 use Rattle.fol_laws.proofs.LongerRuns.{world_both}
 use Rattle.fol_laws.proofs.RuleLaws.{rules_hold}
+use Rattle.fol_model.specs.Counting.{count_below}
+use Rattle.fol_model.specs.ActionStep.{at_id}
+use Rattle.fol_laws.proofs.CountBelow.{count_less}
 use Rattle.fol_laws.proofs.NumberOrder.{in_numbers}
 use Rattle.fol_laws.proofs.SortedRows.{all_append}
 use Rattle.fol_core.proofs.LeastFound.{kept_number}
-use Rattle.fol_core.specs.Ahead.{may_touch}
+use Rattle.fol_core.specs.Ahead.{NonePrepared, may_touch}
 use Rattle.fol_core.specs.Answers.{is_over}
 use Rattle.fol_core.specs.Meaning.{Meaning, is_prepared, world_of}
-use Rattle.fol_offers.proofs.Tying.{over_begun}
-use Rattle.fol_offers.specs.Shown.{CallsAllBack, CallsBack, Clears, IsLearnt, Shown}
+use Rattle.fol_offers.proofs.Tying.{one_more, over_begun}
+use Rattle.fol_offers.specs.Shown.{CallsAllBack, CallsBack, Clears, IsLearnt, Recalls, Shown}
 
 -- what a load, an unload and a post on the chunk touch
 abbrev pub touched_by : World → ChunkPos → ℕ → Bool × Bool × Bool
@@ -152,3 +155,31 @@ touched_later by a b c q back =
 
 pub take_more : (xs : List ℕ) (i : ℕ) → i < length xs → take (i + 1) xs ≡ take i xs ++ get_or xs i 0 ∷ []
 take_more xs i low = ap (λ (n : ℕ). take n xs) (let e : i + 1 ≡ suc i = omega arith in e) ∙ take-suc xs i 0 low
+
+-- ---- each call back leaves one region fewer
+
+next_begun : (w : World) (k r : ℕ) → (after w (Begin k r)).grid.next ≡ w.grid.next
+unfolding begun begin
+next_begun w k r = refl
+
+pub back_fewer : (a b : Shown) (by r : ℕ) → CallsBack a b by r → is_prepared a.core r ≡ true → r < (world_of a.core).grid.next
+    → count_below (is_prepared b.core) (world_of b.core).grid.next < count_below (is_prepared a.core) (world_of a.core).grid.next
+back_fewer a b by r back marked low = elim back.came [
+  | inl did ↦ fewer (λ k. (world (did.opening k) (did.history k)).grid.next) did.prepared
+  | inr did ↦ fewer (ap (λ (w : World). w.grid.next) (one_more a.core b.core (record { by = by; event = Begin did.0 r }) did.1.opening did.1.history) ∙ next_begun (world_of a.core) did.0 r) did.1.prepared
+]
+  where
+    fewer : (world_of b.core).grid.next ≡ (world_of a.core).grid.next → is_prepared b.core ≡ at_id (is_prepared a.core) r false
+        → count_below (is_prepared b.core) (world_of b.core).grid.next < count_below (is_prepared a.core) (world_of a.core).grid.next
+    fewer next is =
+        let n : ℕ = (world_of a.core).grid.next in
+        let gone : is_prepared b.core r ≡ false = ap (λ (f : ℕ → Bool). f r) is ∙ at_here (is_prepared a.core) r false in
+        let others : (k : ℕ) → k ≢ r → is_prepared a.core k ≡ is_prepared b.core k = λ k ne. sym (ap (λ (f : ℕ → Bool). f k) is ∙ at_other (is_prepared a.core) r false k ne) in
+        let sum = count_less (is_prepared a.core) (is_prepared b.core) n r low gone others in
+        let taken : ℕ = cond (is_prepared a.core r) 1 0 in
+        let one : taken ≡ 1 = ap (λ (z : Bool). cond {A = ℕ} z 1 0) marked in
+        rw next (omega (arith, sum, one))
+
+-- once none is left, all were called back
+pub recalled : (a b : Shown) (by : ℕ) (xs : List ℕ) → CallsAllBack a b by xs → NonePrepared b.core → Recalls a b by
+recalled a b by xs back none = record { slots = back.slots; opening = back.opening; learnt = back.learnt; history = back.history; begins = back.begins; none = none }

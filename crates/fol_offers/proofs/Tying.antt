@@ -281,12 +281,12 @@ module _ (m n : Meaning) (s : Keeper Offer) (xs : List ℕ) (t : Tied m s xs) (i
         runs = λ j z. subst (λ (x : ℕ). Runs n r x u.tick) (some_same k j z) record {
           of = waits.is.region;
           unprepared = ap (λ (f : ℕ → Bool). f r) did.prepared ∙ at_here (is_prepared m) r false;
-          opened = learnt_opens made m n waits.between by k r u.tick waits.is waits.allowed refl waits.history waits.calm did;
+          opened = learnt_opens made m n by k r u.tick waits.is waits.allowed record { opening = refl; between = waits.between; history = waits.history; calm = waits.calm } did;
         };
       })
       (λ j low ne pos. passes_one m n (region_at xs j) e did.opening did.history
       (ap (λ (f : ℕ → Bool). f (region_at xs j)) did.prepared ∙ at_other (is_prepared m) r false (region_at xs j) (apart j low ne))
-      (λ _. ne_eqb r (region_at xs j) (λ z. apart j low ne (sym z))) refl refl)
+      (λ _. (ne_eqb r (region_at xs j) (λ z. apart j low ne (sym z)), refl)) refl)
       (λ _ j low ne. apart j low ne)
       (λ q z. elim (eqb_tells r q) [
         | inl y ↦ inl (sym y.1)
@@ -315,19 +315,19 @@ came_back m s k xs i r b tick t inside own marked is body has =
 
 -- ---- events
 
--- an event that touches no prepared region, and is no End and no Stop
+-- an event that touches no prepared region and is no End; where a region is prepared, it is no Stop
 pub tied_event : (m n : Meaning) (s : Keeper Offer) (xs : List ℕ) (by : ℕ) (event : Event) → Tied m s xs → Records m n by event
-    → ((q : ℕ) → is_prepared m q ≡ true → touches (world_of m) q event ≡ false) → is_stop event ≡ false → ((q : ℕ) → is_end q event ≡ false)
-    → is_over (world_of n) ≡ is_over (world_of m) → Tied n s xs
-tied_event m n s xs by event t did spares on another over = record {
+    → ((q : ℕ) → is_prepared m q ≡ true → (touches (world_of m) q event ≡ false) × (is_stop event ≡ false)) → ((q : ℕ) → is_end q event ≡ false)
+    → (is_over (world_of n) ≡ true → NonePrepared m) → Tied n s xs
+tied_event m n s xs by event t did spares another calm = record {
   grid = rw did.opening t.grid;
-  calm = λ is r. ap (λ (f : ℕ → Bool). f r) did.prepared ∙ t.calm (sym over ∙ is) r;
+  calm = λ over r. ap (λ (f : ℕ → Bool). f r) did.prepared ∙ calm over r;
   places = t.places;
   slots = t.slots;
   few = t.few;
   unused = t.unused;
   used = λ i low p. in_use_passes m n (region_at xs i) (place_at s i)
-      (passes_one m n (region_at xs i) (record { by = by; event = event }) did.opening did.history (ap (λ (f : ℕ → Bool). f (region_at xs i)) did.prepared) (spares (region_at xs i)) on (another (region_at xs i)))
+      (passes_one m n (region_at xs i) (record { by = by; event = event }) did.opening did.history (ap (λ (f : ℕ → Bool). f (region_at xs i)) did.prepared) (spares (region_at xs i)) (another (region_at xs i)))
       (t.used i low p);
   apart = t.apart;
   prepared = λ r e. t.prepared r (ap (λ (f : ℕ → Bool). f r) (sym did.prepared) ∙ e);

@@ -10,8 +10,8 @@ use Rattle.fol_model.specs.declared.events.Unloaded.{Unloaded}
 use Rattle.fol_model.specs.declared.events.Entry.{Entry}
 use Rattle.fol_model.specs.declared.events.Event.TheVariants.{Begin}
 use Rattle.fol_core.specs.declared.answers.Posting.{Posting}
-use Rattle.fol_core.specs.Ahead.{Learns, Prepares, Withdraws, may_touch}
-use Rattle.fol_core.specs.Answers.{LoadRecords, PostRecords, UnloadRecords, is_free, is_over, load_result, post_result, unload_result}
+use Rattle.fol_core.specs.Ahead.{Learns, NonePrepared, Prepares, Withdraws, may_touch}
+use Rattle.fol_core.specs.Answers.{LoadRecords, PostRecords, StopRecords, UnloadRecords, is_free, is_over, load_result, post_result, unload_result}
 use Rattle.fol_core.specs.Meaning.{Meaning, Stays, is_prepared, world_of}
 
 -- the core, and which slots its ticks are offered in
@@ -48,6 +48,15 @@ pub record Clears (old new : Shown) (by : ℕ) (c : ChunkPos) : Type 0 where
   pub begins : AllByRecursion (IsLearnt by) learnt
   pub spared : (r : ℕ) → is_prepared new.core r ≡ true → (is_prepared old.core r ≡ true) × (may_touch (world_of old.core) c r ≡ false)
 
+-- every tick that was offered was called back
+pub record Recalls (old new : Shown) (by : ℕ) : Type 0 where
+  pub slots : new.slots ≡ old.slots
+  pub opening : new.core.opening ≡ old.core.opening
+  pub learnt : List Entry
+  pub history : new.core.history ≡ old.core.history ++ learnt
+  pub begins : AllByRecursion (IsLearnt by) learnt
+  pub none : NonePrepared new.core
+
 -- a ticket was asked for, once what that may touch was called back; out of memory may come before or after that
 pub record Loads (old new : Shown) (by : ℕ) (c : ChunkPos) (r : Result Loaded AllocError) : Type 0 where
   pub cleared : Shown
@@ -80,3 +89,10 @@ pub record Posts (old new : Shown) (by : ℕ) (c : ChunkPos) (d : ℕ) (x : Acti
 abbrev pub OffersNext : Meaning → Meaning → Option ℕ → Type 0
 OffersNext old new (Some r) = (is_over (world_of old) ≡ false) × (is_free old r ≡ true) × Prepares old new r
 OffersNext old new None = Stays old new × ((is_over (world_of old) ≡ true) ⊎ ((r : ℕ) → 0 < r → r < (world_of old).grid.next → is_free old r ≡ false))
+
+-- a Stop was recorded, once every offered tick was called back, unless the history was over
+pub record Stops (old new : Shown) (by : ℕ) : Type 0 where
+  pub recalled : Shown
+  pub recalls : Recalls old recalled by ⊎ (recalled ≡ old)
+  pub slots : new.slots ≡ old.slots
+  pub recorded : StopRecords recalled.core new.core by (is_over (world_of recalled.core))

@@ -1,6 +1,6 @@
 //! A core and the slots in which the ticks of its regions are offered.
 
-ghost use Rattle.std.specs.Prelude.{◌≡◌, ◌+◌, ◌≤◌, ◌<◌, ℕ, true, false, [], ◌∷◌, All, IfOk, OnOk, OnErr, IsTrue, vec_len};
+ghost use Rattle.std.specs.Prelude.{◌≡◌, ◌+◌, ◌≤◌, ◌<◌, ℕ, true, false, [], ◌∷◌, All, IfOk, IfSome, IfNone, OnOk, OnErr, IsTrue, vec_len};
 ghost use Rattle.fol_model.specs.Geometry.{is_chunk};
 ghost use Rattle.fol_model.specs.Limits.{is_action, is_delay, may_post};
 ghost use Rattle.fol_model.specs.GridNumbers.{IsGrid};
@@ -9,7 +9,7 @@ ghost use Rattle.fol_slots.specs.Table.{slots_id, slot_count};
 ghost use Rattle.fol_core.specs.Ahead.{NonePrepared, Prepares, Withdraws};
 ghost use Rattle.fol_core.specs.Answers.{PhaseRecords, is_free, is_over, phase_result};
 ghost use Rattle.fol_core.specs.Meaning.{Stays, is_prepared, world_of};
-ghost use Rattle.fol_offers.specs.Shown.{CallsAllBack, CallsBack, Clears, Loads, OffersNext, Posts, Unloads};
+ghost use Rattle.fol_offers.specs.Shown.{CallsAllBack, CallsBack, Clears, Loads, OffersNext, Posts, Recalls, Stops, Unloads};
 ghost use Rattle.fol_offers.specs.Starts.{AreNewSlots};
 ghost use Rattle.fol_offers.specs.Tied.{nothing};
 
@@ -209,6 +209,46 @@ impl Offers {
         if self.core.is_prepared(region) {
             self.call_back(slots, by, region);
         }
+    }
+
+    /// Gives up: records a Stop by this seat, once each offered tick was called back, unless the history is over. Takes no memory.
+    pub fn stop(&mut self, slots: &Slots<Offer>, by: u32)
+        requires own { self.old.slots ≡ slots_id slots.now }
+        ensures { Stops self.old self.new by }
+    {
+        if self.core.is_over() {
+            self.core.stop(by);
+            return;
+        }
+        self.recall(slots, by);
+        self.core.stop(by);
+    }
+
+    /// Calls back each region whose tick is offered.
+    fn recall(&mut self, slots: &Slots<Offer>, by: u32)
+        requires own { self.old.slots ≡ slots_id slots.now }
+        requires on { is_over (world_of self.old.core) ≡ false }
+        ensures { Recalls self.old self.new by }
+    {
+        while let Some(region) = self.first_offered() {
+            self.call_back(slots, by, region);
+        }
+    }
+
+    /// A region whose tick is offered.
+    fn first_offered(&self) -> Option<u64>
+        ensures some { IfSome result (λ r. is_prepared self.now.core r ≡ true) }
+        ensures given { IfSome result (λ r. r < (world_of self.now.core).grid.next) }
+        ensures none { IfNone result (NonePrepared self.now.core) }
+    {
+        let _entries = self.core.history();
+        let regions = self.places.regions();
+        for region in regions {
+            if self.core.is_prepared(*region) {
+                return Some(*region);
+            }
+        }
+        None
     }
 
     /// Calls back what an event on this chunk may touch. Fails only when out of memory; then nothing has changed.

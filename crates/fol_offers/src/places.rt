@@ -50,6 +50,13 @@ impl Places {
         self.slots.get(&region).copied()
     }
 
+    /// The region of each slot, and 0 for one that is not in use.
+    pub(crate) fn regions(&self) -> &[u64]
+        ensures { result.now ≡ self.now }
+    {
+        self.regions.as_slice()
+    }
+
     /// Gives a slot that is not in use to a region that has none, and returns it. Fails when out of memory, and where each slot is in
     /// use; then nothing has changed.
     pub(crate) fn put(&mut self, region: u64) -> Result<u32, AllocError>

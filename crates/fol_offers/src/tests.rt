@@ -99,6 +99,24 @@ fn is_learnt(entry: &Entry, region: u64) -> bool {
 }
 
 #[test]
+fn a_stop_calls_back_what_nobody_claimed(rt: HostRuntime) -> Result<(), Fail> {
+    let alloc = rt.alloc();
+    let OffersAndSeats {
+        mut offers,
+        slots,
+        seats: _,
+    } = start(&rt, alloc);
+    load(&rt, &mut offers, &slots, ORIGIN);
+    load(&rt, &mut offers, &slots, AWAY);
+    offer_both(&rt, alloc, &mut offers, &slots);
+    offers.stop(&slots, 0);
+    assert!(&rt; !offers.is_offered(1) && !offers.is_offered(2));
+    assert_eq!(&rt; offers.history().len(), 4);
+    assert!(&rt; !offers_one(&rt, alloc, &mut offers, &slots));
+    Ok(())
+}
+
+#[test]
 fn the_tick_that_was_claimed_is_learnt(rt: HostRuntime) -> Result<(), Fail> {
     let alloc = rt.alloc();
     let OffersAndSeats {
@@ -119,5 +137,8 @@ fn the_tick_that_was_claimed_is_learnt(rt: HostRuntime) -> Result<(), Fail> {
     assert!(&rt; is_learnt(&history[3], claimed));
     // The other region came back, and waits for the claimed one now: it owes its tick, and can't be offered.
     assert!(&rt; !offers_one(&rt, alloc, &mut offers, &slots));
+    offers.stop(&slots, 0);
+    offers.stop(&slots, 0);
+    assert_eq!(&rt; offers.history().len(), 6);
     Ok(())
 }
