@@ -1,5 +1,5 @@
 -- Events leave what is offered where it is.
-use Rattle.std.proofs.Common.{◌≡◌, ◌≢◌, ℕ, List, sym, refl, ap, ◌∙◌, subst, Bool, true, false, not, ◌&&◌, ◌||◌, nat_eq, nat_lt, inl, inr, true≢false, Result, Ok, Err, IfOk, OnErr}
+use Rattle.std.proofs.Common.{◌≡◌, ℕ, List, sym, refl, ap, ◌∙◌, Bool, true, false, not, ◌&&◌, ◌||◌, nat_eq, nat_lt, inl, inr, true≢false, Result, Ok, Err, IfOk, OnErr}
 use Rattle.std.proofs.lemmas.Bool.{cases_Bool}
 use Rattle.std.specs.declared.alloc.AllocError.{AllocError}
 use Rattle.fol_model.specs.declared.places.ChunkPos.{ChunkPos}
@@ -19,7 +19,7 @@ use Rattle.fol_model.specs.GridState.{is_loaded, is_ready}
 use Rattle.fol_model.specs.Add.{is_full}
 use Rattle.fol_model.specs.Holds.{loaded, posted, unloaded}
 use Rattle.fol_model.specs.World.{World}
-use Rattle.fol_model.specs.Run.{Run, after}
+use Rattle.fol_model.specs.Run.{Run}
 use Rattle.fol_laws.specs.LateBegin.{draws_in, ground, load_touches, post_touches, unload_touches}
 use Rattle.fol_core.specs.Ahead.{NonePrepared, Spares, may_touch}
 use Rattle.fol_core.specs.Answers.{LoadRecords, PhaseRecords, PostRecords, StopRecords, UnloadRecords, is_over}

@@ -1,10 +1,9 @@
 -- What is known of regions that are free, that wait and that run.
-use Rattle.std.proofs.Common.{◌≡◌, ◌≢◌, ℕ, ◌<◌, ◌≤◌, List, [], ◌∷◌, ◌++◌, length, sym, refl, ap, ◌∙◌, subst, Option, Some, None, Bool, true, false, true≢false, not, ◌&&◌, nat_lt, arith, inl, inr}
+use Rattle.std.proofs.Common.{◌≡◌, ◌≢◌, ℕ, ◌<◌, List, [], ◌∷◌, ◌++◌, length, sym, refl, ap, ◌∙◌, subst, Option, Some, None, Bool, true, false, true≢false, not, ◌&&◌, nat_lt, arith, inl, inr}
 use Rattle.std.proofs.lemmas.Bool.{and_parts, eq-eqb}
 use Rattle.std.proofs.lemmas.List.{append-nil}
 use Rattle.std.proofs.Math.ListN.{get_or-eq_default}
 use Rattle.std.proofs.lemmas.Bool.Decides.{leb_tells}
-use Rattle.fol_model.specs.declared.regions.State.{State}
 use Rattle.fol_model.specs.declared.regions.State.TheVariants.{Dead, Ready, Ticking}
 use Rattle.fol_model.specs.declared.events.Entry.{Entry}
 use Rattle.fol_model.specs.declared.events.Event.TheVariants.{Begin}
@@ -31,7 +30,7 @@ use Rattle.fol_slots.specs.Shown.{Keeper, place_at}
 use Rattle.fol_offers.specs.declared.offer.Offer.{Offer}
 use Rattle.fol_offers.specs.Fit.{IsFitTick}
 use Rattle.fol_offers.specs.Places.{region_at}
-use Rattle.fol_offers.specs.Tied.{InUse, Runs, Tied, Waits}
+use Rattle.fol_offers.specs.Tied.{InUse, Tied, Waits}
 
 pub no_worker : (o : Option ℕ) → ((j : ℕ) → o ≡ Some j → ⊥) → o ≡ None
 no_worker None none = refl

@@ -1,5 +1,5 @@
 -- A region gets a slot, and loses it.
-use Rattle.std.proofs.Common.{◌≡◌, ◌≢◌, ℕ, ◌<◌, List, length, set, sym, refl, ap, ◌∙◌, subst, cond, Bool, true, false, Option, Some, None, nat_eq, arith, length-set, get_or-set_other, get_or-set_same, ⊎_elim, inl, inr}
+use Rattle.std.proofs.Common.{◌≡◌, ◌≢◌, ℕ, ◌<◌, List, length, set, sym, refl, ap, ◌∙◌, subst, cond, Bool, true, false, Some, None, nat_eq, arith, length-set, get_or-set_other, get_or-set_same, inl, inr}
 use Rattle.std.specs.Map.{lookup}
 use Rattle.std.proofs.lemmas.Bool.Decides.{eqb_tells}
 use Rattle.std.proofs.lemmas.Bool.{eq-eqb, ne_eqb}

@@ -1,7 +1,6 @@
 -- What leaves the tick of a region where it is.
-use Rattle.std.proofs.Common.{◌≡◌, ◌≢◌, ℕ, ◌<◌, List, [], ◌∷◌, ◌++◌, length, sym, refl, ap, ◌∙◌, subst, Option, Some, None, Bool, true, false, append_assoc}
+use Rattle.std.proofs.Common.{◌≡◌, ℕ, List, [], ◌∷◌, ◌++◌, sym, refl, ap, ◌∙◌, true, false, append_assoc}
 use Rattle.fol_model.specs.declared.events.Entry.{Entry}
-use Rattle.fol_model.specs.declared.events.Event.{Event}
 use Rattle.fol_model.specs.OpenTick.{is_end}
 use Rattle.fol_model.specs.World.{World, start}
 use Rattle.fol_model.specs.Run.{after, after_all, world}
@@ -9,7 +8,6 @@ use Rattle.fol_laws.specs.LateBegin.{NoneTouches, is_stop, touches}
 use Rattle.fol_laws.proofs.LongerRuns.{world_both}
 use Rattle.fol_data.specs.declared.tick.Tick.{Tick}
 use Rattle.fol_core.specs.Meaning.{Meaning, Records, is_prepared, world_of}
-use Rattle.fol_tick_laws.specs.OpenTicks.{IsOpen}
 use Rattle.fol_tick_laws.proofs.OpenTicks.{open_more, open_same}
 use Rattle.fol_slots.specs.declared.view.Place.{Place}
 use Rattle.fol_offers.specs.declared.offer.Offer.{Offer}

@@ -1,5 +1,5 @@
 -- Several regions are called back, one after another.
-use Rattle.std.proofs.Common.{◌≡◌, ◌≢◌, ℕ, ◌<◌, List, [], ◌∷◌, ◌++◌, sym, refl, ap, ◌∙◌, subst, Bool, true, false, ◌||◌, nat_eq, true≢false, inl, inr, arith, append_assoc, if◌then◌else◌, cond, ◌+◌, suc, length, take, get_or}
+use Rattle.std.proofs.Common.{◌≡◌, ◌≢◌, ℕ, ◌<◌, List, [], ◌∷◌, ◌++◌, sym, refl, ap, ◌∙◌, Bool, true, false, ◌||◌, nat_eq, true≢false, inl, inr, arith, append_assoc, if◌then◌else◌, cond, ◌+◌, suc, length, take, get_or}
 use Rattle.std.proofs.Math.Seq.{take-suc}
 use Rattle.std.specs.List.{AllByRecursion, filter, list_any}
 use Rattle.std.proofs.lemmas.Bool.{and_parts, eq-eqb, ne_eqb}
@@ -31,7 +31,7 @@ use Rattle.fol_laws.proofs.SortedRows.{all_append}
 use Rattle.fol_core.proofs.LeastFound.{kept_number}
 use Rattle.fol_core.specs.Ahead.{NonePrepared, may_touch}
 use Rattle.fol_core.specs.Answers.{is_over}
-use Rattle.fol_core.specs.Meaning.{Meaning, is_prepared, world_of}
+use Rattle.fol_core.specs.Meaning.{is_prepared, world_of}
 use Rattle.fol_offers.proofs.Tying.{one_more, over_begun}
 use Rattle.fol_offers.specs.Shown.{CallsAllBack, CallsBack, Clears, IsLearnt, Recalls, Shown}
 

@@ -1,5 +1,5 @@
 -- How core and slots stay tied.
-use Rattle.std.proofs.Common.{◌≡◌, ◌≢◌, ℕ, ◌<◌, ◌≤◌, List, [], ◌∷◌, ◌++◌, length, set, get_or, replicate, sym, refl, ap, ◌∙◌, subst, Option, Some, None, Bool, true, false, nat_eq, arith, length-set, get_or-set_other, get_or-set_same, ◌⊎◌, inl, inr, zero, suc, true≢false}
+use Rattle.std.proofs.Common.{◌≡◌, ◌≢◌, ℕ, ◌<◌, ◌≤◌, List, [], ◌∷◌, ◌++◌, length, set, get_or, replicate, sym, refl, ap, ◌∙◌, subst, Option, Some, None, Bool, true, false, arith, length-set, get_or-set_other, get_or-set_same, ◌⊎◌, inl, inr, zero, suc, true≢false}
 use Rattle.std.proofs.lemmas.List.{append-nil, length-replicate, set-get_or}
 use Rattle.std.proofs.lemmas.Bool.{ne_eqb}
 use Rattle.std.proofs.lemmas.Bool.Decides.{eqb_tells}

@@ -1,5 +1,5 @@
 -- What may be offered.
-use Rattle.std.specs.Prelude.{ℕ, ◌≡◌, List, length, IsSomeAnd}
+use Rattle.std.specs.Prelude.{List, length, IsSomeAnd}
 use Rattle.fol_model.specs.declared.openings.Opening.{Opening}
 use Rattle.fol_model.specs.declared.events.Entry.{Entry}
 use Rattle.fol_model.specs.declared.events.Event.TheVariants.{Begin}

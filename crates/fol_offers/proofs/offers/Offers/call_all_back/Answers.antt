@@ -1,4 +1,4 @@
-use Rattle.std.proofs.Common.{◌≡◌, ℕ, List, ◌++◌, ◌∷◌, [], take, get_or, sym, subst, ◌∙◌}
+use Rattle.std.proofs.Common.{ℕ, List, ◌∷◌, [], take, get_or, sym, subst, ◌∙◌}
 use Rattle.fol_offers.specs.Shown.{CallsAllBack}
 use Rattle.fol_offers.proofs.Recalls.{back_over, back_both, take_more}
 use Rattle.fol_offers.proofs.offers.Offers.call_all_back.Goals as goal

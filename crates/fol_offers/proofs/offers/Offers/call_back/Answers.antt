@@ -1,12 +1,11 @@
-use Rattle.std.proofs.Common.{rules, ◌≡◌, ℕ, ◌<◌, List, set, sym, subst, ap, ◌∙◌, true, false, Some, inl, inr}
-use Rattle.fol_data.specs.declared.tick.Tick.{Tick}
-use Rattle.fol_core.specs.Ahead.{Learns, Withdraws}
+use Rattle.std.proofs.Common.{rules, ◌≡◌, ℕ, List, sym, subst, ap, ◌∙◌, true, false, Some, inl}
+use Rattle.fol_core.specs.Ahead.{Withdraws}
 use Rattle.fol_core.specs.Answers.{is_over}
 use Rattle.fol_core.specs.Meaning.{Meaning, is_prepared, world_of}
-use Rattle.fol_slots.specs.Shown.{Keeper, keeping, finding, place_at}
+use Rattle.fol_slots.specs.Shown.{Keeper, keeping, place_at}
 use Rattle.fol_offers.specs.declared.offer.Offer.{Offer}
 use Rattle.fol_offers.specs.Shown.{Shown}
-use Rattle.fol_offers.specs.Tied.{Tied, Waits, nothing}
+use Rattle.fol_offers.specs.Tied.{Tied, nothing}
 use Rattle.fol_offers.proofs.Facts.{waits_now}
 use Rattle.fol_offers.proofs.Tying.{came_back, tied_withdraws, tied_learns}
 use Rattle.fol_offers.proofs.offers.Offers.call_back.Goals as goal

@@ -1,7 +1,7 @@
-use Rattle.std.proofs.Common.{rules, ◌≡◌, ◌≢◌, ℕ, ◌<◌, List, sym, subst, ap, ◌∙◌, true, false, IsSomeAnd, Some}
+use Rattle.std.proofs.Common.{rules, ◌≡◌, ℕ, ◌<◌, List, sym, subst, ap, ◌∙◌, true, IsSomeAnd, Some}
 use Rattle.fol_model.specs.Run.{Run}
-use Rattle.fol_core.specs.Answers.{is_free, is_over}
-use Rattle.fol_core.specs.Meaning.{Meaning, world_of}
+use Rattle.fol_core.specs.Answers.{is_free}
+use Rattle.fol_core.specs.Meaning.{Meaning}
 use Rattle.fol_slots.specs.declared.view.Place.{Place}
 use Rattle.fol_slots.specs.Shown.{Keeper, keeping, offering, place_at}
 use Rattle.fol_slots.proofs.Callers.{place_here}

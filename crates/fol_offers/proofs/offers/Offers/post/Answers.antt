@@ -1,4 +1,4 @@
-use Rattle.std.proofs.Common.{rules, ◌≡◌, ◌∙◌, sym, subst, refl, true, inl, inr, true≢false}
+use Rattle.std.proofs.Common.{rules, ◌∙◌, sym, subst, refl, inr, true≢false}
 use Rattle.fol_model.specs.Run.{Run}
 use Rattle.fol_laws.specs.LateBegin.{post_touches}
 use Rattle.fol_core.specs.Ahead.{Spares}

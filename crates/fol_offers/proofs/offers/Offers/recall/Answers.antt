@@ -1,5 +1,5 @@
 use Rattle.std.proofs.Common.{ℕ, List, [], ◌∷◌, ◌++◌, ◌∙◌}
-use Rattle.fol_offers.proofs.Recalls.{back_both, back_fewer, back_none, back_one, back_over, recalled}
+use Rattle.fol_offers.proofs.Recalls.{back_both, back_fewer, back_none, back_one, back_over}
 use Rattle.fol_offers.proofs.offers.Offers.recall.Goals as goal
 
 pub loop-region-init : goal.loop-region-init

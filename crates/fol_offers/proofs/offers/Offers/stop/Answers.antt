@@ -1,4 +1,4 @@
-use Rattle.std.proofs.Common.{rules, ◌≡◌, ◌∙◌, sym, subst, refl, inl, inr, pos}
+use Rattle.std.proofs.Common.{rules, sym, subst, refl, inr, pos}
 use Rattle.fol_core.specs.Ahead.{NonePrepared}
 use Rattle.fol_core.specs.Answers.{is_over}
 use Rattle.fol_core.specs.Meaning.{world_of}
