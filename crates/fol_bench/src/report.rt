@@ -1,7 +1,7 @@
 //! The report of a million ticks in which nothing ran, as text and as JSON: two million lines, about 57 million bytes.
 
 use crate::rate::per_second;
-use fol_model::{Closing, Entry, Event, Grid, Opening, Sequence};
+use fol_model::{Closing, Entry, Event, Grid, Opening, PackedEntry, Sequence};
 use fol_report::{report, report_json};
 use std::alloc::{AllocError, Global};
 use std::io;
@@ -67,21 +67,27 @@ fn quiet_ticks(alloc: Global, ticks: u64) -> Result<Closing, AllocError> {
 }
 
 /// Puts the begin and the end of a tick behind a history.
-fn push_tick(alloc: Global, history: &mut Sequence<Entry>, tick: u64) -> Result<(), AllocError> {
-    history.push(entry(Event::Begin {
+fn push_tick(
+    alloc: Global,
+    history: &mut Sequence<PackedEntry>,
+    tick: u64,
+) -> Result<(), AllocError> {
+    let begin = Event::Begin {
         worker: 1,
         region: tick,
-    }))?;
-    history.push(entry(Event::End {
+    };
+    history.push(entry(alloc, begin)?)?;
+    let end = Event::End {
         worker: 1,
         region: tick,
         tick,
         ran: Sequence::new(alloc),
         accepts: Sequence::new(alloc),
-    }))
+    };
+    history.push(entry(alloc, end)?)
 }
 
 /// The first worker recorded the event.
-fn entry(event: Event) -> Entry {
-    Entry { by: 1, event }
+fn entry(alloc: Global, event: Event) -> Result<PackedEntry, AllocError> {
+    PackedEntry::new(alloc, Entry { by: 1, event })
 }

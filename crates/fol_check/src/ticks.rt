@@ -6,12 +6,13 @@ ghost use Rattle.fol_model.specs.Run.{Run};
 ghost use Rattle.fol_model.specs.declared.events.Entry.{Entry as EntryOf};
 ghost use Rattle.fol_model.specs.declared.events.Event.TheVariants as events;
 ghost use Rattle.fol_check.specs.Standing.{EndsWith, Goes, HasAsked, Noted, Notes, Stands};
+ghost use Rattle.fol_model.specs.Packed.{event_seen};
 
 use crate::asks::{Ask, Open, opened};
 use crate::phases::{is_loaded, is_unloaded};
 use crate::replay::{Replay, WORKERS};
 use fol_core::BeginAnswer;
-use fol_model::{Accept, ChunkPos, Entry, Event, Loaded, Ran, Sequence, Unloaded};
+use fol_model::{Accept, ChunkPos, EventRef, Loaded, PackedEntry, Ran, Sequence, Unloaded};
 use fol_tick::HostAnswer;
 use std::alloc::{AllocError, Global};
 
@@ -163,31 +164,27 @@ fn note_in(place: &mut Option<Open>, answer: HostAnswer) -> Result<(), AllocErro
 }
 
 /// Whether the last entry is an End with this counter, these outcomes and these answers.
-fn ends(history: &[Entry], tick: u64, ran: &Sequence<Ran>, accepts: &Sequence<Accept>) -> bool
+fn ends(history: &[PackedEntry], tick: u64, ran: &Sequence<Ran>, accepts: &Sequence<Accept>) -> bool
     ensures { (hs : List EntryOf) (e : EntryOf) → history.now ≡ hs ++ e ∷ [] → IsTrue result
         ↔ EndsWith e.event tick ran.now accepts.now }
 {
     match history.last() {
-        Some(entry) => is_end_with(&entry.event, tick, ran, accepts),
+        Some(entry) => is_end_with(entry.event(), tick, ran, accepts),
         None => false,
     }
 }
 
 /// Whether the event is an End with this counter, these outcomes and these answers.
-fn is_end_with(event: &Event, tick: u64, ran: &Sequence<Ran>, accepts: &Sequence<Accept>) -> bool
-    ensures { IsTrue result ↔ EndsWith event.now tick ran.now accepts.now }
+fn is_end_with(event: EventRef, tick: u64, ran: &Sequence<Ran>, accepts: &Sequence<Accept>) -> bool
+    ensures { IsTrue result ↔ EndsWith (event_seen event) tick ran.now accepts.now }
 {
     match event {
-        Event::End {
+        EventRef::End {
             tick: t,
             ran: r,
             accepts: a,
             ..
-        } => {
-            *t == tick
-                && same_ran(r.as_slice(), ran.as_slice())
-                && same_accepts(a.as_slice(), accepts.as_slice())
-        }
+        } => { t == tick && same_ran(r, ran.as_slice()) && same_accepts(a, accepts.as_slice()) }
         _ => false,
     }
 }

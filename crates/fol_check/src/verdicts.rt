@@ -7,7 +7,7 @@ ghost use Rattle.fol_check.specs.Verdicts.{Compares, Judges, differing_line};
 
 use crate::whole::{Replayed, replay_events};
 use fol_events::{EventLines, read_events};
-use fol_model::{Closing, Entry, Opening, Script, Sequence};
+use fol_model::{Closing, Opening, PackedEntry, Script, Sequence};
 use fol_report::report;
 use std::alloc::{AllocError, Global};
 
@@ -49,7 +49,7 @@ fn check_history(
     alloc: Global,
     opening: Opening,
     script: Script,
-    history: Sequence<Entry>,
+    history: Sequence<PackedEntry>,
     bytes: &[u8],
 ) -> Result<Verdict, AllocError>
     requires told { IsTold bytes.now history }

@@ -7,10 +7,11 @@ ghost use Rattle.fol_report_laws.specs.Laws.{events};
 ghost use Rattle.fol_check.specs.Playing.{Plays};
 ghost use Rattle.fol_check.specs.Replays.{Closes, LastFinishes, Replays, is_last};
 ghost use Rattle.fol_check.specs.Standing.{Stands};
+ghost use Rattle.fol_model.specs.Packed.{event_seen};
 
 use crate::replay::Replay;
 use fol_core::CloseFault;
-use fol_model::{Closing, Entry, Event, Opening, Script, Sequence};
+use fol_model::{Closing, EventRef, Opening, PackedEntry, Script, Sequence};
 use std::alloc::{AllocError, Global};
 use std::collections::VecDeque;
 
@@ -29,7 +30,7 @@ pub(crate) fn replay_events(
     alloc: Global,
     opening: Opening,
     script: Script,
-    history: Sequence<Entry>,
+    history: Sequence<PackedEntry>,
 ) -> Result<Replayed, AllocError>
     requires few { length history ≤ 16777216 }
     requires in_range { AllInRange history }
@@ -52,7 +53,11 @@ pub(crate) fn replay_events(
 impl Replay {
     /// Goes on by the events of a history. Tells the number, counted from 1, of the one with which it is not the beginning of a history of the
     /// script, or one more than there are where the last is not Finish; or none where it is a whole history.
-    fn play(&mut self, alloc: Global, history: Sequence<Entry>) -> Result<Option<u64>, AllocError>
+    fn play(
+        &mut self,
+        alloc: Global,
+        history: Sequence<PackedEntry>,
+    ) -> Result<Option<u64>, AllocError>
         requires few { length history ≤ 16777216 }
         requires in_range { AllInRange history }
         requires stands { Stands self.old }
@@ -62,7 +67,7 @@ impl Replay {
         let mut left = VecDeque::from_vec(history.into_vec());
         let mut place: u64 = 1;
         'events: while let Some(entry) = left.pop_front() {
-            if !self.step(alloc, entry.event)? {
+            if !self.step(alloc, entry.into_event(alloc))? {
                 return Ok(Some(place));
             }
             place += 1;
@@ -80,7 +85,7 @@ impl Replay {
         ensures none { self.now.core.history ≡ [] → result ≡ false }
     {
         match self.core.history().last() {
-            Some(entry) => is_finish(&entry.event),
+            Some(entry) => is_finish(entry.event()),
             None => false,
         }
     }
@@ -106,11 +111,11 @@ impl Replay {
 }
 
 /// Whether the event is Finish.
-fn is_finish(event: &Event) -> bool
-    ensures { result ≡ is_last event.now }
+fn is_finish(event: EventRef) -> bool
+    ensures { result ≡ is_last (event_seen event) }
 {
     match event {
-        Event::Finish => true,
+        EventRef::Finish => true,
         _ => false,
     }
 }

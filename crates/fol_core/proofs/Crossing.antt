@@ -4,7 +4,7 @@ use denote.Param.Send.{IsSend, sendable}
 use denote.Param.SendFields.{as_row_send, declared_send}
 use Rattle.std.proofs.Crossing.{Vec-send}
 use Rattle.std.specs.contracts.hash.FoldHasher as FoldHasher
-use Rattle.fol_model.proofs.Crossing.{Entry-send, Task-send}
+use Rattle.fol_model.proofs.Crossing.{Event-send, PackedEntry-send, Task-send}
 use Rattle.fol_model.proofs.grids.Grid.TheSendSync as grids
 use Rattle.fol_model.proofs.openings.Opening.TheSendSync as openings
 use Rattle.fol_model.specs.contracts.grids.Grid as grid

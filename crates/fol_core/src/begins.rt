@@ -22,7 +22,8 @@ ghost use Rattle.fol_core.specs.Same.{SameThings};
 
 use crate::agenda::{owes, tidy_without};
 use crate::bags::list_chunks;
-use crate::machine::{Core, Room, record};
+use crate::entries::record;
+use crate::machine::{Core, Room};
 use crate::tables::{Tables, grow_history};
 use crate::{BeginAnswer, Next};
 use fol_data::{RegionData, Tick};

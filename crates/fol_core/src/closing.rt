@@ -20,7 +20,7 @@ use crate::machine::Core;
 use crate::owners::list_owners;
 use crate::tables::Tables;
 use fol_model::{
-    Action, BlockAt, Closing, Entity, EntityRow, Entry, Opening, OwnerRow, Place, RegionRow,
+    Action, BlockAt, Closing, Entity, EntityRow, Opening, OwnerRow, PackedEntry, Place, RegionRow,
     SectionPos, Sequence, State, TaskRow,
 };
 use fol_regions::Regions;
@@ -62,6 +62,7 @@ impl Core {
             tables,
             marks: _,
             room: _,
+            left: _,
             alloc: _,
         } = self;
         match calm_regions(alloc, &tables.regions) {
@@ -96,7 +97,7 @@ fn calm_regions(alloc: Global, regions: &Regions) -> Result<Vec<u64>, CloseFault
 fn closing_of(
     alloc: Global,
     opening: Opening,
-    history: Vec<Entry>,
+    history: Vec<PackedEntry>,
     tables: Tables,
     live: &[u64],
 ) -> Result<Closing, CloseFault>
@@ -123,7 +124,7 @@ fn closing_of(
 fn with_things(
     alloc: Global,
     opening: Opening,
-    history: Vec<Entry>,
+    history: Vec<PackedEntry>,
     grid: GridRows,
     store: Store,
 ) -> Result<Closing, CloseFault>
@@ -201,7 +202,12 @@ fn thing_rows(alloc: Global, store: Store) -> Result<ThingRows, AllocError>
 }
 
 /// The closing of these rows.
-fn put_together(opening: Opening, history: Vec<Entry>, grid: GridRows, things: ThingRows) -> Closing
+fn put_together(
+    opening: Opening,
+    history: Vec<PackedEntry>,
+    grid: GridRows,
+    things: ThingRows,
+) -> Closing
     ensures opening { result.opening ≡ opening }
     ensures history { result.history ≡ history.items }
     ensures regions { result.regions ≡ grid.regions.items }

@@ -24,7 +24,8 @@ ghost use Rattle.fol_core.specs.Same.{SameThings};
 
 use crate::agenda::tidy;
 use crate::bags::{join, open_all};
-use crate::machine::{Core, record};
+use crate::entries::record;
+use crate::machine::Core;
 use crate::tables::{Tables, grow};
 use fol_model::{ChunkPos, Event, Loaded, SectionPos, Unloaded, section_of};
 use fol_regions::{AddAnswer, MergePair, Regions, Removed};

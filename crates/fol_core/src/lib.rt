@@ -23,6 +23,7 @@ mod begins;
 mod catching_up;
 mod closing;
 mod ends;
+mod entries;
 mod holds;
 mod machine;
 mod marks;

@@ -10,9 +10,10 @@ ghost use Rattle.fol_model.specs.GridState.{empty};
 ghost use Rattle.fol_regions.specs.Table.{grid_state};
 
 use crate::agenda::owes;
+use crate::entries::{Answers, EventBox};
 use crate::marks::Marks;
 use crate::tables::{Course, Tables};
-use fol_model::{Accept, Entry, Event, Grid, Opening, SectionPos, State, Task};
+use fol_model::{Grid, Opening, PackedEntry, SectionPos, State, Task};
 use fol_regions::Regions;
 use fol_store::Store;
 use std::alloc::{AllocError, Global};
@@ -34,8 +35,8 @@ const UNTOUCHED: Course = Course {
 pub(crate) enum Room {
     /// For the next Begin of a region, with a list for the due tasks.
     Begin { id: u64, due: Vec<Task> },
-    /// For an End with so many wishes, with a list for the answers.
-    End { wishes: usize, accepts: Vec<Accept> },
+    /// For an End with so many wishes, with a list for the answers, and for its event.
+    End { wishes: usize, accepts: Answers },
 }
 
 /// A world and its history, which is a run of its opening.
@@ -45,11 +46,13 @@ pub(crate) enum Room {
 #[derive(Drop)]
 pub struct Core {
     pub(crate) opening: Opening,
-    pub(crate) history: Vec<Entry>,
+    pub(crate) history: Vec<PackedEntry>,
     pub(crate) tables: Tables,
     /// The prepared regions.
     pub(crate) marks: Marks,
     pub(crate) room: Option<Room>,
+    /// Memory for the next event that needs a pointer.
+    pub(crate) left: Option<EventBox>,
     pub(crate) alloc: Global,
 }
 
@@ -90,6 +93,7 @@ impl Core {
                 tables,
                 marks: Marks::new(alloc),
                 room: None,
+                left: None,
                 alloc,
             }),
             Err(_) => {
@@ -122,7 +126,7 @@ impl Core {
     }
 
     /// The entries so far. They are a run of the opening.
-    pub fn history(&self) -> &[Entry]
+    pub fn history(&self) -> &[PackedEntry]
         ensures entries { result.now ≡ self.now.history }
         ensures run { Run self.now.opening self.now.history }
     {
@@ -158,7 +162,7 @@ impl Core {
 fn first_tables(
     alloc: Global,
     opening: &Opening,
-    history: &mut Vec<Entry>,
+    history: &mut Vec<PackedEntry>,
 ) -> Result<Tables, AllocError>
     ensures entries { history.new.items ≡ history.old.items }
     ensures room { OnOk result (vec_len history.new < vec_capacity history.new) }
@@ -192,18 +196,4 @@ fn with_regions(alloc: Global, grid: Grid, store: Store) -> Result<Tables, Alloc
             Err(AllocError)
         }
     }
-}
-
-/// Adds an entry to a history that has room for it.
-pub(crate) fn record(history: &mut Vec<Entry>, course: &mut Course, by: u32, event: Event)
-    requires room { vec_len history.old < vec_capacity history.old }
-    requires few { course.old.size ≤ 2 ^ 50 }
-    ensures entries { history.new.items ≡ history.old.items
-        ++ (record { by = by; event = event }) ∷ [] }
-    ensures len { vec_len history.new ≡ vec_len history.old + 1 }
-    ensures capacity { vec_capacity history.new ≡ vec_capacity history.old }
-    ensures size { course.new ≡ record course.old { size = course.old.size + 1 } }
-{
-    course.size += 1;
-    history.push_reserved(Entry { by, event });
 }

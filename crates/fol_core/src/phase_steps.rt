@@ -9,7 +9,8 @@ ghost use Rattle.fol_core.specs.Answers.{CloseRecords, PhaseRecords, close_resul
 
 use crate::agenda::owes;
 use crate::bags::set_owed;
-use crate::machine::{Core, record};
+use crate::entries::record;
+use crate::machine::Core;
 use crate::tables::{Tables, grow_history};
 use crate::{Close, Phase};
 use fol_model::{Event, State};

@@ -18,8 +18,9 @@ ghost use Rattle.fol_core.specs.Meaning.{Stays, world_of};
 ghost use Rattle.fol_core.specs.Posts.{CanQueue, Queues};
 
 use crate::Posting;
+use crate::entries::{event_box, record_in};
 use crate::holds::hold;
-use crate::machine::{Core, record};
+use crate::machine::Core;
 use crate::tables::{Tables, grow};
 use fol_model::{Accept, Action, ChunkPos, Event, Task};
 use fol_regions::AddAnswer;
@@ -59,6 +60,13 @@ impl Core {
             Ok(copy) => copy,
             Err(_) => return Err(action),
         };
+        let memory = match event_box(self.alloc, &mut self.left) {
+            Ok(memory) => memory,
+            Err(_) => {
+                drop(copy);
+                return Err(action);
+            }
+        };
         let answer = posted(&mut self.tables, c, delay, copy);
         let event = Event::Post {
             caller,
@@ -67,7 +75,14 @@ impl Core {
             action,
             answer,
         };
-        record(&mut self.history, &mut self.tables.course, caller, event);
+        record_in(
+            &mut self.history,
+            &mut self.tables.course,
+            caller,
+            event,
+            memory,
+            &mut self.left,
+        );
         Ok(posting(answer))
     }
 }

@@ -16,7 +16,7 @@ use crate::machine::{Core, Room};
 use crate::tables::Tables;
 use crate::undone::undo;
 use fol_data::Tick;
-use fol_model::{ChunkPos, Entry, Event, State, Task};
+use fol_model::{ChunkPos, Event, PackedEntry, State, Task};
 use std::alloc::AllocError;
 
 impl Core {
@@ -75,7 +75,7 @@ impl Core {
     {
         self.marks.remove(id);
         let event = Event::Begin { worker, region: id };
-        self.history.push_reserved(Entry { by, event });
+        self.history.push_reserved(PackedEntry::light(by, event));
     }
 
     /// Takes the tick of a prepared region back, unchanged since `prepare`. The region is prepared no more, and all is as it was before

@@ -8,9 +8,10 @@ ghost use Rattle.fol_core.specs.Meaning.{Stays};
 ghost use Rattle.fol_core.specs.Quiet.{IsQuiet, Passes, PassesOne, PassesTick};
 
 use crate::agenda::{owes, tidy};
-use crate::machine::{Core, record};
+use crate::entries::record;
+use crate::machine::Core;
 use crate::tables::{Course, MOST, Tables};
-use fol_model::{Entry, Event, Sequence};
+use fol_model::{Event, PackedEntry, Sequence};
 use fol_regions::Regions;
 use fol_store::Store;
 use std::alloc::AllocError;
@@ -77,7 +78,7 @@ fn is_quiet(regions: &Regions, store: &Store, id: u64) -> bool
 }
 
 /// Takes the memory for the Begin and the End of a tick, for a Stop after them, and for the Begins of so many prepared regions.
-fn grow_tick(history: &mut Vec<Entry>, course: &Course, early: u64) -> Result<(), AllocError>
+fn grow_tick(history: &mut Vec<PackedEntry>, course: &Course, early: u64) -> Result<(), AllocError>
     requires few { early < 2 ^ 63 }
     ensures entries { history.new.items ≡ history.old.items }
     ensures len { vec_len history.new ≡ vec_len history.old }

@@ -12,10 +12,11 @@ ghost use Rattle.fol_core.specs.Same.{SameTables};
 ghost use Rattle.fol_core.specs.Ticks.{IsOut, IsReadyToRelease, SameTick};
 
 use crate::ends::end_tick;
-use crate::machine::{Core, Room, record};
+use crate::entries::{Answers, EventBox, record_in};
+use crate::machine::{Core, Room};
 use crate::tables::{MOST, Tables, grow_store, grow_tickets};
 use fol_data::Tick;
-use fol_model::{Accept, Entry};
+use fol_model::PackedEntry;
 use std::alloc::{AllocError, Global};
 
 /// How many parts a region can fall into at most.
@@ -36,7 +37,14 @@ impl Core {
     {
         self.room = None;
         let early = self.marks.count();
-        let accepts = grow_to_end(alloc, &mut self.tables, &mut self.history, tick, early)?;
+        let accepts = grow_to_end(
+            alloc,
+            &mut self.tables,
+            &mut self.history,
+            tick,
+            early,
+            &mut self.left,
+        )?;
         let wishes = tick.log.wishes.len();
         self.room = Some(Room::End { wishes, accepts });
         Ok(())
@@ -86,13 +94,21 @@ impl Core {
             &mut self.history,
             tick,
             early,
+            &mut self.left,
         ) {
             Err(_) => Err(AllocError),
-            Ok(accepts) => {
+            Ok(Answers { accepts, memory }) => {
                 let asked = tick.log.wishes.len() as u64;
                 let worker = tick.worker;
                 let event = end_tick(alloc, &mut self.tables, tick, accepts);
-                record(&mut self.history, &mut self.tables.course, worker, event);
+                record_in(
+                    &mut self.history,
+                    &mut self.tables.course,
+                    worker,
+                    event,
+                    memory,
+                    &mut self.left,
+                );
                 self.tables.course.size += asked;
                 Ok(self.history.len() as u64)
             }
@@ -105,10 +121,11 @@ fn memory_to_end(
     alloc: Global,
     room: Option<Room>,
     tables: &mut Tables,
-    history: &mut Vec<Entry>,
+    history: &mut Vec<PackedEntry>,
     tick: &mut Tick,
     early: u64,
-) -> Result<Vec<Accept>, AllocError>
+    left: &mut Option<EventBox>,
+) -> Result<Answers, AllocError>
     requires few { early < 2 ^ 63 }
     requires there { HasEndRoom room tables.old history.old early }
     ensures same { SameTables tables.old tables.new }
@@ -123,13 +140,13 @@ fn memory_to_end(
 {
     match answers_for(room, tick) {
         Some(accepts) => Ok(accepts),
-        None => grow_to_end(alloc, tables, history, tick, early),
+        None => grow_to_end(alloc, tables, history, tick, early, left),
     }
 }
 
 /// The list for the answers of the End of a tick, where memory was taken for that, and the tick can take in as many things as it has
 /// wishes.
-fn answers_for(room: Option<Room>, tick: &Tick) -> Option<Vec<Accept>>
+fn answers_for(room: Option<Room>, tick: &Tick) -> Option<Answers>
     ensures own { IfSome result (λ accepts.
         room ≡ Some (Room.End (length tick.now.log.wishes) accepts)) }
     ensures things { IsSome result → length tick.now.log.wishes ≤ tick.now.body.chunks.spare }
@@ -154,10 +171,11 @@ fn answers_for(room: Option<Room>, tick: &Tick) -> Option<Vec<Accept>>
 fn grow_to_end(
     alloc: Global,
     tables: &mut Tables,
-    history: &mut Vec<Entry>,
+    history: &mut Vec<PackedEntry>,
     tick: &mut Tick,
     early: u64,
-) -> Result<Vec<Accept>, AllocError>
+    left: &mut Option<EventBox>,
+) -> Result<Answers, AllocError>
     requires few { early < 2 ^ 63 }
     ensures same { SameTables tables.old tables.new }
     ensures tick { SameTick tick.old tick.new }
@@ -175,7 +193,7 @@ fn grow_to_end(
         return Err(AllocError);
     }
     history.reserve(2 + early as usize)?;
-    let accepts = Vec::with_capacity(alloc, asked)?;
+    let accepts = Answers::with_capacity(alloc, left, asked)?;
     tables.regions.reserve(asked as u32 + 1)?;
     grow_store(&mut tables.store, asked as u64, asked as u64 + PARTS)?;
     grow_tickets(&mut tables.tickets)?;

@@ -6,7 +6,7 @@ ghost use Rattle.fol_sections.specs.Places.{number_at};
 ghost use Rattle.fol_core.specs.Same.{SameStock, SameTables};
 ghost use Rattle.fol_core.specs.Room.{HasGrown};
 
-use fol_model::{Entry, Grid};
+use fol_model::{Grid, PackedEntry};
 use fol_regions::Regions;
 use fol_sections::Numbers;
 use fol_store::Store;
@@ -55,7 +55,7 @@ pub(crate) struct Tables {
 
 /// Takes the memory for an entry, for a Stop after it, and for the Begins of so many prepared regions.
 pub(crate) fn grow_history(
-    history: &mut Vec<Entry>,
+    history: &mut Vec<PackedEntry>,
     course: &Course,
     early: u64,
 ) -> Result<(), AllocError>
@@ -77,7 +77,7 @@ pub(crate) fn grow_history(
 /// regions or their places in the stack.
 pub(crate) fn grow(
     tables: &mut Tables,
-    history: &mut Vec<Entry>,
+    history: &mut Vec<PackedEntry>,
     tasks: u64,
     early: u64,
 ) -> Result<(), AllocError>

@@ -5,14 +5,14 @@ ghost use Rattle.fol_events.specs.Told.{Tells, Continues, count_line};
 
 use crate::faults::Fault;
 use crate::lines::{behind_head, count_line, event_line};
-use fol_model::{Entry, Sequence};
+use fol_model::{Entry, PackedEntry, Sequence};
 use std::alloc::{AllocError, Global};
 
 /// What the event lines of a report tell.
 #[derive(Drop)]
 pub enum EventLines {
     /// The history of these entries, each with the number 0 of a seat, since a report does not tell it.
-    Events(Sequence<Entry>),
+    Events(Sequence<PackedEntry>),
     /// This line, counted from 1, is the first that is not as it must be.
     Text(u64),
 }
@@ -27,7 +27,7 @@ fn read_lines(alloc: Global, count: u64, text: &[u8]) -> Result<EventLines, Allo
     for told in 0..count {
         match event_line(alloc, rest) {
             Ok((event, after)) => {
-                entries.push(Entry { by: 0, event })?;
+                entries.push(PackedEntry::new(alloc, Entry { by: 0, event })?)?;
                 rest = after;
             }
             Err(Fault::Unspelled) => return Ok(EventLines::Text(told + 3)),

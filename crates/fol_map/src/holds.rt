@@ -9,8 +9,9 @@ ghost use Rattle.fol_model.specs.declared.places.ChunkPos.{ChunkPos};
 ghost use Rattle.fol_map.specs.Holds.{holds, one_at, ticketed, tickets};
 ghost use Rattle.fol_map.specs.Layouts.{AreHeld};
 ghost use Rattle.fol_map.specs.Counts.{AreCounted, by_place, count_in};
+ghost use Rattle.fol_model.specs.Packed.{event_seen};
 
-use fol_model::{ChunkPos, Entry, Event, Loaded, TaskRow, Unloaded};
+use fol_model::{ChunkPos, EventRef, Loaded, PackedEntry, TaskRow, Unloaded};
 use std::alloc::{AllocError, Global};
 use std::collections::BTreeMap;
 
@@ -57,43 +58,47 @@ fn lower(counts: &mut Counts, chunk: ChunkPos) -> Result<(), AllocError>
 }
 
 /// What an event does to the tickets.
-fn count_event(counts: &mut Counts, event: &Event) -> Result<(), AllocError>
+fn count_event(counts: &mut Counts, event: EventRef) -> Result<(), AllocError>
     requires room { (c : ChunkPos) → count_in counts.old c < 2 ^ 100 }
     requires counted { AreCounted counts.old }
     ensures counted { OnOk result (AreCounted counts.new) }
     ensures tickets { OnOk result ((c : ChunkPos)
-        → count_in counts.new c ≡ ticketed (count_in counts.old) event.now c) }
+        → count_in counts.new c ≡ ticketed (count_in counts.old) (event_seen event) c) }
 {
     match event {
-        Event::Load {
+        EventRef::Load {
             chunk,
             answer: Loaded::Counted,
             ..
-        } => raise(counts, *chunk),
-        Event::Unload {
+        } => raise(counts, chunk),
+        EventRef::Unload {
             chunk,
             answer: Unloaded::Lowered,
             ..
-        } => lower(counts, *chunk),
+        } => lower(counts, chunk),
         _ => Ok(()),
     }
 }
 
 /// The tickets of each chunk after a history.
-fn count_tickets(alloc: Global, history: &[Entry]) -> Result<Counts, AllocError>
+fn count_tickets(alloc: Global, history: &[PackedEntry]) -> Result<Counts, AllocError>
     ensures counted { IfOk result AreCounted }
     ensures tickets { IfOk result (λ m. (c : ChunkPos) → count_in m c ≡ tickets history.now c) }
     ensures small { IfOk result (λ m. (c : ChunkPos) → count_in m c < 2 ^ 64) }
 {
     let mut counts = BTreeMap::new(alloc);
     for entry in history {
-        count_event(&mut counts, &entry.event)?;
+        count_event(&mut counts, entry.event())?;
     }
     Ok(counts)
 }
 
 /// The holds of each chunk after a history with these tasks queued.
-fn count_holds(alloc: Global, history: &[Entry], tasks: &[TaskRow]) -> Result<Counts, AllocError>
+fn count_holds(
+    alloc: Global,
+    history: &[PackedEntry],
+    tasks: &[TaskRow],
+) -> Result<Counts, AllocError>
     ensures counted { IfOk result AreCounted }
     ensures holds { IfOk result (λ m. (c : ChunkPos)
         → count_in m c ≡ holds history.now tasks.now c) }
@@ -118,7 +123,7 @@ fn in_order(alloc: Global, counts: &Counts) -> Result<Vec<ChunkPos>, AllocError>
 /// The chunks that are loaded after a history with these tasks queued, by z, and then by x.
 pub fn loaded_chunks(
     alloc: Global,
-    history: &[Entry],
+    history: &[PackedEntry],
     tasks: &[TaskRow],
 ) -> Result<Vec<ChunkPos>, AllocError>
     ensures { IfOk result (λ chunks. AreHeld (holds history.now tasks.now) chunks.items) }

@@ -1,8 +1,6 @@
 -- The types of the model with an action inside may go to another thread.
 use denote.RattleType.{RattleType}
-use denote.Hole.{as_row}
 use denote.Param.Send.{IsSend, sendable}
-use denote.Param.SendFields.{as_row_send}
 use Rattle.std.proofs.Crossing.{Box-send}
 use Rattle.fol_model.proofs.actions.Nested.TheLaws.TheKnot as knot
 use Rattle.fol_model.proofs.lists.Sequence.TheSendSync as sequences
@@ -15,6 +13,8 @@ use Rattle.fol_model.specs.contracts.events.Event as event
 use Rattle.fol_model.specs.contracts.events.Loaded as loaded
 use Rattle.fol_model.specs.contracts.events.Unloaded as unloaded
 use Rattle.fol_model.specs.contracts.lists.Sequence as sequence
+use Rattle.fol_model.specs.contracts.packed.Packed as packed
+use Rattle.fol_model.specs.contracts.packed.PackedEntry as packed_entry
 use Rattle.fol_model.specs.contracts.places.BlockPos as block
 use Rattle.fol_model.specs.contracts.places.ChunkPos as chunk
 use Rattle.fol_model.specs.contracts.tasks.Ran as ran
@@ -61,8 +61,14 @@ Wish-send = search (sendable, Action-send, ChunkPos-send, BlockPos-send) depth 1
 pub TickLog-send : IsSend (log.the_field).row
 TickLog-send = search (sendable, Ran-send, Wish-send, Sequence-send) depth 14
 
-Event-send : IsSend (event.the_field).row
+pub Event-send : IsSend (event.the_field).row
 Event-send = search (sendable, Action-send, ChunkPos-send, Loaded-send, Unloaded-send, Accept-send, Ran-send, Sequence-send) depth 20
 
 pub Entry-send : IsSend (entry.the_field).row
 Entry-send = search (sendable, Event-send) depth 14
+
+Packed-send : IsSend (packed.the_field).row
+Packed-send = search (sendable, Box-send, Event-send, ChunkPos-send, Loaded-send, Unloaded-send) depth 20
+
+pub PackedEntry-send : IsSend (packed_entry.the_field).row
+PackedEntry-send = search (sendable, Packed-send) depth 14

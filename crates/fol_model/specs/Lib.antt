@@ -13,6 +13,7 @@ pub mod Deed
 pub mod Nesting
 pub mod Limits
 pub mod OpeningParts
+pub mod Packed
 pub mod IsScript
 pub mod ActionStep
 pub mod FlatTick

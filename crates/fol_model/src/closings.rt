@@ -1,6 +1,6 @@
 //! What stands at the end of a history.
 
-use crate::{BlockAt, Entry, Opening, Place, SectionPos, Sequence, State, Task};
+use crate::{BlockAt, Opening, PackedEntry, Place, SectionPos, Sequence, State, Task};
 
 /// A region that is not Dead: its counter, the ticks that it owes, its sections and its loaded chunks.
 #[derive(Clone, Copy, Debug, PartialEq, Eq)]
@@ -52,7 +52,7 @@ pub struct Closing {
     /// The world before its history.
     pub opening: Opening,
     /// All entries, oldest first.
-    pub history: Sequence<Entry>,
+    pub history: Sequence<PackedEntry>,
     /// By id.
     pub regions: Sequence<RegionRow>,
     /// By (z, x).

@@ -15,6 +15,7 @@ mod events;
 mod grids;
 mod lists;
 mod openings;
+mod packed;
 mod places;
 mod regions;
 mod scripts;
@@ -29,6 +30,7 @@ pub use events::{Accept, Entry, Event, Loaded, Unloaded};
 pub use grids::{Grid, section_of};
 pub use lists::Sequence;
 pub use openings::{BlockAt, Opening};
+pub use packed::{EventRef, PackedEntry};
 pub use places::{
     BlockPos, ChunkPos, MOST_SECTIONS, SectionPos, beside, chunk_of, corner, distance,
 };

@@ -16,7 +16,7 @@ ghost use Rattle.fol_offers.specs.Tied.{nothing};
 use crate::offer::Offer;
 use crate::places::Places;
 use fol_core::{Core, Phase, Posting};
-use fol_model::{Action, ChunkPos, Entry, Loaded, Unloaded};
+use fol_model::{Action, ChunkPos, Loaded, PackedEntry, Unloaded};
 use fol_slots::{Keep, KeeperSeat, Slots, SlotsAndSeats, WorkerSeats};
 use std::alloc::{AllocError, Global};
 use std::marker::Model;
@@ -111,7 +111,7 @@ impl Offers {
     }
 
     /// The entries of the core so far.
-    pub fn history(&self) -> &[Entry]
+    pub fn history(&self) -> &[PackedEntry]
         ensures { result.now ≡ self.now.core.history }
     {
         self.core.history()

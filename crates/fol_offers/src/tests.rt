@@ -5,7 +5,7 @@ ghost use Rattle.fol_slots.specs.Table.{slots_id, slot_count};
 
 use crate::{Offer, Offers, OffersAndSeats};
 use fol_core::{Core, Phase};
-use fol_model::{ChunkPos, Entry, Event, Grid, Loaded, Opening, Sequence};
+use fol_model::{ChunkPos, EventRef, Grid, Loaded, Opening, PackedEntry, Sequence};
 use fol_slots::{Claim, Slots, WorkerSeat};
 use std::alloc::Global;
 use std::process::Abort;
@@ -91,9 +91,9 @@ fn claim(rt: &impl Abort, slots: &Slots<Offer>, seat: &mut WorkerSeat<Offer>) ->
 }
 
 /// Whether the entry is the Begin of worker 2 in this region, which seat 0 recorded.
-fn is_learnt(entry: &Entry, region: u64) -> bool {
-    match &entry.event {
-        Event::Begin { worker, region: at } => entry.by == 0 && *worker == 2 && *at == region,
+fn is_learnt(entry: &PackedEntry, region: u64) -> bool {
+    match entry.event() {
+        EventRef::Begin { worker, region: at } => entry.by() == 0 && worker == 2 && at == region,
         _ => false,
     }
 }

@@ -5,7 +5,7 @@ ghost use Rattle.fol_model.specs.Summary.{summary_text};
 ghost use Rattle.fol_report.specs.Tallies.{CountsEvents};
 
 use crate::words::put_number;
-use fol_model::{Accept, BlockAt, Closing, Entry, Event, Loaded};
+use fol_model::{Accept, BlockAt, Closing, EventRef, Loaded, PackedEntry};
 use itoa::Integer;
 use std::alloc::{AllocError, Global};
 
@@ -23,7 +23,7 @@ struct Tally {
 }
 
 /// The counts of a history.
-fn count_events(history: &[Entry]) -> Tally
+fn count_events(history: &[PackedEntry]) -> Tally
     ensures { CountsEvents history.now result }
 {
     let mut tally = Tally {
@@ -33,16 +33,16 @@ fn count_events(history: &[Entry]) -> Tally
         ran: 0,
     };
     for entry in history {
-        match &entry.event {
-            Event::Load {
+        match entry.event() {
+            EventRef::Load {
                 answer: Loaded::Counted,
                 ..
             } => tally.loads += 1,
-            Event::Post {
+            EventRef::Post {
                 answer: Accept::Posted(_),
                 ..
             } => tally.posts += 1,
-            Event::End { ran, .. } => {
+            EventRef::End { ran, .. } => {
                 tally.ticks += 1;
                 tally.ran += ran.len() as u128;
             }

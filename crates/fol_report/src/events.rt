@@ -3,13 +3,14 @@
 ghost use Rattle.std.specs.Prelude.{◌≡◌, [], ◌∷◌, ◌++◌, codes, decimal, flat_map, length, IfOk, string_bytes};
 ghost use Rattle.fol_model.specs.ReportWords.{accept_words, action_words, chunk_words, end_words, entry_words, event_words, loaded_words, ran_words, unloaded_words};
 ghost use Rattle.fol_report.specs.Spaced.{joined, spaced};
+ghost use Rattle.fol_model.specs.Packed.{event_seen};
 
 use crate::actions::put_action;
 use crate::answers::{put_accept, put_all_accepts, put_all_ran, put_loaded, put_unloaded};
 use crate::lines::Line;
 use crate::tail::Tail;
 use crate::words::{push_chunk, put_number};
-use fol_model::{Accept, Action, ChunkPos, Entry, Event, Loaded, Ran, Unloaded};
+use fol_model::{Accept, Action, ChunkPos, EventRef, Loaded, PackedEntry, Ran, Unloaded};
 use std::alloc::AllocError;
 
 /// Puts the line of a begin: one of the two most frequent lines.
@@ -165,50 +166,47 @@ fn put_post(
 }
 
 /// Puts the line of an event without its end.
-fn put_event(out: &mut String, event: &Event) -> Result<(), AllocError>
+fn put_event(out: &mut String, event: EventRef) -> Result<(), AllocError>
     ensures { IfOk result (λ _. string_bytes out.new
-        ≡ string_bytes out.old ++ joined (event_words event.now)) }
+        ≡ string_bytes out.old ++ joined (event_words (event_seen event))) }
 {
     match event {
-        Event::Load {
+        EventRef::Load {
             caller,
             chunk,
             answer,
-        } => put_load(out, *caller, *chunk, *answer),
-        Event::Unload {
+        } => put_load(out, caller, chunk, answer),
+        EventRef::Unload {
             caller,
             chunk,
             answer,
-        } => put_unload(out, *caller, *chunk, *answer),
-        Event::Post {
+        } => put_unload(out, caller, chunk, answer),
+        EventRef::Post {
             caller,
             chunk,
             delay,
             action,
             answer,
-        } => put_post(out, *caller, *chunk, *delay, action, *answer),
-        Event::PhaseOpen(ticks) => write!(out, "open {ticks}"),
-        Event::Begin { worker, region } => put_begin(out, *worker, *region),
-        Event::End {
+        } => put_post(out, caller, chunk, delay, action, answer),
+        EventRef::PhaseOpen(ticks) => write!(out, "open {ticks}"),
+        EventRef::Begin { worker, region } => put_begin(out, worker, region),
+        EventRef::End {
             worker,
             region,
             tick,
             ran,
             accepts,
-        } => {
-            let (ran, accepts) = (ran.as_slice(), accepts.as_slice());
-            put_end(out, *worker, *region, *tick, ran, accepts)
-        }
-        Event::PhaseClose => out.push_str("close"),
-        Event::Finish => out.push_str("finish"),
-        Event::Stop { caller } => write!(out, "stop {caller}"),
+        } => put_end(out, worker, region, tick, ran, accepts),
+        EventRef::PhaseClose => out.push_str("close"),
+        EventRef::Finish => out.push_str("finish"),
+        EventRef::Stop { caller } => write!(out, "stop {caller}"),
     }
 }
 
-impl Line for Entry {
+impl Line for PackedEntry {
     ghost words = { entry_words };
 
     fn put(&self, out: &mut String) -> Result<(), AllocError> {
-        put_event(out, &self.event)
+        put_event(out, self.event())
     }
 }

@@ -8,7 +8,7 @@ ghost use Rattle.fol_report_reader.specs.Reports.{IsBadFoot, IsBadFromBlocks, Is
 use crate::parts::{Fault, read_part};
 use fol_events::{behind_head, is_word};
 use fol_model::{
-    BlockAt, Closing, EntityRow, Entry, Opening, OwnerRow, RegionRow, Sequence, TaskRow,
+    BlockAt, Closing, EntityRow, Opening, OwnerRow, PackedEntry, RegionRow, Sequence, TaskRow,
 };
 use std::alloc::Global;
 
@@ -106,7 +106,7 @@ fn read_regions(alloc: Global, text: &[u8]) -> Result<FromRegions, Fault>
 }
 
 /// What a report has from its events on.
-type FromEvents = (Sequence<Entry>, FromRegions);
+type FromEvents = (Sequence<PackedEntry>, FromRegions);
 
 /// The events and what stands behind them.
 fn read_events(alloc: Global, text: &[u8]) -> Result<FromEvents, Fault>

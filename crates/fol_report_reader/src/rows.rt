@@ -15,8 +15,8 @@ ghost use Rattle.fol_report_reader.specs.Rows.{BlockInRange, EntityInRange, Owne
 use crate::parts::Row;
 use fol_events::{Fault, Words, action, is_word, read_event};
 use fol_model::{
-    Action, BlockAt, ChunkPos, Entity, EntityRow, Entry, OwnerRow, Place, RegionRow, SectionPos,
-    State, Task, TaskRow,
+    Action, BlockAt, ChunkPos, Entity, EntityRow, Entry, OwnerRow, PackedEntry, Place, RegionRow,
+    SectionPos, State, Task, TaskRow,
 };
 use std::alloc::Global;
 
@@ -266,7 +266,7 @@ impl Row for BlockAt {
     }
 }
 
-impl Row for Entry {
+impl Row for PackedEntry {
     ghost use Rattle.fol_model.specs.ReportWords.{entry_words};
     ghost use Rattle.fol_report_reader.specs.Rows.{EntryInRange};
 
@@ -275,8 +275,8 @@ impl Row for Entry {
     ghost InRange = { EntryInRange };
 
     /// With the number 0 of a seat, since a report does not tell it.
-    fn read(alloc: Global, line: &[u8]) -> Result<Entry, Fault> {
+    fn read(alloc: Global, line: &[u8]) -> Result<PackedEntry, Fault> {
         let event = read_event(alloc, line)?;
-        Ok(Entry { by: 0, event })
+        Ok(PackedEntry::new(alloc, Entry { by: 0, event })?)
     }
 }

@@ -2,7 +2,7 @@
 
 use crate::ending::Played;
 use fol_follow::BookEvent;
-use fol_model::{Closing, Event, Place};
+use fol_model::{Closing, EventRef, Place};
 use fol_view::SeenOwner;
 use std::io;
 
@@ -62,7 +62,7 @@ fn print_courier<R: Print>(rt: &R, closing: &Closing) -> io::Result<()> {
 fn count_ticks(closing: &Closing) -> usize {
     let mut ticks = 0usize;
     for entry in closing.history.as_slice() {
-        if let Event::End { .. } = &entry.event {
+        if let EventRef::End { .. } = entry.event() {
             ticks = ticks.saturating_add(1);
         }
     }

@@ -1,7 +1,9 @@
 //! What the reader tells of given reports.
 
 use fol_events::{EventLines, read_events};
-use fol_model::{Accept, Action, BlockPos, ChunkPos, Entry, Event, Loaded, Outcome, Ran, Unloaded};
+use fol_model::{
+    Accept, Action, BlockPos, ChunkPos, EventRef, Loaded, Outcome, PackedEntry, Ran, Unloaded,
+};
 use std::alloc::{AllocError, Global};
 use std::process::Abort;
 
@@ -252,51 +254,45 @@ fn is_end(ran: &[Ran], accepts: &[Accept]) -> bool {
 }
 
 /// Whether this is the event at this place of the session.
-fn is_told(place: usize, event: &Event) -> bool {
+fn is_told(place: usize, event: EventRef) -> bool {
     match event {
-        Event::Load {
+        EventRef::Load {
             caller,
             chunk,
             answer,
-        } => is_load(place, *caller, *chunk, *answer),
-        Event::Unload { caller, answer, .. } => match answer {
-            Unloaded::NoTicket => place == 6 && *caller == 1,
-            Unloaded::Lowered => place == 7 && *caller == 1,
+        } => is_load(place, caller, chunk, answer),
+        EventRef::Unload { caller, answer, .. } => match answer {
+            Unloaded::NoTicket => place == 6 && caller == 1,
+            Unloaded::Lowered => place == 7 && caller == 1,
             Unloaded::Over => false,
         },
-        Event::Post {
+        EventRef::Post {
             caller,
             delay,
             action,
             answer,
             ..
-        } => is_posted(place, *caller, *delay, *answer) && is_action(place, action),
-        Event::PhaseOpen(ticks) => place == 4 && *ticks == 6,
-        Event::Begin { worker, region } => place == 5 && *worker == 1 && *region == u64::MAX,
-        Event::End {
+        } => is_posted(place, caller, delay, answer) && is_action(place, action),
+        EventRef::PhaseOpen(ticks) => place == 4 && ticks == 6,
+        EventRef::Begin { worker, region } => place == 5 && worker == 1 && region == u64::MAX,
+        EventRef::End {
             worker,
             region,
             tick,
             ran,
             accepts,
-        } => {
-            place == 8
-                && *worker == 1
-                && *region == 1
-                && *tick == 4
-                && is_end(ran.as_slice(), accepts.as_slice())
-        }
-        Event::PhaseClose => place == 9,
-        Event::Stop { caller } => place == 10 && *caller == u32::MAX,
-        Event::Finish => place == 12,
+        } => { place == 8 && worker == 1 && region == 1 && tick == 4 && is_end(ran, accepts) }
+        EventRef::PhaseClose => place == 9,
+        EventRef::Stop { caller } => place == 10 && caller == u32::MAX,
+        EventRef::Finish => place == 12,
     }
 }
 
 /// How many of the events are those of the session, up to the first that is not.
-fn count_told(entries: &[Entry]) -> usize {
+fn count_told(entries: &[PackedEntry]) -> usize {
     let mut place = 0usize;
     for entry in entries {
-        if entry.by != 0 || !is_told(place, &entry.event) {
+        if entry.by() != 0 || !is_told(place, entry.event()) {
             return place;
         }
         place = place.wrapping_add(1);

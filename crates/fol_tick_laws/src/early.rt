@@ -10,7 +10,9 @@ use crate::tests::{AWAY, BETWEEN, Busy, ORIGIN};
 use crate::unlisted_is_spared;
 use fol_core::{Core, Posting};
 use fol_data::Tick;
-use fol_model::{Accept, Action, BlockPos, ChunkPos, Entry, Event, Loaded, State, Unloaded};
+use fol_model::{
+    Accept, Action, BlockPos, ChunkPos, EventRef, Loaded, PackedEntry, State, Unloaded,
+};
 use std::alloc::Global;
 use std::process::Abort;
 
@@ -181,62 +183,62 @@ fn begins_after_others(rt: &impl Abort, alloc: Global, core: &mut Core) -> Tick
 }
 
 /// The history has these entries: both regions and the phase, what was done far away, and the tick of region 1.
-fn are_all(rt: &impl Abort, entries: &[Entry]) {
+fn are_all(rt: &impl Abort, entries: &[PackedEntry]) {
     let [first, second, phase, load, post, unload, begin, end] = entries else {
         panic!(rt; "there are eight entries");
     };
-    assert!(rt; is_load(&first.event, ORIGIN));
-    assert!(rt; is_load(&second.event, AWAY));
-    assert!(rt; matches!(phase.event, Event::PhaseOpen(1)));
-    assert!(rt; is_load(&load.event, FAR));
-    assert!(rt; is_post(&post.event));
-    assert!(rt; is_unload(&unload.event));
+    assert!(rt; is_load(first.event(), ORIGIN));
+    assert!(rt; is_load(second.event(), AWAY));
+    assert!(rt; matches!(phase.event(), EventRef::PhaseOpen(1)));
+    assert!(rt; is_load(load.event(), FAR));
+    assert!(rt; is_post(post.event()));
+    assert!(rt; is_unload(unload.event()));
     assert!(rt;
         matches!(
-            begin.event,
-            Event::Begin {
+            begin.event(),
+            EventRef::Begin {
                 worker: 1,
                 region: 1
             }
         )
     );
-    assert!(rt; is_end(&end.event));
+    assert!(rt; is_end(end.event()));
 }
 
 /// A ticket was added to the chunk.
-fn is_load(event: &Event, c: ChunkPos) -> bool {
-    matches!(event, Event::Load { caller: 0, chunk, answer: Loaded::Counted } if *chunk == c)
+fn is_load(event: EventRef, c: ChunkPos) -> bool {
+    matches!(event, EventRef::Load { caller: 0, chunk, answer: Loaded::Counted } if chunk == c)
 }
 
 /// The task far away was posted, under number 1.
-fn is_post(event: &Event) -> bool {
+fn is_post(event: EventRef) -> bool {
     match event {
-        Event::Post {
+        EventRef::Post {
             caller: 0,
             chunk,
             delay: 1,
             action: Action::Set { at, id: 1 },
             answer: Accept::Posted(1),
-        } => *chunk == FAR && *at == THERE,
+        } => chunk == FAR && *at == THERE,
         _ => false,
     }
 }
 
 /// The ticket far away was taken.
-fn is_unload(event: &Event) -> bool {
-    matches!(event, Event::Unload { caller: 0, chunk, answer: Unloaded::Lowered } if *chunk == FAR)
+fn is_unload(event: EventRef) -> bool {
+    matches!(event, EventRef::Unload { caller: 0, chunk, answer: Unloaded::Lowered } if chunk == FAR)
 }
 
 /// The first tick of region 1 was ended by worker 1; no task ran.
-fn is_end(event: &Event) -> bool {
+fn is_end(event: EventRef) -> bool {
     match event {
-        Event::End {
+        EventRef::End {
             worker: 1,
             region: 1,
             tick: 1,
             ran,
             accepts,
-        } => ran.as_slice().is_empty() && accepts.as_slice().is_empty(),
+        } => ran.is_empty() && accepts.is_empty(),
         _ => false,
     }
 }
