@@ -176,7 +176,7 @@ fn ends(history: &[PackedEntry], tick: u64, ran: &Sequence<Ran>, accepts: &Seque
 
 /// Whether the event is an End with this counter, these outcomes and these answers.
 fn is_end_with(event: EventRef, tick: u64, ran: &Sequence<Ran>, accepts: &Sequence<Accept>) -> bool
-    ensures { IsTrue result ↔ EndsWith (event_seen event) tick ran.now accepts.now }
+    ensures { IsTrue result ↔ EndsWith (event_seen event.entry) tick ran.now accepts.now }
 {
     match event {
         EventRef::End {

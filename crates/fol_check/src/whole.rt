@@ -112,7 +112,7 @@ impl Replay {
 
 /// Whether the event is Finish.
 fn is_finish(event: EventRef) -> bool
-    ensures { result ≡ is_last (event_seen event) }
+    ensures { result ≡ is_last (event_seen event.entry) }
 {
     match event {
         EventRef::Finish => true,

@@ -63,7 +63,7 @@ fn count_event(counts: &mut Counts, event: EventRef) -> Result<(), AllocError>
     requires counted { AreCounted counts.old }
     ensures counted { OnOk result (AreCounted counts.new) }
     ensures tickets { OnOk result ((c : ChunkPos)
-        → count_in counts.new c ≡ ticketed (count_in counts.old) (event_seen event) c) }
+        → count_in counts.new c ≡ ticketed (count_in counts.old) (event_seen event.entry) c) }
 {
     match event {
         EventRef::Load {

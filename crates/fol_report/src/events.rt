@@ -168,7 +168,7 @@ fn put_post(
 /// Puts the line of an event without its end.
 fn put_event(out: &mut String, event: EventRef) -> Result<(), AllocError>
     ensures { IfOk result (λ _. string_bytes out.new
-        ≡ string_bytes out.old ++ joined (event_words (event_seen event))) }
+        ≡ string_bytes out.old ++ joined (event_words (event_seen event.entry))) }
 {
     match event {
         EventRef::Load {

@@ -62,12 +62,12 @@ invariant_of-self-in-Ok c =
     let event = told ∙ end_same _ _ _ _ s _ at spares tick.worker in
     let k = release_kept _ _ _ s.stands tick then _ refl c.in-Ok.ensures.ok.core.size c.end_tick-event.new.tables (c.end_tick-event.ensures.ended _ _ s.stands then) c.end_tick-event.ensures.course tick.worker _
     (sym (end_same _ _ _ _ s _ at spares _))
-    (record c.record.new.course { size = c.record.new.course.size + c.len-asked.result }) (sized c.end_tick-event.new.tables.course c.record.new.course c.len-asked.result c.record.ensures.size c.len-asked.ensures) in
+    (record c.record_in.new.course { size = c.record_in.new.course.size + c.len-asked.result }) (sized c.end_tick-event.new.tables.course c.record_in.new.course c.len-asked.result c.record_in.ensures.size c.len-asked.ensures) in
     let all = event_ahead _ _ _ s.runs (record { by = tick.worker; event = end_event (world c.self.inside.opening c.self.inside.history.items) tick.worker tick.region tick.log.ran })
     (not_finished c.self.inside.opening c.self.inside.history.items s.runs.grid s.runs.run tick.region at.ticks) (at.ticks, worker_at _ s.runs.grid _ s.runs.run _ begun, refl, sym at.ran, refl) (end_spares _ _ _ _ s _ at spares tick.worker) _ k in (
-      rw (c.record.ensures.entries, c.in-Ok.ensures.entries, event) all,
+      rw (c.record_in.ensures.entries, c.in-Ok.ensures.entries, event) all,
       rw c.take-room.ensures.after tt,
-      room_left (record c.record.new.course { size = c.record.new.course.size + c.len-asked.result }) _ _ _ _ _ _ c.count-early.ensures.count c.in-Ok.ensures.ok.core.history c.record.ensures.len c.record.ensures.capacity,
+      room_left (record c.record_in.new.course { size = c.record_in.new.course.size + c.len-asked.result }) _ _ _ _ _ _ c.count-early.ensures.count c.in-Ok.ensures.ok.core.history c.record_in.ensures.len c.record_in.ensures.capacity,
       places_left (length tick.log.wishes + 1820) _ _ _ _ c.count-early.ensures.count c.in-Ok.ensures.ok.core.places c.end_tick-event.ensures.stack,
     )
 
@@ -87,6 +87,6 @@ returns-in-Ok-clause-recorded c =
     let spares : (r : ℕ) → mark c.self.inside.marks r ≡ true → wishes_touch (run_down (world c.self.inside.opening c.self.inside.history.items) tick.region tick.log.ran) tick.log.wishes r ≡ false = rw (region, log) given in
     let told = c.end_tick-event.ensures.event _ _ s.stands then ∙ end_same _ _ _ _ s _ at spares tick.worker in
     let event = rw (worker, region, log) at told in
-    let new = c.record.ensures.entries in
+    let new = c.record_in.ensures.entries in
     let old = c.in-Ok.ensures.entries in
     rw (sym v) (record { opening = refl; history = rw (new, old, worker, event) refl; prepared = refl })

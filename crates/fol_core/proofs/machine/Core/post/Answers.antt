@@ -43,7 +43,7 @@ pub invariant_of-self-2 : goal.invariant_of-self-2
 invariant_of-self-2 c =
     let s = same_ahead _ _ _ _ c.self.invariant.0 _ c.in-Ok.ensures.same in
     let off = ap (λ (x : Course). x.finished) c.in-Ok.ensures.same.course ∙ c.if-self.false in (
-      rw (c.record.ensures.entries, c.in-Ok.ensures.entries)
+      rw (c.record_in.ensures.entries, c.in-Ok.ensures.entries)
           (event_ahead _ _ _ s.runs (record { by = c.args.caller; event = Post c.args.caller c.args.c c.args.delay c.args.action c.posted-answer.result }) (sym (finished_is _ _ _ _ s) ∙ off) (
             c.requires.in_range,
             c.requires.delay,
@@ -52,10 +52,10 @@ invariant_of-self-2 c =
             accept_same _ _ _ s.stands c.args.c c.args.delay c.args.action _ c.posted-answer.ensures.answer ∙ posting_same _ _ _ _ s c.args.c,
           ) (rw (← c.self.view_is) at c.requires.spares) _
           (post_kept _ _ _ s.stands c.args.c c.args.delay c.args.action c.requires.in_range c.requires.delay c.requires.action c.requires.may_be_posted
-          c.args.caller c.args.caller c.posted-answer.result c.posted-answer.ensures.answer c.posted-answer.new.tables c.record.new.course c.record.ensures.size off c.in-Ok.ensures.ok.size
+          c.args.caller c.args.caller c.posted-answer.result c.posted-answer.ensures.answer c.posted-answer.new.tables c.record_in.new.course c.record_in.ensures.size off c.in-Ok.ensures.ok.size
           (rw c.in-Ok-copy.ensures at c.posted-answer.ensures.done))),
       tt,
-      room_left c.record.new.course _ _ _ _ _ _ c.count.ensures.count c.in-Ok.ensures.ok.history c.record.ensures.len c.record.ensures.capacity,
+      room_left c.record_in.new.course _ _ _ _ _ _ c.count.ensures.count c.in-Ok.ensures.ok.history c.record_in.ensures.len c.record_in.ensures.capacity,
       places_left 1 _ _ _ _ c.count.ensures.count c.in-Ok.ensures.ok.agenda c.posted-answer.ensures.stack,
     )
 
