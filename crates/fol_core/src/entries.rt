@@ -1,6 +1,6 @@
 //! The entries that a history gets.
 
-ghost use Rattle.std.specs.Prelude.{◌≡◌, ◌+◌, ◌≤◌, ◌<◌, ◌^◌, ◌++◌, [], ◌∷◌, IsTrue, vec_len, vec_capacity};
+ghost use Rattle.std.specs.Prelude.{◌≡◌, ◌+◌, ◌≤◌, ◌<◌, ◌^◌, ◌++◌, [], ◌∷◌, IsTrue, IfOk, vec_len, vec_capacity};
 ghost use Rattle.fol_model.specs.Packed.{is_light};
 
 use crate::tables::Course;

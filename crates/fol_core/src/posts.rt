@@ -18,12 +18,13 @@ ghost use Rattle.fol_core.specs.Meaning.{Stays, world_of};
 ghost use Rattle.fol_core.specs.Posts.{CanQueue, Queues};
 
 use crate::Posting;
-use crate::entries::{event_box, record_in};
+use crate::entries::{EventBox, event_box, record_in};
 use crate::holds::hold;
 use crate::machine::Core;
 use crate::tables::{Tables, grow};
 use fol_model::{Accept, Action, ChunkPos, Event, Task};
 use fol_regions::AddAnswer;
+use std::alloc::{AllocError, Global};
 
 impl Core {
     /// Asks for a task on a chunk, in the `delay`-th tick that the chunk's region then begins; this touches no prepared region. Records
@@ -56,16 +57,9 @@ impl Core {
             Ok(()) => {}
             Err(_) => return Err(action),
         }
-        let copy = match action.copy(self.alloc) {
-            Ok(copy) => copy,
+        let (copy, memory) = match memory_to_post(self.alloc, &mut self.left, &action) {
+            Ok(both) => both,
             Err(_) => return Err(action),
-        };
-        let memory = match event_box(self.alloc, &mut self.left) {
-            Ok(memory) => memory,
-            Err(_) => {
-                drop(copy);
-                return Err(action);
-            }
         };
         let answer = posted(&mut self.tables, c, delay, copy);
         let event = Event::Post {
@@ -85,6 +79,18 @@ impl Core {
         );
         Ok(posting(answer))
     }
+}
+
+/// A copy of the action of a post, and memory for its event.
+fn memory_to_post(
+    alloc: Global,
+    left: &mut Option<EventBox>,
+    action: &Action,
+) -> Result<(Action, EventBox), AllocError>
+    ensures { IfOk result (λ both. both.0 ≡ action.now) }
+{
+    let memory = event_box(alloc, left)?;
+    Ok((action.copy(alloc)?, memory))
 }
 
 /// Accepts a task, where its chunk can be held.

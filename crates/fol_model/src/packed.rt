@@ -1,6 +1,6 @@
 //! The entries of a history, in little memory.
 
-ghost use Rattle.std.specs.Prelude.{◌≡◌, ℕ, List, [], ◌∷◌, IsTrue, IfOk};
+ghost use Rattle.std.specs.Prelude.{◌≡◌, IsTrue, IfOk};
 ghost use Rattle.fol_model.specs.Packed.{event_seen, is_light};
 
 use crate::{Accept, Action, ChunkPos, Entry, Event, Loaded, Ran, Sequence, Unloaded};

@@ -13,7 +13,7 @@ push_reserved-requires c =
 
 pub invariant_of-self : goal.invariant_of-self
 invariant_of-self c = (
-  rw c.push_reserved.ensures.items
+  rw (c.push_reserved.ensures.items, c.light.ensures)
       (learn_ahead _ _ _ c.self.invariant.0.runs c.args.id c.args.by c.args.worker (rw (← c.self.view_is) at c.requires.prepared) (rw (← c.self.view_is) at c.requires.on) _ _ (sym c.remove.ensures.marks) c.self.invariant.0.stands),
   rw c.remove.ensures.length (learnt_room c.self.inside.room c.self.inside.tables _ _ _ _ _ c.self.invariant.1 c.push_reserved.ensures.len c.push_reserved.ensures.capacity c.remove.ensures.count),
   λ x. let room = c.self.invariant.2 x in omega (arith, room, c.push_reserved.ensures.len, c.push_reserved.ensures.capacity, c.remove.ensures.count),

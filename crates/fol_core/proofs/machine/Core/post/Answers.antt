@@ -16,8 +16,8 @@ invariant_of-self c = (
   same_places _ _ _ c.in-Err.ensures.same c.self.invariant.3,
 )
 
-pub invariant_of-self-in-Err-copy : goal.invariant_of-self-in-Err-copy
-invariant_of-self-in-Err-copy c = (
+pub invariant_of-self-in-Err-memory_to_post : goal.invariant_of-self-in-Err-memory_to_post
+invariant_of-self-in-Err-memory_to_post c = (
   rw c.in-Ok.ensures.entries (same_ahead _ _ _ _ c.self.invariant.0 _ c.in-Ok.ensures.same),
   tt,
   same_room _ _ _ _ _ _ _ c.in-Ok.ensures.same.course c.in-Ok.ensures.len c.in-Ok.ensures.capacity c.self.invariant.2,
@@ -53,7 +53,7 @@ invariant_of-self-2 c =
           ) (rw (← c.self.view_is) at c.requires.spares) _
           (post_kept _ _ _ s.stands c.args.c c.args.delay c.args.action c.requires.in_range c.requires.delay c.requires.action c.requires.may_be_posted
           c.args.caller c.args.caller c.posted-answer.result c.posted-answer.ensures.answer c.posted-answer.new.tables c.record_in.new.course c.record_in.ensures.size off c.in-Ok.ensures.ok.size
-          (rw c.in-Ok-copy.ensures at c.posted-answer.ensures.done))),
+          (rw c.in-Ok-memory_to_post.ensures at c.posted-answer.ensures.done))),
       tt,
       room_left c.record_in.new.course _ _ _ _ _ _ c.count.ensures.count c.in-Ok.ensures.ok.history c.record_in.ensures.len c.record_in.ensures.capacity,
       places_left 1 _ _ _ _ c.count.ensures.count c.in-Ok.ensures.ok.agenda c.posted-answer.ensures.stack,
