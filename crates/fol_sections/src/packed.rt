@@ -10,7 +10,7 @@ use std::marker::Model;
 /// What stands in place of the loaded chunks of a section that is not present. A section has at most 1,024.
 const ABSENT: u16 = u16::MAX;
 
-/// What is kept of a section, if it is present. Contracts see an `Option` of its `Counts`, for which a page has no room to spare.
+/// What is kept of a section, if it is present. Contracts see an `Option` of its `Counts`, which would take six bytes.
 #[derive(Clone, Copy)]
 pub struct PackedCounts {
     loaded: u16,
