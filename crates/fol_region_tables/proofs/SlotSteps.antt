@@ -1,6 +1,6 @@
 -- Which slot a region has, and what changes it.
 use Rattle.std.proofs.Common.{zero, suc, [], ◌∷◌, length, set, ◌≡◌, ℕ, ◌<◌, ◌≤◌, refl, sym, ◌∙◌, ap, arith, Bool, true, false, cond, inl, inr}
-use Rattle.std.specs.Prelude.{◌≢◌, nat_eq, Option, Some, None, List}
+use Rattle.std.specs.Prelude.{◌≢◌, nat_eq, Option, Some, None, List, is_some}
 use Rattle.std.specs.List.{slice_index_or}
 use Rattle.std.proofs.lemmas.List.{get_or-set_same, get_or-set_other}
 use Rattle.std.proofs.Math.Path.{fun_ext}
@@ -8,6 +8,7 @@ use Rattle.std.proofs.lemmas.Bool.{cases_Bool, cases_eq, cases_lt, true≢false,
 use Rattle.fol_model.specs.declared.regions.State.{State}
 use Rattle.fol_model.specs.declared.regions.State.TheVariants.{Dead}
 use Rattle.fol_model.specs.Counting.{least}
+use Rattle.fol_model.specs.declared.places.TheConstants.{MOST_SECTIONS}
 use Rattle.fol_model.specs.GridState.{with_state}
 use Rattle.fol_laws.proofs.NumbersBelow.{least-le, least-below, least-passes}
 use Rattle.fol_region_tables.specs.declared.slots.Region.{Region}
@@ -183,7 +184,44 @@ module _ (v w : SlotTable) (same : w.room ≡ v.room) where
             ])
       ])
 
+-- a slot that has a region is a slot
+pub slot_held : (v : SlotTable) (keys : List ℕ) → AreKeys v.regions v.room keys → (id at : ℕ) → at ≡ slot_of v id → is_some (region_at v at) ≡ true → slot_of v id < v.room
+slot_held v keys kept id at is held = elim (cases_lt (slot_of v id) v.room) [
+  | inl l ↦ l
+  | inr l ↦ absurd (true≢false (sym held ∙ ap is_some (kept.within at (omega arith))))
+]
+
 -- ---- the keys
+-- no region is there
+pub keys_none : (regions : List (Option Region)) (room : ℕ) (keys : List ℕ) → regions ≡ [] → MOST_SECTIONS ≤ room → AreKeys regions room keys
+keys_none regions room keys empty most = record {
+  one = λ j k q r e f i. absurd (nobody j q e);
+  found = λ k r e. absurd (nobody k r e);
+  within = λ k l. ap (λ rs. slice_index_or rs k None) empty;
+  most = most;
+}
+  where
+    nobody : (k : ℕ) (r : Region) → slice_index_or regions k None ≡ Some r → ⊥
+    nobody k r e = let x : None ≡ Some r = sym (ap (λ rs. slice_index_or rs k None) empty) ∙ e in absurd (cc)
+
+-- a region leaves its slot
+pub keys_go : (v w : SlotTable) (keys : List ℕ) → AreKeys v.regions v.room keys → w.room ≡ v.room → (at : ℕ) → region_at w at ≡ None → ((k : ℕ) → k ≢ at → region_at w k ≡ region_at v k) → AreKeys w.regions w.room keys
+keys_go v w keys kept same at changed others = record {
+  one = λ j k q r e f i. kept.one j k q r (before j q e) (before k r f) i;
+  found = λ k r e. kept.found k r (before k r e);
+  within = λ k l. elim (cases_eq k at) [
+    | inl x ↦ ap (region_at w) x ∙ changed
+    | inr x ↦ others k x ∙ kept.within k (omega arith)
+  ];
+  most = omega (arith, kept.most);
+}
+  where
+    before : (k : ℕ) (r : Region) → region_at w k ≡ Some r → region_at v k ≡ Some r
+    before k r e = elim (cases_eq k at) [
+      | inl x ↦ let y : None ≡ Some r = sym changed ∙ ap (region_at w) (sym x) ∙ e in absurd (cc)
+      | inr x ↦ sym (others k x) ∙ e
+    ]
+
 -- a region comes into a free slot, and its key leads there
 pub keys_come : (v w : SlotTable) (keys keys' : List ℕ) (at : ℕ) (q : Region) → AreKeys v.regions v.room keys → w.room ≡ v.room → at < v.room → slot_of v q.id ≡ v.room → region_at w at ≡ Some q
     → ((k : ℕ) → k ≢ at → region_at w k ≡ region_at v k) → (key_at keys' q.id ≢ UNKNOWN → key_at keys' q.id ≡ at) → ((m : ℕ) → m ≢ q.id → key_at keys' m ≡ key_at keys m) → AreKeys w.regions w.room keys'

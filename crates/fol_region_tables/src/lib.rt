@@ -10,6 +10,7 @@
 #![tactic(auto)]
 
 mod links;
+mod living;
 mod owners;
 mod pages;
 mod parting;

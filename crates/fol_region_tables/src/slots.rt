@@ -9,6 +9,7 @@ ghost use Rattle.fol_model.specs.declared.regions.State.TheVariants.{Dead};
 ghost use Rattle.fol_model.specs.GridState.{with_state};
 ghost use Rattle.fol_region_tables.specs.SlotKeys.{key_at};
 
+use crate::living::{put_id, take_id};
 use fol_model::{MOST_SECTIONS, State};
 use slab::Slab;
 use std::alloc::{AllocError, Global};
@@ -32,6 +33,8 @@ pub struct Slots {
     regions: Slab<Region>,
     /// By id: the slot of the region. A key counts only where the slot's region has the id, so those of Dead regions stay.
     keys: Vec<u32>,
+    /// The ids of the regions, rising, with memory for as many as there are slots.
+    living: Vec<u64>,
 }
 
 impl Model for Slots {
@@ -39,11 +42,12 @@ impl Model for Slots {
 
     ghost Value = { SlotTable };
 
-    ghost use Rattle.fol_region_tables.specs.SlotKeys.{AreKeys};
+    ghost use Rattle.std.specs.Vec.{vec_capacity};
+    ghost use Rattle.fol_region_tables.specs.SlotKeys.{AreKeys, AreLiving};
 
     ghost view = { λ s. record { regions = s.regions.slots; room = s.regions.capacity } };
 
-    ghost invariant = { λ s. AreKeys s.regions.slots s.regions.capacity s.keys.items };
+    ghost invariant = { λ s. AreKeys s.regions.slots s.regions.capacity s.keys.items × AreLiving (record { regions = s.regions.slots; room = s.regions.capacity }) s.living.items (vec_capacity s.living) };
 }
 
 impl Slots {
@@ -55,9 +59,12 @@ impl Slots {
         ensures none { IfOk result (λ v. (id : ℕ) → slot_of v id ≡ v.room) }
         ensures room { IfOk result (λ v. MOST_SECTIONS ≤ v.room) }
     {
+        let regions = Slab::with_capacity(alloc, MOST_SECTIONS)?;
+        let living = Vec::with_capacity(alloc, regions.capacity())?;
         Ok(Slots {
-            regions: Slab::with_capacity(alloc, MOST_SECTIONS)?,
+            regions,
             keys: Vec::new(alloc),
+            living,
         })
     }
 
@@ -70,7 +77,13 @@ impl Slots {
         regions.reserve(self.regions.capacity() - self.regions.len())?;
         let mut keys = Vec::with_capacity(alloc, self.keys.capacity())?;
         keys.extend_from_slice(&self.keys)?;
-        Ok(Slots { regions, keys })
+        let mut living = Vec::with_capacity(alloc, regions.capacity())?;
+        living.extend_from_slice(&self.living)?;
+        Ok(Slots {
+            regions,
+            keys,
+            living,
+        })
     }
 
     /// Takes memory for the keys of all ids below this. Without it a region is found too, but more slowly.
@@ -149,23 +162,14 @@ impl Slots {
         }
     }
 
-    /// The ids of the regions that have a slot, rising. Goes over the slots up to the last one that has a region.
+    /// The ids of the regions that have a slot, rising. Goes over these alone, and takes memory for them.
     pub fn ids(&self, alloc: Global) -> Result<Vec<u64>, AllocError>
         ensures rising { IfOk result (λ ids. IsStrictlySortedBy nat_cmp ids.items) }
         ensures members { IfOk result (λ ids. (id : ℕ)
             → list_any (nat_eq id) ids.items ≡ nat_lt (slot_of self.now id) self.now.room) }
     {
-        let room = self.regions.capacity();
-        let count = self.regions.len();
-        let mut ids = Vec::with_capacity(alloc, count)?;
-        let mut slot = 0;
-        while slot < room && ids.len() < count {
-            if let Some(region) = self.regions.get(slot) {
-                ids.push(region.id)?;
-            }
-            slot += 1;
-        }
-        ids.sort_unstable();
+        let mut ids = Vec::with_capacity(alloc, self.living.len())?;
+        ids.extend_from_slice(&self.living)?;
         Ok(ids)
     }
 
@@ -195,10 +199,11 @@ impl Slots {
     {
         let slot = self.regions.insert_reserved(Region { id, state });
         put_key(&mut self.keys, id, slot);
+        put_id(&mut self.living, id);
         slot
     }
 
-    /// Takes the slot of a region back, if it has one: the region is Dead.
+    /// Takes the slot of a region back, if it has one: the region is Dead. The ids above it move one place down.
     pub fn remove(&mut self, id: u64)
         ensures slots { slot_of self.new
             ≡ (λ q. if nat_eq id q then self.old.room else slot_of self.old q) }
@@ -206,7 +211,9 @@ impl Slots {
         ensures room { self.new.room ≡ self.old.room }
     {
         let slot = self.find(id);
-        let _ = self.regions.try_remove(slot);
+        if self.regions.try_remove(slot).is_some() {
+            take_id(&mut self.living, id);
+        }
     }
 }
 

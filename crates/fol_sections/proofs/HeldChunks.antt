@@ -19,7 +19,7 @@ use Rattle.fol_sections.specs.declared.pages.Page.{Page}
 use Rattle.fol_sections.proofs.Margins.{section_near}
 use Rattle.fol_sections.proofs.NumberSteps.{chunks_here}
 use Rattle.fol_sections.proofs.Products.{side_some}
-use Rattle.fol_sections.proofs.Rows.{append-none, filter_none}
+use Rattle.fol_sections.proofs.Rows.{append-none}
 use Rattle.fol_sections.proofs.SectionChunks.{section_chunks}
 use Rattle.fol_sections.proofs.Tables.{table, table-loaded}
 
@@ -51,6 +51,14 @@ module _ {X A : Type 0} (f : X → List A) where
     listed_fits all room h fits =
         omega (arith, ap length h, length-append out (flat_map f rest), ap length flat_map_split, length-append (flat_map f part) (flat_map f after), fits)
 
+-- a section with no loaded chunk has no chunk with a hold
+pub listed_none : (grid : Grid) (holds : List ((ℤ × ℤ) × ℕ)) (loaded : ℕ) (s : SectionPos) → IsListed grid holds loaded s → loaded ≡ 0 → held_chunks grid holds s ≡ []
+listed_none grid holds loaded s known e = empty (held_chunks grid holds s) (known.count ∙ e)
+  where
+    empty : (xs : List ChunkPos) → length xs ≡ 0 → xs ≡ []
+    empty [] h = refl
+    empty (x ∷ xs) h = absurd (omega arith)
+
 -- ---- the sections of a table
 module _ (grid : Grid) (holds : List ((ℤ × ℤ) × ℕ)) (pages : List ((ℤ × ℤ) × Page)) where
   module _ (present : ℕ) (kept : IsKept grid holds pages present) where
@@ -60,7 +68,7 @@ module _ (grid : Grid) (holds : List ((ℤ × ℤ) × ℕ)) (pages : List ((ℤ 
 
     pub listed_known : (s : SectionPos) → IsListed grid holds (chunks_at pages s) s
     listed_known s = record {
-      none = λ e. held_are s ∙ filter_none (is_loaded_in grid holds s) all_chunks (sym (kept.chunks s) ∙ e);
+      count = ap length (held_are s) ∙ length-filter (is_loaded_in grid holds s) all_chunks ∙ sym (kept.chunks s);
       near = λ h. section_near s (kept.section_limits s (chunks_here pages s h));
     }
 

@@ -89,3 +89,12 @@ module _ {X : Type 0} where
     rows_part p x z i rows n h =
         let k : rows ≡ i + (rows - i) = omega arith in
         omega (arith, ap (λ m. count_by p (rows_of at x z m n)) k, ap (count_by p) (rows-split x z i (rows - i) n), count_by-append p (rows_of at x z i n) (rows_of at x (z +ℤ pos i) (rows - i) n))
+
+    -- where the first rows have all that pass a test, the others have none
+    pub rows_whole : (p : X → Bool) (x z : ℤ) (i rows n : ℕ) → i ≤ rows → count_by p (rows_of at x z rows n) ≤ count_by p (rows_of at x z i n) → filter p (rows_of at x z rows n) ≡ filter p (rows_of at x z i n)
+    rows_whole p x z i rows n h all =
+        let k : rows ≡ i + (rows - i) = omega arith in
+        let split = ap (λ m. rows_of at x z m n) k ∙ rows-split x z i (rows - i) n in
+        let rest : count_by p (rows_of at x (z +ℤ pos i) (rows - i) n) ≡ 0 = omega (arith, ap (count_by p) split, count_by-append p (rows_of at x z i n) (rows_of at x (z +ℤ pos i) (rows - i) n)) in
+        ap (filter p) split ∙ filter-append p (rows_of at x z i n) (rows_of at x (z +ℤ pos i) (rows - i) n)
+        ∙ ap (λ xs. filter p (rows_of at x z i n) ++ xs) (filter_none p (rows_of at x (z +ℤ pos i) (rows - i) n) rest) ∙ append-none (filter p (rows_of at x z i n))

@@ -1,5 +1,5 @@
 -- What a table of sections keeps: its tables as lists of entries, and how they fit together.
-use Rattle.std.specs.Prelude.{◌≡◌, ℕ, ℤ, pos, ◌*◌, ◌<◌, ◌≤◌, ◌^◌, ◌*ℤ◌, nat_abs, Bool, true, ◌&&◌, nat_lt, List, [], map, filter}
+use Rattle.std.specs.Prelude.{◌≡◌, ℕ, ℤ, pos, ◌*◌, ◌<◌, ◌≤◌, ◌^◌, ◌*ℤ◌, nat_abs, Bool, true, ◌&&◌, nat_lt, List, length, map, filter}
 use Rattle.std.specs.List.{count_by}
 use Rattle.fol_model.specs.declared.places.TheConstants.{MOST_SECTIONS}
 use Rattle.fol_model.specs.declared.places.ChunkPos.{ChunkPos}
@@ -32,9 +32,9 @@ is_loaded_in grid holds s c = is_held holds c && same_section (section_of grid c
 abbrev pub held_chunks : Grid → List ((ℤ × ℤ) × ℕ) → SectionPos → List ChunkPos
 held_chunks grid holds s = filter (is_held holds) (rows_of chunk_at (s.x *ℤ pos (2 ^ grid.shift)) (s.z *ℤ pos (2 ^ grid.shift)) (2 ^ grid.shift) (2 ^ grid.shift))
 
--- a section with so many loaded chunks: one with none has no chunk with a hold, and any other lies within the limits
+-- a section with so many loaded chunks: it has as many chunks with a hold, and where it has one it lies within the limits
 pub record IsListed (grid : Grid) (holds : List ((ℤ × ℤ) × ℕ)) (loaded : ℕ) (s : SectionPos) : Type 0 where
-  pub none : loaded ≡ 0 → held_chunks grid holds s ≡ []
+  pub count : length (held_chunks grid holds s) ≡ loaded
   pub near : 0 < loaded → (nat_abs s.x ≤ 1000008) × (nat_abs s.z ≤ 1000008)
 
 -- the sections near s that hold a loaded chunk

@@ -5,3 +5,4 @@ pub mod Rows
 pub mod Pages
 pub mod Turns
 pub mod Wanted
+pub mod Packed

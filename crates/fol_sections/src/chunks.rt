@@ -60,18 +60,22 @@ fn list_row(holds: &Numbers, out: &mut Vec<ChunkPos>, first: ChunkPos, row: u32,
     }
 }
 
-/// Adds those chunks of a square that have a hold, row by row.
-fn list_square(holds: &Numbers, out: &mut Vec<ChunkPos>, first: ChunkPos, side: u32)
+/// Adds those chunks of a square that have a hold, row by row, which make the list as long as `all`. Looks at no row behind the last of
+/// them.
+fn list_square(holds: &Numbers, out: &mut Vec<ChunkPos>, first: ChunkPos, side: u32, all: usize)
     requires near { (nat_abs first.x ≤ 40000000) × (nat_abs first.z ≤ 40000000) }
     requires few { side ≤ 32 }
-    requires room { length out.old.items
-        + count_by (is_held holds.now.entries) (rows_of chunk_at first.x first.z side side)
-        ≤ vec_capacity out.old }
+    requires all { length out.old.items
+        + count_by (is_held holds.now.entries) (rows_of chunk_at first.x first.z side side) ≡ all }
+    requires room { all ≤ vec_capacity out.old }
     ensures listed { out.new.items ≡ out.old.items
         ++ filter (is_held holds.now.entries) (rows_of chunk_at first.x first.z side side) }
     ensures capacity { vec_capacity out.new ≡ vec_capacity out.old }
 {
     for row in 0..side {
+        if out.len() == all {
+            return;
+        }
         list_row(holds, out, first, row, side);
     }
 }
@@ -93,13 +97,13 @@ fn shift_of(grid: &Grid) -> u8
     grid.shift
 }
 
-/// Adds those chunks of a section that have a hold, row by row.
-pub fn list_section(holds: &Numbers, out: &mut Vec<ChunkPos>, grid: &Grid, s: SectionPos)
+/// Adds those chunks of a section that have a hold, of which there are `n`, row by row.
+pub fn list_section(holds: &Numbers, out: &mut Vec<ChunkPos>, grid: &Grid, s: SectionPos, n: u64)
     requires near { (nat_abs s.x ≤ 1000008) × (nat_abs s.z ≤ 1000008) }
-    requires room { length out.old.items
-        + count_by (is_held holds.now.entries)
+    requires count { count_by (is_held holds.now.entries)
         (rows_of chunk_at (s.x *ℤ pos (2 ^ grid.now.shift)) (s.z *ℤ pos (2 ^ grid.now.shift))
-        (2 ^ grid.now.shift) (2 ^ grid.now.shift)) ≤ vec_capacity out.old }
+        (2 ^ grid.now.shift) (2 ^ grid.now.shift)) ≡ n }
+    requires room { length out.old.items + n ≤ vec_capacity out.old }
     ensures listed { out.new.items ≡ out.old.items
         ++ filter (is_held holds.now.entries)
         (rows_of chunk_at (s.x *ℤ pos (2 ^ grid.now.shift)) (s.z *ℤ pos (2 ^ grid.now.shift))
@@ -107,5 +111,6 @@ pub fn list_section(holds: &Numbers, out: &mut Vec<ChunkPos>, grid: &Grid, s: Se
     ensures capacity { vec_capacity out.new ≡ vec_capacity out.old }
 {
     let shift = shift_of(grid);
-    list_square(holds, out, first_chunk(s, shift), side_of(shift));
+    let all = out.len() + n as usize;
+    list_square(holds, out, first_chunk(s, shift), side_of(shift), all);
 }

@@ -7,6 +7,7 @@ ghost use Rattle.fol_model.specs.declared.places.SectionPos.{SectionPos};
 ghost use Rattle.fol_model.specs.Geometry.{is_among};
 ghost use Rattle.fol_sections.specs.Pages.{AllUsed, HasSection, IsOnPage, counts_at, counts_on, has_page, near_at, near_on, page_of as page};
 
+use crate::packed::PackedCounts;
 use crate::pages::{Page, Pages, is_empty, near_in};
 use fol_model::SectionPos;
 use fol_pages::{page_of, place_of, stretch_len};
@@ -20,7 +21,7 @@ fn clear_on(page: &mut Page, part: &[SectionPos]) -> usize
     let mut dead = 0;
     for s in part {
         if near_in(page, *s) == 0 {
-            page.sections[place_of(*s)] = None;
+            page.sections[place_of(*s)] = PackedCounts::absent();
             dead += 1;
         }
     }

@@ -16,6 +16,7 @@ mod answers;
 mod chunks;
 mod drops;
 mod listings;
+mod packed;
 mod pages;
 mod places;
 mod runs;

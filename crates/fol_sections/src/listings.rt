@@ -25,8 +25,9 @@ fn list_on(page: &Page, holds: &Numbers, grid: &Grid, part: &[SectionPos], out: 
     ensures capacity { vec_capacity out.new ≡ vec_capacity out.old }
 {
     for s in part {
-        if loaded_on(page, *s) > 0 {
-            list_section(holds, out, grid, *s);
+        let n = loaded_on(page, *s);
+        if n > 0 {
+            list_section(holds, out, grid, *s, n);
         }
     }
 }

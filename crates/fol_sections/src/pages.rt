@@ -1,6 +1,7 @@
 //! Present sections in pages of 32 that stand side by side in a row.
 
-ghost use Rattle.std.specs.Prelude.{◌≡◌, ℤ, ◌+◌, ◌<◌, ◌≤◌, not, ◌||◌, false, cond, is_some, Some, None, IsTrue, length};
+ghost use Rattle.std.specs.Prelude.{◌≡◌, ℤ, ◌+◌, ◌<◌, ◌≤◌, ◌^◌, not, ◌||◌, false, cond, is_some, Some, None, IsTrue, length, slice_index_or, slice_set};
+ghost use Rattle.std.specs.Option.{unwrap_or};
 ghost use Rattle.std.specs.List.{All, list_all};
 ghost use Rattle.std.specs.HashMap.{spare};
 ghost use Rattle.fol_model.specs.declared.places.SectionPos.{SectionPos};
@@ -8,6 +9,7 @@ ghost use Rattle.fol_model.specs.Geometry.{is_among, same_section};
 ghost use Rattle.fol_sections.specs.Pages.{AllUsed, HasSection, IsOnPage, counts_at, has_page, is_here, chunks_at, chunks_on, counts_on, near_at, near_on, no_counts, page_of as page};
 ghost use Rattle.fol_sections.specs.Places.{is_same};
 
+use crate::packed::PackedCounts;
 use fol_model::SectionPos;
 use fol_pages::{page_of, place_of};
 use std::collections::HashMap;
@@ -21,10 +23,33 @@ pub struct Counts {
     pub near: u16,
 }
 
-/// 32 sections side by side in a row; `None` for one that is not present.
+/// 32 sections side by side in a row: what is kept of each that is present.
 #[derive(Clone, Copy)]
 pub struct Page {
-    pub sections: [Option<Counts>; 32],
+    pub sections: [PackedCounts; 32],
+}
+
+impl Page {
+    /// What is kept of the section at a place, if it is present.
+    pub fn kept(&self, place: usize) -> Option<Counts>
+        requires { place < 32 }
+        ensures value { result ≡ slice_index_or self.now.sections place None }
+        ensures few { (unwrap_or result no_counts).loaded + 1 < 2 ^ 16 }
+        ensures whole { length self.now.sections ≡ 32 }
+    {
+        self.sections[place].counts()
+    }
+
+    /// Makes the section at a place present, with these numbers.
+    pub fn keep(&mut self, place: usize, counts: Counts)
+        requires place { place < 32 }
+        requires few { counts.loaded + 1 < 2 ^ 16 }
+        ensures kept { self.new
+            ≡ record { sections = slice_set self.old.sections place (Some counts) } }
+        ensures whole { length self.old.sections ≡ 32 }
+    {
+        self.sections[place] = PackedCounts::of(counts);
+    }
 }
 
 /// Pages by their column and row.
@@ -35,7 +60,7 @@ pub fn empty_page() -> Page
     ensures { (q : SectionPos) → is_some (counts_on result q) ≡ false }
 {
     Page {
-        sections: [None; 32],
+        sections: [PackedCounts::absent(); 32],
     }
 }
 
@@ -43,7 +68,7 @@ pub fn empty_page() -> Page
 pub fn near_in(page: &Page, s: SectionPos) -> u32
     ensures { result ≡ near_on page.now s }
 {
-    match page.sections[place_of(s)] {
+    match page.kept(place_of(s)) {
         Some(counts) => counts.near as u32,
         None => 0,
     }
@@ -53,7 +78,7 @@ pub fn near_in(page: &Page, s: SectionPos) -> u32
 pub fn loaded_on(page: &Page, s: SectionPos) -> u64
     ensures { result ≡ chunks_on page.now s }
 {
-    match page.sections[place_of(s)] {
+    match page.kept(place_of(s)) {
         Some(counts) => counts.loaded as u64,
         None => 0,
     }
@@ -64,7 +89,7 @@ pub fn find(pages: &Pages, s: SectionPos) -> Option<Counts>
     ensures { result ≡ counts_at pages.now.entries s }
 {
     match pages.get(&page_of(s)) {
-        Some(page) => page.sections[place_of(s)],
+        Some(page) => page.kept(place_of(s)),
         None => None,
     }
 }
@@ -100,15 +125,16 @@ pub fn near(pages: &Pages, s: SectionPos) -> u32
 }
 
 /// Changes what is kept of a section whose page is there.
-fn write(pages: &mut Pages, s: SectionPos, counts: Option<Counts>)
+fn write(pages: &mut Pages, s: SectionPos, counts: Counts)
     requires there { IsTrue (has_page pages.old.entries (page s.x) s.z) }
+    requires few { counts.loaded + 1 < 2 ^ 16 }
     ensures put { (q : SectionPos) → counts_at pages.new.entries q
-        ≡ cond (same_section s q) counts (counts_at pages.old.entries q) }
+        ≡ cond (same_section s q) (Some counts) (counts_at pages.old.entries q) }
     ensures pages { (x z : ℤ) → has_page pages.new.entries x z ≡ has_page pages.old.entries x z }
     ensures room { spare pages.new ≡ spare pages.old }
 {
     match pages.get_mut(&page_of(s)) {
-        Some(page) => page.sections[place_of(s)] = counts,
+        Some(page) => page.keep(place_of(s), counts),
         None => {}
     }
 }
@@ -119,7 +145,7 @@ fn mark_on(page: &mut Page, part: &[SectionPos])
         ≡ cond (is_among part.now q) (Some no_counts) (counts_on page.old q) }
 {
     for s in part {
-        page.sections[place_of(*s)] = Some(Counts { loaded: 0, near: 0 });
+        page.keep(place_of(*s), Counts { loaded: 0, near: 0 });
     }
 }
 
@@ -158,12 +184,13 @@ pub fn put_stretch(pages: &mut Pages, first: SectionPos, part: &[SectionPos])
 /// Changes the numbers of a present section.
 pub fn change(pages: &mut Pages, s: SectionPos, counts: Counts)
     requires here { IsTrue (is_here pages.old.entries s) }
+    requires few { counts.loaded + 1 < 2 ^ 16 }
     ensures put { (q : SectionPos) → counts_at pages.new.entries q
         ≡ cond (same_section s q) (Some counts) (counts_at pages.old.entries q) }
     ensures room { spare pages.new ≡ spare pages.old }
     ensures used { AllUsed pages.old.entries → AllUsed pages.new.entries }
 {
-    write(pages, s, Some(counts));
+    write(pages, s, counts);
 }
 
 /// Whether a page has no present section.
@@ -171,5 +198,5 @@ pub fn is_empty(page: &Page) -> bool
     ensures value { result ≡ list_all (λ counts. not (is_some counts)) page.now.sections }
     ensures whole { length page.now.sections ≡ 32 }
 {
-    page.sections.iter().all(|counts| counts.is_none())
+    page.sections.iter().all(|counts| counts.is_absent())
 }

@@ -1,6 +1,6 @@
 //! Sections side by side in one page, for which the page is looked up once.
 
-ghost use Rattle.std.specs.Prelude.{◌≡◌, ◌+◌, ◌<◌, ◌≤◌, ◌^◌, not, ◌++◌, IsTrue, is_some, length, nat_abs, pos, ◌+ℤ◌};
+ghost use Rattle.std.specs.Prelude.{◌≡◌, ◌+◌, ◌<◌, ◌≤◌, ◌^◌, not, ◌++◌, IsTrue, None, is_some, length, nat_abs, pos, ◌+ℤ◌};
 ghost use Rattle.std.specs.HashMap.{spare};
 ghost use Rattle.std.specs.Int.{int_rem_euclid};
 ghost use Rattle.std.specs.List.{count_by, filter};
@@ -12,7 +12,7 @@ ghost use Rattle.fol_sections.specs.Rows.{row_of, section_at};
 ghost use Rattle.fol_sections.specs.Turns.{fall, rise};
 ghost use Rattle.fol_sections.specs.Wanted.{is_wanted};
 
-use crate::pages::{Counts, Page, Pages, empty_page};
+use crate::pages::{Counts, Page, Pages};
 use crate::squares::{Wanted, is_wanted};
 use crate::turns::{Turn, turned};
 use fol_model::SectionPos;
@@ -42,9 +42,27 @@ fn find_on(page: &Page, found: &mut Vec<SectionPos>, s: SectionPos, len: u32, wa
 {
     let place = place_of(s);
     for i in 0..len {
-        if is_wanted(page.sections[place + i as usize], wanted) {
-            let _ = found.push(behind(s, i));
+        if is_wanted(page.kept(place + i as usize), wanted) {
+            found.push_reserved(behind(s, i));
         }
+    }
+}
+
+/// Adds those of the sections from one on that are looked for, none of which is present.
+fn find_off(found: &mut Vec<SectionPos>, s: SectionPos, len: u32, wanted: Wanted)
+    requires near { nat_abs s.x ≤ 1000040 }
+    requires few { len ≤ 32 }
+    requires room { length found.old.items + len ≤ vec_capacity found.old }
+    ensures found { found.new.items ≡ found.old.items
+        ++ filter (λ q. is_wanted wanted None) (row_of section_at s.x s.z len) }
+    ensures few { length found.new.items ≤ length found.old.items + len }
+    ensures room { vec_capacity found.old ≤ vec_capacity found.new }
+{
+    if !is_wanted(None, wanted) {
+        return;
+    }
+    for i in 0..len {
+        found.push_reserved(behind(s, i));
     }
 }
 
@@ -61,7 +79,7 @@ pub fn find_run(pages: &Pages, found: &mut Vec<SectionPos>, s: SectionPos, len: 
 {
     match pages.get(&page_of(s)) {
         Some(page) => find_on(page, found, s, len, wanted),
-        None => find_on(&empty_page(), found, s, len, wanted),
+        None => find_off(found, s, len, wanted),
     }
 }
 
@@ -81,13 +99,11 @@ fn turn_on(page: &mut Page, s: SectionPos, len: u32, turn: Turn)
 {
     for i in 0..len {
         let at = place_of(s) + i as usize;
-        match page.sections[at] {
+        match page.kept(at) {
             Some(counts) => {
                 let near = turned(counts.near, turn);
-                page.sections[at] = Some(Counts {
-                    loaded: counts.loaded,
-                    near,
-                });
+                let loaded = counts.loaded;
+                page.keep(at, Counts { loaded, near });
             }
             None => {}
         }

@@ -24,7 +24,7 @@ loop-s-preserved c =
           let whole : 32 ≤ length now.sections = search rules in
           let none : near_on now s ≡ 0 = sym c.near_in.ensures ∙ w.if-near_in-eq0.true in
           let dead : is_dead s ≡ true = eq-eqb _ _ (sym (inv.near s) ∙ none) in
-          rw (w.page-is, w.dead-is) (record {
+          rw (w.page-is, w.dead-is, w.absent.ensures) (record {
             dead = omega (arith, inv.dead, count_by_more_yes is_dead part i origin l dead);
             near = near_cleared first now part i origin l inv.near inv.out whole w.place_of.result w.place_of.ensures.value none;
             out = out_leaves first now part i origin l inv.near inv.out whole w.place_of.result w.place_of.ensures.value none;

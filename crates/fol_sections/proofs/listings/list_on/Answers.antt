@@ -6,10 +6,10 @@ use Rattle.std.proofs.lemmas.List.Sums.{length-filter}
 use Rattle.fol_model.specs.declared.places.SectionPos.{SectionPos}
 use Rattle.fol_sections.specs.Kept.{held_chunks, is_held}
 use Rattle.fol_sections.specs.Rows.{chunk_at, rows_of}
-use Rattle.fol_sections.proofs.HeldChunks.{flat_map_next}
+use Rattle.fol_sections.proofs.HeldChunks.{flat_map_next, listed_none}
 use Rattle.fol_sections.proofs.Rows.{append-none}
 use Rattle.fol_sections.proofs.listings.list_on.Goals as goal
-use Rattle.fol_sections.proofs.listings.list_on.Goals.{then-loaded_on-gt0, else-loaded_on-gt0}
+use Rattle.fol_sections.proofs.listings.list_on.Goals.{then-n-gt0, else-n-gt0}
 
 abbrev origin : SectionPos
 origin = record { x = pos 0; z = pos 0 }
@@ -26,18 +26,24 @@ returns c =
     }
 
 pub list_section-requires-clause-near : goal.list_section-requires-clause-near
-list_section-requires-clause-near c = (c.requires.known c.loop-s.s-index origin c.loop-s-test.true).near (omega (arith, c.loaded_on.ensures, c.if-loaded_on-gt0.true))
+list_section-requires-clause-near c = (c.requires.known c.loop-s.s-index origin c.loop-s-test.true).near (omega (arith, c.loaded_on-n.ensures, c.if-n-gt0.true))
+
+pub list_section-requires-clause-count : goal.list_section-requires-clause-count
+list_section-requires-clause-count c =
+    let s = get_or c.args.part.now c.loop-s.s-index origin in
+    sym (length-filter (is_held c.args.holds.now.entries) (rows_of chunk_at (s.x *ℤ pos (2 ^ c.args.grid.now.shift)) (s.z *ℤ pos (2 ^ c.args.grid.now.shift)) (2 ^ c.args.grid.now.shift) (2 ^ c.args.grid.now.shift)))
+    ∙ (c.requires.known c.loop-s.s-index origin c.loop-s-test.true).count ∙ sym c.loaded_on-n.ensures
 
 pub list_section-requires-clause-room : goal.list_section-requires-clause-room
 list_section-requires-clause-room c =
     let listed = held_chunks c.args.grid.now c.args.holds.now.entries in
-    let s = get_or c.args.part.now c.loop-s.s-index origin in
     omega (
       arith,
       ap length c.loop-s.invariant.listed,
       length-append c.args.out.now.items (flat_map listed (take c.loop-s.s-index c.args.part.now)),
       length-flat_map-take listed c.args.part.now c.loop-s.s-index origin c.loop-s-test.true,
-      length-filter (is_held c.args.holds.now.entries) (rows_of chunk_at (s.x *ℤ pos (2 ^ c.args.grid.now.shift)) (s.z *ℤ pos (2 ^ c.args.grid.now.shift)) (2 ^ c.args.grid.now.shift) (2 ^ c.args.grid.now.shift)),
+      (c.requires.known c.loop-s.s-index origin c.loop-s-test.true).count,
+      c.loaded_on-n.ensures,
       c.loop-s.invariant.capacity,
       c.requires.room,
     )
@@ -48,15 +54,15 @@ loop-s-preserved c =
     let i = c.loop-s.s-index in
     let s = get_or c.args.part.now i origin in
     let more = flat_map_next listed c.args.part.now i origin c.loop-s-test.true in
-    elim c.if-loaded_on-gt0.branch [
-      | then-loaded_on-gt0 w ↦ rw w.out-is (record {
+    elim c.if-n-gt0.branch [
+      | then-n-gt0 w ↦ rw w.out-is (record {
         listed = w.list_section.ensures.listed ∙ ap (λ xs. xs ++ listed s) c.loop-s.invariant.listed
             ∙ append_assoc c.args.out.now.items (flat_map listed (take i c.args.part.now)) (listed s)
             ∙ ap (λ xs. c.args.out.now.items ++ xs) (sym more);
         capacity = w.list_section.ensures.capacity ∙ c.loop-s.invariant.capacity;
       })
-      | else-loaded_on-gt0 w ↦
-          let nothing : listed s ≡ [] = (c.requires.known i origin c.loop-s-test.true).none (omega (arith, c.loaded_on.ensures, w.if-loaded_on-gt0.false)) in
+      | else-n-gt0 w ↦
+          let nothing : listed s ≡ [] = listed_none c.args.grid.now c.args.holds.now.entries _ s (c.requires.known i origin c.loop-s-test.true) (omega (arith, c.loaded_on-n.ensures, w.if-n-gt0.false)) in
           rw w.out-is (record {
             listed = c.loop-s.invariant.listed ∙ ap (λ xs. c.args.out.now.items ++ xs) (sym (more ∙ ap (λ xs. flat_map listed (take i c.args.part.now) ++ xs) nothing ∙ append-none _));
             capacity = c.loop-s.invariant.capacity;

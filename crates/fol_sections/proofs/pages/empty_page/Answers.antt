@@ -5,4 +5,4 @@ use Rattle.fol_sections.proofs.PageSteps.{in_blank}
 use Rattle.fol_sections.proofs.pages.empty_page.Goals as goal
 
 pub returns : goal.returns
-returns c = λ q. ap is_some (in_blank 32 (place_of q))
+returns c = rw c.absent.ensures (λ q. ap is_some (in_blank 32 (place_of q)))

@@ -13,8 +13,8 @@ loop-s-init c = λ q on. refl
 pub loop-s-preserved : goal.loop-s-preserved
 loop-s-preserved c =
     let origin : SectionPos = record { x = pos 0; z = pos 0 } in
-    let whole : 32 ≤ length c.loop-s.page.sections = search rules in
-    marked_more c.args.page.now c.loop-s.page c.args.part.now c.loop-s.s-index origin c.loop-s-test.true whole c.place_of.result c.place_of.ensures.value c.loop-s.invariant
+    let whole : 32 ≤ length c.loop-s.page.sections = omega (arith, c.keep.ensures.whole) in
+    rw c.keep.ensures.kept (marked_more c.args.page.now c.loop-s.page c.args.part.now c.loop-s.s-index origin c.loop-s-test.true whole c.place_of.result c.place_of.ensures.value c.loop-s.invariant)
 
 pub returns : goal.returns
 returns c = λ q on. c.loop-s.invariant q on ∙ ap (λ xs. cond (is_among xs q) (Some no_counts) (counts_on c.args.page.now q)) (grind (arith, common_steps))

@@ -18,27 +18,29 @@ loop-i-init c = record {
   room = omega arith;
 }
 
-pub bounds-page-place : goal.bounds-page-place
-bounds-page-place c = let f = run_few c.args.s c.args.len c.requires.run c.loop-i.i c.loop-i-test.true in omega (arith, f, c.place_of-place.ensures.value)
+pub kept-requires : goal.kept-requires
+kept-requires c = let f = run_few c.args.s c.args.len c.requires.run c.loop-i.i c.loop-i-test.true in omega (arith, f, c.place_of-place.ensures.value)
+
+pub push_reserved-requires : goal.push_reserved-requires
+push_reserved-requires c = omega (arith, c.loop-i.invariant.few, c.loop-i.invariant.room, c.requires.room, c.loop-i-test.true)
 
 pub loop-i-preserved : goal.loop-i-preserved
 loop-i-preserved c =
     let place : SectionPos = section_at (c.args.s.x +ℤ pos c.loop-i.i) c.args.s.z in
     let test = λ (q : SectionPos). is_wanted c.args.wanted (counts_on c.args.page.now q) in
     let at = run_place c.args.s c.args.len c.requires.run c.loop-i.i c.loop-i-test.true in
-    let here : counts_on c.args.page.now place ≡ slice_index_or c.args.page.now.sections (c.place_of-place.result + c.loop-i.i) None
-    = ap (λ n. slice_index_or c.args.page.now.sections n None) (at ∙ ap (λ n. n + c.loop-i.i) (sym c.place_of-place.ensures.value)) in
+    let here : counts_on c.args.page.now place ≡ c.kept.result
+    = ap (λ n. slice_index_or c.args.page.now.sections n None) (at ∙ ap (λ n. n + c.loop-i.i) (sym c.place_of-place.ensures.value)) ∙ sym c.kept.ensures.value in
     elim c.if-is_wanted.branch [
       | then-is_wanted w ↦
           let yes : is_wanted c.args.wanted (counts_on c.args.page.now place) ≡ true = ap (is_wanted c.args.wanted) here ∙ sym w.if-is_wanted.ensures in
-          let ok = w.push.ensures.succeeds (omega (arith, c.loop-i.invariant.few, c.loop-i.invariant.room, c.requires.room, c.loop-i-test.true)) in
-          let items = rw (ok, w.behind.ensures) at w.push.ensures.items in
+          let items = rw w.behind.ensures at w.push_reserved.ensures.items in
           rw w.found-is (record {
             found = items ∙ ap (λ xs. xs ++ place ∷ []) c.loop-i.invariant.found
                 ∙ append_assoc c.args.found.now.items (filter test (row_of section_at c.args.s.x c.args.s.z c.loop-i.i)) (place ∷ [])
                 ∙ ap (λ xs. c.args.found.now.items ++ xs) (sym (filter_yes section_at test c.args.s.x c.args.s.z c.loop-i.i yes));
             few = omega (arith, ap length items, length-append c.loop-i.found.items (place ∷ []), c.loop-i.invariant.few);
-            room = omega (arith, w.push.ensures.capacity, c.loop-i.invariant.room);
+            room = omega (arith, w.push_reserved.ensures.capacity, c.loop-i.invariant.room);
           })
       | else-is_wanted w ↦
           let none : is_wanted c.args.wanted (counts_on c.args.page.now place) ≡ false = ap (is_wanted c.args.wanted) here ∙ sym w.if-is_wanted.ensures in

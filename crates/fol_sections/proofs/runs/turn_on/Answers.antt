@@ -32,8 +32,8 @@ loop-i-init c = record {
   kept = keeps_self c.args.page.now;
 }
 
-pub bounds : goal.bounds
-bounds c = let f = run_few c.args.s c.args.len c.requires.run c.loop-i.i c.loop-i-test.true in omega (arith, f, c.place_of.ensures.value)
+pub kept-requires : goal.kept-requires
+kept-requires c = let f = run_few c.args.s c.args.len c.requires.run c.loop-i.i c.loop-i-test.true in omega (arith, f, c.place_of.ensures.value)
 
 -- the section that is next, and what its page keeps of it
 pub turned-near-requires-clause-low : goal.turned-near-requires-clause-low
@@ -41,7 +41,7 @@ turned-near-requires-clause-low c =
     let place : SectionPos = section_at (c.args.s.x +ℤ pos c.loop-i.i) c.args.s.z in
     let on : IsOnPage c.args.s place = (run_page c.args.s c.args.len c.requires.run c.loop-i.i c.loop-i-test.true, refl) in
     let had : counts_on c.loop-i.page place ≡ Some c.in-Some.counts
-    = ap (λ n. slice_index_or c.loop-i.page.sections n None) (run_place c.args.s c.args.len c.requires.run c.loop-i.i c.loop-i-test.true ∙ ap (λ n. n + c.loop-i.i) (sym c.place_of.ensures.value)) ∙ c.in-Some.is in
+    = ap (λ n. slice_index_or c.loop-i.page.sections n None) (run_place c.args.s c.args.len c.requires.run c.loop-i.i c.loop-i-test.true ∙ ap (λ n. n + c.loop-i.i) (sym c.place_of.ensures.value)) ∙ sym c.kept.ensures.value ∙ c.in-Some.is in
     let near : near_on c.loop-i.page place ≡ c.in-Some.counts.near = ap (λ o. (unwrap_or o no_counts).near) had in
     let so_far : ℕ = count_by (same_section place) (row_of section_at c.args.s.x c.args.s.z c.loop-i.i) in
     let all : ℕ = count_by (same_section place) (row_of section_at c.args.s.x c.args.s.z c.args.len) in
@@ -54,11 +54,17 @@ turned-near-requires-clause-few c =
     let place : SectionPos = section_at (c.args.s.x +ℤ pos c.loop-i.i) c.args.s.z in
     let on : IsOnPage c.args.s place = (run_page c.args.s c.args.len c.requires.run c.loop-i.i c.loop-i-test.true, refl) in
     let had : counts_on c.loop-i.page place ≡ Some c.in-Some.counts
-    = ap (λ n. slice_index_or c.loop-i.page.sections n None) (run_place c.args.s c.args.len c.requires.run c.loop-i.i c.loop-i-test.true ∙ ap (λ n. n + c.loop-i.i) (sym c.place_of.ensures.value)) ∙ c.in-Some.is in
+    = ap (λ n. slice_index_or c.loop-i.page.sections n None) (run_place c.args.s c.args.len c.requires.run c.loop-i.i c.loop-i-test.true ∙ ap (λ n. n + c.loop-i.i) (sym c.place_of.ensures.value)) ∙ sym c.kept.ensures.value ∙ c.in-Some.is in
     let near : near_on c.loop-i.page place ≡ c.in-Some.counts.near = ap (λ o. (unwrap_or o no_counts).near) had in
     let so_far : ℕ = count_by (same_section place) (row_of section_at c.args.s.x c.args.s.z c.loop-i.i) in
     let next = next_place c.args.s c.loop-i.i c.args.len c.loop-i-test.true in
     omega (arith, near, c.loop-i.invariant.near place on, c.requires.high place on, next.0, next.1, rise_few c.args.turn so_far)
+
+pub keep-requires : goal.keep-requires
+keep-requires c =
+    let f = run_few c.args.s c.args.len c.requires.run c.loop-i.i c.loop-i-test.true in
+    let e = ap (λ o. (unwrap_or o no_counts).loaded) c.in-Some.is in
+    record { place = omega (arith, f, c.place_of.ensures.value); few = omega (arith, e, c.kept.ensures.few) }
 
 pub loop-i-preserved : goal.loop-i-preserved
 loop-i-preserved c =
@@ -66,14 +72,14 @@ loop-i-preserved c =
     let on : IsOnPage c.args.s place = (run_page c.args.s c.args.len c.requires.run c.loop-i.i c.loop-i-test.true, refl) in
     let at = run_place c.args.s c.args.len c.requires.run c.loop-i.i c.loop-i-test.true in
     let same : c.place_of.result + c.loop-i.i ≡ place_of place = sym (at ∙ ap (λ n. n + c.loop-i.i) (sym c.place_of.ensures.value)) in
-    elim c.match-page-at.branch [
+    elim c.match-kept.branch [
       | in-Some w ↦
-          let whole : 32 ≤ length c.loop-i.page.sections = search rules in
-          let had : counts_on c.loop-i.page place ≡ Some w.in-Some.counts = ap (λ n. slice_index_or c.loop-i.page.sections n None) (sym same) ∙ w.in-Some.is in
+          let whole : 32 ≤ length c.loop-i.page.sections = omega (arith, c.kept.ensures.whole) in
+          let had : counts_on c.loop-i.page place ≡ Some w.in-Some.counts = ap (λ n. slice_index_or c.loop-i.page.sections n None) (sym same) ∙ sym c.kept.ensures.value ∙ w.in-Some.is in
           let now : Counts = record { loaded = w.in-Some.counts.loaded; near = w.turned-near.result } in
           let turns = step_turns c.loop-i.page whole c.args.s place on (c.place_of.result + c.loop-i.i) same w.in-Some.counts now had c.args.turn w.turned-near.ensures in
           let keeps = step_keeps c.loop-i.page whole c.args.s place on (c.place_of.result + c.loop-i.i) same w.in-Some.counts now had refl in
-          rw w.page-is (record {
+          rw (w.page-is, w.keep.ensures.kept) (record {
             near = λ q here.
                 let so_far : ℕ = count_by (same_section q) (row_of section_at c.args.s.x c.args.s.z c.loop-i.i) in
                 let one : ℕ = cond (same_section q place) 1 0 in
@@ -82,6 +88,6 @@ loop-i-preserved c =
           })
       | in-None w ↦
           let next = next_place c.args.s c.loop-i.i c.args.len c.loop-i-test.true in
-          let none : counts_on c.loop-i.page place ≡ None = ap (λ n. slice_index_or c.loop-i.page.sections n None) (sym same) ∙ w.in-None.is in
+          let none : counts_on c.loop-i.page place ≡ None = ap (λ n. slice_index_or c.loop-i.page.sections n None) (sym same) ∙ sym c.kept.ensures.value ∙ w.in-None.is in
           absurd (true≢false (sym (c.loop-i.invariant.kept.here place ∙ c.requires.here place (omega (arith, next.0, next.1))) ∙ ap is_some none))
     ]

@@ -4,7 +4,7 @@ use Rattle.std.proofs.lemmas.Bool.{true≢false}
 use Rattle.fol_laws.proofs.SamePlaces.{same_section-self}
 use Rattle.fol_sections.specs.Pages.{chunks_at, is_here}
 use Rattle.fol_sections.proofs.NumberSteps.{chunks-are, chunks-put, here-put}
-use Rattle.fol_sections.proofs.TurnSteps.{chunks-turned, near-kept}
+use Rattle.fol_sections.proofs.TurnSteps.{chunks-turned, near-kept, rise_few}
 use Rattle.fol_sections.proofs.sections.count_chunk.Goals as goal
 
 pub turned-loaded-requires-clause-low : goal.turned-loaded-requires-clause-low
@@ -14,7 +14,10 @@ pub turned-loaded-requires-clause-few : goal.turned-loaded-requires-clause-few
 turned-loaded-requires-clause-few c = omega (arith, c.requires.high, chunks-are c.args.pages.now.entries c.args.home c.in-Some.counts (sym c.find.ensures ∙ c.in-Some.is))
 
 pub change-requires : goal.change-requires
-change-requires c = record { here = c.requires.here }
+change-requires c = record {
+  here = c.requires.here;
+  few = omega (arith, c.requires.high, c.turned-loaded.ensures, rise_few c.args.turn 1, chunks-are c.args.pages.now.entries c.args.home c.in-Some.counts (sym c.find.ensures ∙ c.in-Some.is));
+}
 
 pub returns-in-Some-clause-after : goal.returns-in-Some-clause-after
 returns-in-Some-clause-after c =

@@ -10,7 +10,7 @@ pub returns-then-has : goal.returns-then-has
 returns-then-has c =
     let v : SlotTable = record { regions = c.self.inside.regions.slots; room = c.self.inside.regions.capacity } in
     let there = rw (← c.self.view_is) at (sym c.has.ensures ∙ c.if-has.true) in
-    rw (← c.self.view_is) (slot_at v c.self.inside.keys.items c.self.invariant c.args.id c.key_of-key.result there)
+    rw (← c.self.view_is) (slot_at v c.self.inside.keys.items c.self.invariant.0 c.args.id c.key_of-key.result there)
 
 pub returns-else-has : goal.returns-else-has
 returns-else-has c =
@@ -19,4 +19,4 @@ returns-else-has c =
     let known : key_at c.self.inside.keys.items c.args.id ≢ UNKNOWN = λ e. c.if-key.false (key ∙ e) in
     let there = rw (← c.self.view_is) at (sym c.has.ensures ∙ c.if-has.false) in
     let other : has_id c.args.id (region_at v (key_at c.self.inside.keys.items c.args.id)) ≡ false = ap (λ k. has_id c.args.id (region_at v k)) (sym key) ∙ there in
-    rw (← c.self.view_is) (c.capacity.ensures.value ∙ sym (slot_stale v c.self.inside.keys.items c.self.invariant c.args.id known other))
+    rw (← c.self.view_is) (c.capacity.ensures.value ∙ sym (slot_stale v c.self.inside.keys.items c.self.invariant.0 c.args.id known other))

@@ -1,15 +1,35 @@
-use Rattle.std.proofs.Common.{arith}
+use Rattle.std.proofs.Common.{◌<◌, arith}
 use Rattle.fol_region_tables.specs.Slots.{SlotTable}
+use Rattle.fol_region_tables.specs.declared.slots.Region.{Region}
+use Rattle.fol_region_tables.proofs.LiveSlots.{living_absent, living_come}
 use Rattle.fol_region_tables.proofs.SlotSteps.{free_slot, keys_come, slots-come, states-come}
 use Rattle.fol_region_tables.proofs.slots.Slots.insert.Goals as goal
+
+pub put_id-requires : goal.put_id-requires
+put_id-requires c =
+    let v : SlotTable = record { regions = c.self.inside.regions.slots; room = c.self.inside.regions.capacity } in
+    let kept = c.self.invariant.1 in
+    let n = rw (← c.self.view_is) at c.requires.none in
+    let free = rw (← c.self.view_is) at c.requires.some_free in
+    record {
+      rising = kept.rising;
+      new = living_absent v c.self.inside.living.items _ kept c.args.id n;
+      room = omega (arith, kept.count, kept.fits, free);
+    }
 
 pub invariant_of-self : goal.invariant_of-self
 invariant_of-self c =
     let v : SlotTable = record { regions = c.self.inside.regions.slots; room = c.self.inside.regions.capacity } in
     let w : SlotTable = record { regions = c.insert_reserved-slot.new.self.slots; room = c.insert_reserved-slot.new.self.capacity } in
     let n = rw (← c.self.view_is) at c.requires.none in
-    keys_come v w c.self.inside.keys.items c.put_key.new.keys.items c.insert_reserved-slot.result (record { id = c.args.id; state = c.args.state }) c.self.invariant c.insert_reserved-slot.ensures.capacity
-    (omega (arith, c.insert_reserved-slot.ensures.key_in_range, c.insert_reserved-slot.ensures.capacity)) n c.insert_reserved-slot.ensures.updates.changed c.insert_reserved-slot.ensures.updates.others c.put_key.ensures.here c.put_key.ensures.others
+    let within : c.insert_reserved-slot.result < c.self.inside.regions.capacity = omega (arith, c.insert_reserved-slot.ensures.key_in_range, c.insert_reserved-slot.ensures.capacity) in
+    let region : Region = record { id = c.args.id; state = c.args.state } in (
+      keys_come v w c.self.inside.keys.items c.put_key.new.keys.items c.insert_reserved-slot.result region c.self.invariant.0 c.insert_reserved-slot.ensures.capacity
+          within n c.insert_reserved-slot.ensures.updates.changed c.insert_reserved-slot.ensures.updates.others c.put_key.ensures.here c.put_key.ensures.others,
+      living_come v w c.self.inside.living.items _ c.self.invariant.1 c.insert_reserved-slot.ensures.capacity c.put_id.new.ids.items _ c.args.id c.put_id.ensures.rising c.insert_reserved-slot.result n within
+          (slots-come v w c.insert_reserved-slot.ensures.capacity c.insert_reserved-slot.result c.insert_reserved-slot.ensures.updates.others region c.insert_reserved-slot.ensures.updates.changed c.insert_reserved-slot.ensures.was_vacant within n)
+          c.insert_reserved-slot.ensures.len c.put_id.ensures.put (let fits = c.self.invariant.1.fits in omega (arith, c.put_id.ensures.capacity)),
+    )
 
 pub returns-clause-slots : goal.returns-clause-slots
 returns-clause-slots c =

@@ -10,7 +10,7 @@ pub returns-then-has : goal.returns-then-has
 returns-then-has c =
     let v : SlotTable = record { regions = c.self.inside.regions.slots; room = c.self.inside.regions.capacity } in
     let there = rw (← c.self.view_is) at (sym c.has.ensures ∙ c.if-has.true) in
-    rw (← c.self.view_is) (slot_at v c.self.inside.keys.items c.self.invariant c.args.id c.loop-slot.slot there)
+    rw (← c.self.view_is) (slot_at v c.self.inside.keys.items c.self.invariant.0 c.args.id c.loop-slot.slot there)
 
 pub returns : goal.returns
 returns c =

@@ -1,0 +1,80 @@
+//! What a page keeps of a section, in four bytes.
+
+ghost use Rattle.std.specs.Prelude.{◌≡◌, ◌+◌, ◌<◌, ◌^◌, not, None, Some, is_some};
+ghost use Rattle.std.specs.Option.{unwrap_or};
+ghost use Rattle.fol_sections.specs.Pages.{no_counts};
+
+use crate::pages::Counts;
+use std::marker::Model;
+
+/// What stands in place of the loaded chunks of a section that is not present. A section has at most 1,024.
+const ABSENT: u16 = u16::MAX;
+
+/// What is kept of a section, if it is present. Contracts see an `Option` of its `Counts`, which would take six bytes.
+#[derive(Clone, Copy)]
+pub struct PackedCounts {
+    loaded: u16,
+    near: u16,
+}
+
+impl Model for PackedCounts {
+    ghost use Rattle.std.specs.Prelude.{Option};
+    ghost use Rattle.fol_sections.specs.declared.pages.Counts.{Counts};
+
+    ghost Value = { Option Counts };
+
+    ghost use Rattle.fol_sections.specs.Packed.{IsPacked, packed, packs, unpacked};
+
+    ghost view = { unpacked };
+
+    ghost invariant = { IsPacked };
+
+    ghost inverse = { packed };
+
+    ghost inverse_ok = { packs };
+}
+
+impl PackedCounts {
+    /// The section is not present.
+    pub fn absent() -> PackedCounts
+        ensures { result ≡ None }
+    {
+        PackedCounts {
+            loaded: ABSENT,
+            near: 0,
+        }
+    }
+
+    /// The section is present, with these numbers.
+    pub fn of(counts: Counts) -> PackedCounts
+        requires { counts.loaded + 1 < 2 ^ 16 }
+        ensures { result ≡ Some counts }
+    {
+        PackedCounts {
+            loaded: counts.loaded,
+            near: counts.near,
+        }
+    }
+
+    /// The numbers, if the section is present.
+    pub fn counts(self) -> Option<Counts>
+        ensures value { result ≡ self }
+        ensures few { (unwrap_or result no_counts).loaded + 1 < 2 ^ 16 }
+    {
+        if self.loaded == ABSENT {
+            None
+        } else {
+            Some(Counts {
+                loaded: self.loaded,
+                near: self.near,
+            })
+        }
+    }
+
+    /// Whether the section is not present.
+    pub fn is_absent(&self) -> bool
+        ensures { result ≡ not (is_some self.now) }
+    {
+        self.loaded == ABSENT
+    }
+}
