@@ -1,7 +1,7 @@
 -- Places after a step.
 use Rattle.std.proofs.Common.{◌≡◌, ℕ, ℤ, ◌&&◌, ◌||◌, Bool, true, false, List, refl, sym, ◌∙◌, ap, inl, inr, Option, Some, None}
 use Rattle.std.specs.Prelude.{if◌then◌else◌, nat_eq}
-use Rattle.std.specs.Option.{unwrap_or}
+use Rattle.std.specs.Option.{option_map, unwrap_or}
 use Rattle.std.specs.Ordering.{int_eq}
 use Rattle.std.proofs.lemmas.Bool.{cases_Bool, eqb-true}
 use Rattle.fol_keyed.proofs.Places.{same_chunk-true}
@@ -9,7 +9,7 @@ use Rattle.fol_model.specs.declared.places.ChunkPos.{ChunkPos}
 use Rattle.fol_model.specs.Geometry.{same_chunk}
 use Rattle.fol_queues.proofs.Numbers.{nat_self}
 use Rattle.fol_bags.specs.declared.places.Place.{Place}
-use Rattle.fol_bags.specs.Places.{place_at, known_place, nowhere, is_bag, is_number}
+use Rattle.fol_bags.specs.Places.{place_at, known_place, nowhere, is_bag, is_number, rebagged}
 
 -- the test for a bag
 pub is_bag-some : (p : Place) (u : ℕ) → p.bag ≡ Some u → is_bag u p ≡ true
@@ -59,19 +59,31 @@ renamed_twice true c «from» to p = split (is_bag «from» p) refl
     split false e = rw (e, e) (never c)
 
 -- a change at one place
-pub renamed_at : (places : ChunkPos → Place) (c q : ChunkPos) («from» to : ℕ) → is_bag «from» (places c) ≡ true
-    → (if same_chunk c q then record { spot = (places c).spot; bag = Some to } else places q) ≡ renamed (same_chunk c q) «from» to (places q)
-renamed_at places c q «from» to h =
-    elim (cases_Bool (same_chunk c q)) [
-      | inl e ↦ let s : c ≡ q = same_chunk-true c q e in let k : is_bag «from» (places q) ≡ true = ap (λ z. is_bag «from» (places z)) (sym s) ∙ h in
-          rw (e, k) (ap (λ z. let r : Place = record { spot = (places z).spot; bag = Some to } in r) s)
-      | inr e ↦ rw e refl
-    ]
+pub renamed_places : (old new : List ((ℤ × ℤ) × Place)) (c : ChunkPos) («from» to : ℕ)
+    → ((a b : ℤ) → known_place new a b ≡ (if (int_eq c.x a && int_eq c.z b) then option_map (rebagged «from» to) (known_place old c.x c.z) else known_place old a b))
+    → (q : ChunkPos) → place_at (record { rows = new }) q ≡ renamed (same_chunk c q) «from» to (place_at (record { rows = old }) q)
+unfolding place_at same_chunk
+renamed_places old new c «from» to h q =
+    rw (h q.x q.z) (pick (int_eq c.x q.x && int_eq c.z q.z) (known_place old c.x c.z) (known_place old q.x q.z) (λ e. ap (λ (k : ChunkPos). known_place old k.x k.z) (same_chunk-true c q e)))
+  where
+    there : (o : Option Place) → unwrap_or (option_map (rebagged «from» to) o) nowhere ≡ renamed true «from» to (unwrap_or o nowhere)
+    there None = refl
+    there (Some p) = refl
 
--- no change where the chunk has another bag
-pub renamed_not : (places : ChunkPos → Place) (c q : ChunkPos) («from» to : ℕ) → is_bag «from» (places c) ≡ false → places q ≡ renamed (same_chunk c q) «from» to (places q)
-renamed_not places c q «from» to h =
-    elim (cases_Bool (same_chunk c q)) [
-      | inl e ↦ let s : c ≡ q = same_chunk-true c q e in let k : is_bag «from» (places q) ≡ false = ap (λ z. is_bag «from» (places z)) (sym s) ∙ h in rw (e, k) refl
+    pick : (b : Bool) (o r : Option Place) → (b ≡ true → o ≡ r) → unwrap_or (if b then option_map (rebagged «from» to) o else r) nowhere ≡ renamed b «from» to (unwrap_or r nowhere)
+    pick true o r e = there o ∙ ap (λ s. renamed true «from» to (unwrap_or s nowhere)) (e refl)
+    pick false o r e = refl
+
+-- no change where the chunk has no place
+pub none_renamed : (old : List ((ℤ × ℤ) × Place)) (x z : ℤ) («from» to : ℕ) → known_place old x z ≡ None → (a b : ℤ)
+    → known_place old a b ≡ (if (int_eq x a && int_eq z b) then option_map (rebagged «from» to) (known_place old x z) else known_place old a b)
+unfolding same_chunk
+none_renamed old x z «from» to n a b =
+    elim (cases_Bool (int_eq x a && int_eq z b)) [
+      | inl e ↦
+          let here : ChunkPos = record { x = x; z = z } in
+          let there : ChunkPos = record { x = a; z = b } in
+          let same : known_place old x z ≡ known_place old a b = ap (λ (k : ChunkPos). known_place old k.x k.z) (same_chunk-true here there e) in
+          rw e (sym same ∙ n ∙ sym (ap (option_map (rebagged «from» to)) n))
       | inr e ↦ rw e refl
     ]

@@ -31,6 +31,10 @@ is_number n (Some m) = nat_eq n m
 abbrev pub is_bag : ℕ → Place → Bool
 is_bag id p = is_number id p.bag
 
+-- the place after its things went from one bag to another
+abbrev pub rebagged : ℕ → ℕ → Place → Place
+rebagged «from» to p = if is_bag «from» p then record p { bag = Some to } else p
+
 -- the place of a chunk after what lies on the chunks went from one bag to another
 abbrev pub rehomed : List ChunkPos → ℕ → ℕ → ChunkPos → Place → Place
 rehomed chunks «from» to c p = if (is_recorded chunks c && is_bag «from» p) then record p { bag = Some to } else p

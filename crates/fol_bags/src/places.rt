@@ -1,10 +1,11 @@
 //! Where the things of a chunk may lie.
 
 ghost use Rattle.std.specs.Prelude.{◌≡◌, ℤ, ◌&&◌, if◌then◌else◌, OnOk, OnErr};
+ghost use Rattle.std.specs.Option.{option_map};
 ghost use Rattle.std.specs.Ordering.{int_eq};
 ghost use Rattle.fol_model.specs.Geometry.{same_chunk};
 ghost use Rattle.fol_model.specs.declared.places.ChunkPos.{ChunkPos};
-ghost use Rattle.fol_bags.specs.Places.{known_place, is_bag};
+ghost use Rattle.fol_bags.specs.Places.{known_place, is_bag, rebagged};
 
 use fol_model::ChunkPos;
 use std::alloc::{AllocError, Global};
@@ -57,6 +58,27 @@ fn put(rows: &mut Rows, x: i32, z: i32, place: Place) -> Result<(), AllocError>
     match rows.insert((x, z), place) {
         Ok(_) => Ok(()),
         Err(_) => Err(AllocError),
+    }
+}
+
+/// Names another bag, where the place has the bag `from`.
+fn rename_bag(place: &mut Place, from: usize, to: usize)
+    ensures { place.new ≡ rebagged from to place.old }
+{
+    if has_bag(*place, from) {
+        place.bag = Some(to);
+    }
+}
+
+/// Names another bag at the place at these coordinates, if it has the bag `from`.
+fn rename(rows: &mut Rows, x: i32, z: i32, from: usize, to: usize)
+    ensures { (a b : ℤ) → known_place rows.new.entries a b ≡ (if (int_eq x a && int_eq z b)
+        then option_map (rebagged from to) (known_place rows.old.entries x z)
+        else known_place rows.old.entries a b) }
+{
+    match rows.get_mut(&(x, z)) {
+        Some(place) => rename_bag(place, from, to),
+        None => {}
     }
 }
 
@@ -138,16 +160,6 @@ impl Places {
             ≡ (if (same_chunk c q && is_bag from (place_at self.old q))
             then record (place_at self.old q) { bag = Some to } else place_at self.old q) }
     {
-        let place = self.at(c);
-        if has_bag(place, from) {
-            let moved = Place {
-                spot: place.spot,
-                bag: Some(to),
-            };
-            match self.set(c, moved) {
-                Ok(()) => {}
-                Err(_) => unreachable!(),
-            }
-        }
+        rename(&mut self.rows, c.x, c.z, from, to);
     }
 }

@@ -1,5 +1,5 @@
 -- What changes where the list of one chunk changes.
-use Rattle.std.proofs.Common.{◌≡◌, ℕ, ◌+◌, true, false, cond, List, ◌∷◌, sym, ◌∙◌, ap, subst, inl, inr, arith, Option, Some, None}
+use Rattle.std.proofs.Common.{◌≡◌, ℕ, ◌+◌, true, false, cond, List, ◌∷◌, length, sym, ◌∙◌, ap, subst, inl, inr, arith, Option, Some, None}
 use Rattle.std.specs.Prelude.{ℤ, sum_by}
 use Rattle.std.specs.Global.{Vec}
 use Rattle.std.specs.List.{IsDistinct}
@@ -13,7 +13,7 @@ use Rattle.fol_model.specs.declared.openings.BlockAt.{BlockAt}
 use Rattle.fol_model.specs.declared.places.BlockPos.{BlockPos}
 use Rattle.fol_chunks.specs.Cells.{AreCells, IsCell, blocks_at, blocks_in, cell_at, is_astray, items_of, key_at, lies_at, same_key}
 use Rattle.fol_chunks.specs.Weights.{only, stands_at, Clears, OneMore, Puts, SameBlocks}
-use Rattle.fol_chunks.proofs.Weighing.{split}
+use Rattle.fol_chunks.proofs.Weighing.{length_sum, split}
 use Rattle.fol_chunks.proofs.CellSums.{chunk_sum, flat_sum, items_there, key_same, place_sum, weigh}
 
 -- the same lists in another order
@@ -65,6 +65,10 @@ module _ (es fs : List ((ℤ × ℤ) × Vec BlockAt)) (key : ℤ × ℤ) where
   module _ (v w : Vec BlockAt) (there : cell_at es key ≡ Some v) (e : fs ≡ set_value (same_key key) es w) where
     pub written : (f : BlockAt → ℕ) → sum_by f (blocks_in fs) + sum_by f v.items ≡ sum_by f (blocks_in es) + sum_by f w.items
     written f = omega (arith, flat_sum f es, flat_sum f fs, ap (λ l. sum_by (weigh f) (values_of l)) e, sum_by-set_value (weigh f) (same_key key) es v w there)
+
+    -- there are as many more blocks as in the list
+    pub len_written : length (blocks_in fs) + length v.items ≡ length (blocks_in es) + length w.items
+    len_written = omega (arith, written (λ x. 1), length_sum (blocks_in fs), length_sum (blocks_in es), length_sum v.items, length_sum w.items)
 
     at_place : AreCells es → (b : BlockPos) (f : BlockAt → ℕ) → key ≡ key_at b → sum_by (only (stands_at b) f) (blocks_in es) ≡ sum_by (only (stands_at b) f) v.items
     at_place a b f k = place_sum es a key b f k ∙ ap (sum_by (only (stands_at b) f)) (items_there es key v there)

@@ -142,6 +142,9 @@ module _ (es : List ((ℤ × ℤ) × Vec BlockAt)) (a : AreCells es) where
   pub chunk_sum : (key : ℤ × ℤ) (f : BlockAt → ℕ) → sum_by (only (lies_at key) f) (blocks_in es) ≡ sum_by f (blocks_at es key)
   chunk_sum key f = in_cell key (lies_at key) f (λ x t. t) ∙ all_here key (blocks_at es key) (cell_here key) f
 
+  pub len_chunk : (key : ℤ × ℤ) → length (blocks_at es key) ≤ length (blocks_in es)
+  len_chunk key = omega (arith, chunk_sum key (λ x. 1), split (lies_at key) (λ x. 1) (blocks_in es), length_sum (blocks_in es), length_sum (blocks_at es key))
+
   pub chunk_count : (key : ℤ × ℤ) → count_by (lies_at key) (blocks_in es) ≡ length (blocks_at es key)
   chunk_count key = omega (arith, count_is (lies_at key) (blocks_in es), chunk_sum key (λ x. 1), length_sum (blocks_at es key))
 

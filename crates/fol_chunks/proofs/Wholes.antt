@@ -3,7 +3,7 @@ use Rattle.std.proofs.Common.{◌≡◌, ℕ, zero, suc, ◌⊎◌, ◌+◌, ◌
 use Rattle.std.specs.Prelude.{sum_by, nat_lt}
 use Rattle.std.specs.List.{count_by}
 use Rattle.std.proofs.lemmas.Bool.{cases_Bool, eqb-true, ltb-true, ltb-false}
-use Rattle.std.proofs.lemmas.List.Sums.{count_by-le-length, sum_by-append, sum_by-cons}
+use Rattle.std.proofs.lemmas.List.Sums.{sum_by-append, sum_by-cons}
 use Rattle.std.proofs.Math.Path.{fun_ext}
 use Rattle.fol_model.specs.declared.openings.BlockAt.{BlockAt}
 use Rattle.fol_model.specs.declared.places.BlockPos.{BlockPos}
@@ -140,12 +140,6 @@ one_is (x ∷ xs) b full once =
 
 pub one_at_most : (n : ℕ) → one_if_filled n ≤ 1
 one_at_most n = elim (cases_Bool (nat_lt 0 n)) [ inl t ↦ rw t (omega arith) | inr t ↦ rw t (omega arith) ]
-
--- a block with a number is one of all
-pub some : (xs : List BlockAt) (b : BlockPos) → count_by is_bare xs ≡ 0 → sum_by (one_at b) xs ≤ 1 → 0 < block_in xs b → 1 ≤ length xs
-some xs b full once p =
-    let one : one_if_filled (block_in xs b) ≡ 1 = elim (cases_Bool (nat_lt 0 (block_in xs b))) [ inl t ↦ rw t refl | inr t ↦ absurd (omega (arith, ltb-false 0 (block_in xs b) t)) ] in
-    omega (arith, one, one_is xs b full once, count_by-le-length (stands_at b) xs)
 
 pub len_set : (xs ys : List BlockAt) (y : BlockAt) → Sets xs ys y → count_by is_bare xs ≡ 0 → ((q : BlockPos) → sum_by (one_at q) xs ≤ 1) → length ys + one_if_filled (block_in xs y.at) ≡ length xs + one_if_filled y.id
 len_set xs ys y h full once =

@@ -54,15 +54,18 @@ pub fn replace(blocks: &mut Vec<BlockAt>, block: BlockAt) -> bool
     }
 }
 
-/// Gives a block its number where it is there or there is room for it, and says whether it did. Takes no memory.
-pub fn put(blocks: &mut Vec<BlockAt>, block: BlockAt) -> bool
-    requires { IsStrictlySortedBy by_place blocks.old.items }
+/// Gives a block its number where it is there or there is room for it, and says whether it did. `len` counts one that was not there.
+/// Takes no memory.
+pub fn put(blocks: &mut Vec<BlockAt>, block: BlockAt, len: &mut usize) -> bool
+    requires order { IsStrictlySortedBy by_place blocks.old.items }
+    requires few { len.old < usize.MAX }
     ensures order { IsStrictlySortedBy by_place blocks.new.items }
     ensures put { result ≡ true → Puts blocks.old.items blocks.new.items block }
     ensures absent { result ≡ false → count_by (stands_at block.at) blocks.old.items ≡ 0 }
     ensures same { result ≡ false → blocks.new.items ≡ blocks.old.items }
     ensures room { vec_len blocks.old < vec_capacity blocks.old → result ≡ true }
     ensures len { vec_len blocks.new ≤ vec_len blocks.old + 1 }
+    ensures counted { len.new + vec_len blocks.old ≡ len.old + vec_len blocks.new }
     ensures capacity { vec_capacity blocks.new ≡ vec_capacity blocks.old }
 {
     match place_of(blocks, block.at) {
@@ -70,17 +73,19 @@ pub fn put(blocks: &mut Vec<BlockAt>, block: BlockAt) -> bool
             blocks[i] = block;
             true
         }
-        Err(i) => insert_within(blocks, i, block),
+        Err(i) => insert_within(blocks, i, block, len),
     }
 }
 
-/// Gives a block its number where it is there or memory is found for it, and says whether it did.
-pub fn put_or_grow(blocks: &mut Vec<BlockAt>, block: BlockAt) -> bool
-    requires { IsStrictlySortedBy by_place blocks.old.items }
+/// Gives a block its number where it is there or memory is found for it, and says whether it did. `len` counts one that was not there.
+pub fn put_or_grow(blocks: &mut Vec<BlockAt>, block: BlockAt, len: &mut usize) -> bool
+    requires order { IsStrictlySortedBy by_place blocks.old.items }
+    requires few { len.old < usize.MAX }
     ensures order { IsStrictlySortedBy by_place blocks.new.items }
     ensures put { result ≡ true → Puts blocks.old.items blocks.new.items block }
     ensures absent { result ≡ false → count_by (stands_at block.at) blocks.old.items ≡ 0 }
     ensures same { result ≡ false → blocks.new.items ≡ blocks.old.items }
+    ensures counted { len.new + vec_len blocks.old ≡ len.old + vec_len blocks.new }
 {
     match place_of(blocks, block.at) {
         Ok(i) => {
@@ -88,14 +93,18 @@ pub fn put_or_grow(blocks: &mut Vec<BlockAt>, block: BlockAt) -> bool
             true
         }
         Err(i) => match blocks.insert(i, block) {
-            Ok(()) => true,
+            Ok(()) => {
+                *len += 1;
+                true
+            }
             Err(_) => false,
         },
     }
 }
 
-/// Puts a block between others where there is room for it, and says whether there is. Takes no memory.
-fn insert_within(blocks: &mut Vec<BlockAt>, i: usize, block: BlockAt) -> bool
+/// Puts a block between others where there is room for it, and says whether there is. `len` counts it. Takes no memory.
+fn insert_within(blocks: &mut Vec<BlockAt>, i: usize, block: BlockAt, len: &mut usize) -> bool
+    requires few { len.old < usize.MAX }
     requires order { IsStrictlySortedBy by_place blocks.old.items }
     requires place { i ≤ vec_len blocks.old }
     requires absent { IsPartitionPoint (λ x. block_cmp x.at block.at ≡ Less) (λ x.
@@ -105,13 +114,17 @@ fn insert_within(blocks: &mut Vec<BlockAt>, i: usize, block: BlockAt) -> bool
     ensures same { result ≡ false → blocks.new.items ≡ blocks.old.items }
     ensures room { vec_len blocks.old < vec_capacity blocks.old → result ≡ true }
     ensures len { vec_len blocks.new ≤ vec_len blocks.old + 1 }
+    ensures counted { len.new + vec_len blocks.old ≡ len.old + vec_len blocks.new }
     ensures capacity { vec_capacity blocks.new ≡ vec_capacity blocks.old }
 {
     if blocks.len() == blocks.capacity() {
         return false;
     }
     match blocks.insert(i, block) {
-        Ok(()) => true,
+        Ok(()) => {
+            *len += 1;
+            true
+        }
         Err(_) => unreachable!(),
     }
 }
@@ -133,17 +146,20 @@ pub fn add(blocks: &mut Vec<BlockAt>, block: BlockAt) -> Result<(), AllocError>
     }
 }
 
-/// Takes a block out, where it is there.
-pub fn clear(blocks: &mut Vec<BlockAt>, at: BlockPos)
-    requires { IsStrictlySortedBy by_place blocks.old.items }
+/// Takes a block out, where it is there. `len` counts it no more.
+pub fn clear(blocks: &mut Vec<BlockAt>, at: BlockPos, len: &mut usize)
+    requires order { IsStrictlySortedBy by_place blocks.old.items }
+    requires counted { vec_len blocks.old ≤ len.old }
     ensures order { IsStrictlySortedBy by_place blocks.new.items }
     ensures cleared { Clears blocks.old.items blocks.new.items at }
     ensures len { vec_len blocks.new ≤ vec_len blocks.old }
+    ensures counted { len.new + vec_len blocks.old ≡ len.old + vec_len blocks.new }
     ensures capacity { vec_capacity blocks.new ≡ vec_capacity blocks.old }
 {
     match place_of(blocks, at) {
         Ok(i) => {
             let _ = blocks.remove(i);
+            *len -= 1;
         }
         Err(_) => {}
     }

@@ -9,7 +9,7 @@ ghost use Rattle.fol_model.specs.ActionStep.{at_block};
 ghost use Rattle.fol_model.specs.World.{block_in};
 ghost use Rattle.fol_keyed.specs.Order.{chunk_cmp};
 ghost use Rattle.fol_chunks.specs.Weights.{SameBlocks, Puts, Clears, Sets, only, one_at, stands_at, lies_in, lies_outside};
-ghost use Rattle.fol_chunks.specs.Kept.{blocks_of, room_of, one_if_filled, AreLaid, IsKept};
+ghost use Rattle.fol_chunks.specs.Kept.{blocks_of, room_of, AreLaid, IsKept};
 
 use crate::cells::{self, Cells, key_around};
 use crate::{block_list, moves};
@@ -152,18 +152,19 @@ impl Blocks {
         ensures len { length (blocks_of self.new) ≤ length (blocks_of self.old) + 1 }
         ensures room { room_of self.old ≤ room_of self.new + 1 }
     {
-        let was = self.number_at(block.at);
         self.change(block);
-        self.len = recount(self.len, was, block.id);
     }
 
-    /// Gives a block its number, or takes it out, and counts what was there still.
+    /// Gives a block its number, or takes it out.
     fn change(&mut self, block: BlockAt)
         requires laid { AreLaid self.old }
+        requires len { self.old.len ≡ length (blocks_of self.old) }
+        requires few { self.old.len < usize.MAX }
         requires room { vec_len self.old.fresh < vec_capacity self.old.fresh }
         ensures laid { AreLaid self.new }
         ensures set { Sets (blocks_of self.old) (blocks_of self.new) block }
-        ensures len { self.new.len ≡ self.old.len }
+        ensures counted { self.new.len + length (blocks_of self.old)
+            ≡ self.old.len + length (blocks_of self.new) }
         ensures fresh_len { vec_len self.new.fresh ≤ vec_len self.old.fresh + 1 }
         ensures capacity { vec_capacity self.new.fresh ≡ vec_capacity self.old.fresh }
     {
@@ -174,27 +175,31 @@ impl Blocks {
         }
     }
 
-    /// Takes a block out, where it is there, and counts it still.
+    /// Takes a block out, where it is there.
     fn clear(&mut self, at: BlockPos)
-        requires { AreLaid self.old }
+        requires laid { AreLaid self.old }
+        requires counted { length (blocks_of self.old) ≤ self.old.len }
         ensures laid { AreLaid self.new }
         ensures cleared { Clears (blocks_of self.old) (blocks_of self.new) at }
-        ensures len { self.new.len ≡ self.old.len }
+        ensures counted { self.new.len + length (blocks_of self.old)
+            ≡ self.old.len + length (blocks_of self.new) }
         ensures fresh_len { vec_len self.new.fresh ≤ vec_len self.old.fresh }
         ensures capacity { vec_capacity self.new.fresh ≡ vec_capacity self.old.fresh }
     {
-        cells::clear(&mut self.cells, key_around(at), at);
-        block_list::clear(&mut self.fresh, at);
+        cells::clear(&mut self.cells, key_around(at), at, &mut self.len);
+        block_list::clear(&mut self.fresh, at, &mut self.len);
     }
 
-    /// Gives a block its number, and does not count it yet.
+    /// Gives a block its number.
     fn put(&mut self, block: BlockAt)
         requires laid { AreLaid self.old }
         requires filled { 0 < block.id }
+        requires few { self.old.len < usize.MAX }
         requires room { vec_len self.old.fresh < vec_capacity self.old.fresh }
         ensures laid { AreLaid self.new }
         ensures put { Puts (blocks_of self.old) (blocks_of self.new) block }
-        ensures len { self.new.len ≡ self.old.len }
+        ensures counted { self.new.len + length (blocks_of self.old)
+            ≡ self.old.len + length (blocks_of self.new) }
         ensures fresh_len { vec_len self.new.fresh ≤ vec_len self.old.fresh + 1 }
         ensures capacity { vec_capacity self.new.fresh ≡ vec_capacity self.old.fresh }
     {
@@ -208,19 +213,27 @@ impl Blocks {
     fn put_settled(&mut self, block: BlockAt)
         requires laid { AreLaid self.old }
         requires filled { 0 < block.id }
+        requires few { self.old.len < usize.MAX }
         requires absent { count_by (stands_at block.at) self.old.fresh.items ≡ 0 }
         requires room { vec_len self.old.fresh < vec_capacity self.old.fresh }
         ensures laid { AreLaid self.new }
         ensures put { Puts (blocks_of self.old) (blocks_of self.new) block }
-        ensures len { self.new.len ≡ self.old.len }
+        ensures counted { self.new.len + length (blocks_of self.old)
+            ≡ self.old.len + length (blocks_of self.new) }
         ensures fresh_len { vec_len self.new.fresh ≤ vec_len self.old.fresh + 1 }
         ensures capacity { vec_capacity self.new.fresh ≡ vec_capacity self.old.fresh }
     {
         let alloc = *self.fresh.allocator();
-        if cells::put(&mut self.cells, alloc, key_around(block.at), block) {
+        if cells::put(
+            &mut self.cells,
+            alloc,
+            key_around(block.at),
+            block,
+            &mut self.len,
+        ) {
             return;
         }
-        let _ = block_list::put(&mut self.fresh, block);
+        let _ = block_list::put(&mut self.fresh, block, &mut self.len);
     }
 
     /// Moves the blocks that lie in the chunks, which stand by z, and then by x. Takes no memory.
@@ -246,18 +259,5 @@ impl Blocks {
             + moves::move_cells(&mut self.cells, chunks, &mut into.cells, &mut into.fresh);
         self.len -= moved;
         into.len += moved;
-    }
-}
-
-/// How many blocks there are after one of them got another number.
-fn recount(len: usize, old: u16, new: u16) -> usize
-    requires counted { 0 < old → 1 ≤ len }
-    requires room { 0 < new → len < usize.MAX }
-    ensures { result + one_if_filled old ≡ len + one_if_filled new }
-{
-    match (old == 0, new == 0) {
-        (true, false) => len + 1,
-        (false, true) => len - 1,
-        _ => len,
     }
 }

@@ -1,6 +1,6 @@
 //! The blocks of a region by chunk.
 
-ghost use Rattle.std.specs.Prelude.{◌≡◌, ◌<◌, ◌++◌, true, false, None, OnOk, OnErr, length, [], count_by};
+ghost use Rattle.std.specs.Prelude.{◌≡◌, ◌+◌, ◌≤◌, ◌<◌, ◌++◌, true, false, None, OnOk, OnErr, length, [], count_by};
 ghost use Rattle.std.specs.List.Sorted.{IsStrictlySortedBy};
 ghost use Rattle.fol_model.specs.World.{block_in};
 ghost use Rattle.fol_keyed.specs.Order.{chunk_cmp};
@@ -75,10 +75,18 @@ pub fn add_to(cells: &Cells, list: &mut Vec<BlockAt>) -> Result<(), AllocError>
     Ok(())
 }
 
-/// Gives a block its number where it is there or memory is found for it in its chunk's list, and says whether it did.
-pub fn put(cells: &mut Cells, alloc: Global, key: (i32, i32), block: BlockAt) -> bool
+/// Gives a block its number where it is there or memory is found for it in its chunk's list, and says whether it did. `len` counts one
+/// that was not there.
+pub fn put(
+    cells: &mut Cells,
+    alloc: Global,
+    key: (i32, i32),
+    block: BlockAt,
+    len: &mut usize,
+) -> bool
     requires cells { AreCells cells.old.entries }
     requires key { key ≡ key_at block.at }
+    requires few { len.old < usize.MAX }
     ensures cells { AreCells cells.new.entries }
     ensures put { result ≡ true
         → Puts (blocks_in cells.old.entries) (blocks_in cells.new.entries) block }
@@ -86,26 +94,40 @@ pub fn put(cells: &mut Cells, alloc: Global, key: (i32, i32), block: BlockAt) ->
         → count_by (stands_at block.at) (blocks_in cells.old.entries) ≡ 0 }
     ensures same { result ≡ false
         → SameBlocks (blocks_in cells.old.entries) (blocks_in cells.new.entries) }
+    ensures counted { len.new + length (blocks_in cells.old.entries)
+        ≡ len.old + length (blocks_in cells.new.entries) }
 {
     match cells.get_mut(&key) {
-        Some(cell) => block_list::put_or_grow(cell, block),
-        None => put_first(cells, alloc, key, block),
+        Some(cell) => block_list::put_or_grow(cell, block, len),
+        None => put_first(cells, alloc, key, block, len),
     }
 }
 
-/// Gives the first block of a chunk its number where memory is found for it, and says whether it did.
-fn put_first(cells: &mut Cells, alloc: Global, key: (i32, i32), block: BlockAt) -> bool
+/// Gives the first block of a chunk its number where memory is found for it, and says whether it did. `len` counts it.
+fn put_first(
+    cells: &mut Cells,
+    alloc: Global,
+    key: (i32, i32),
+    block: BlockAt,
+    len: &mut usize,
+) -> bool
     requires cells { AreCells cells.old.entries }
     requires key { key ≡ key_at block.at }
+    requires few { len.old < usize.MAX }
     requires none { cell_at cells.old.entries key ≡ None }
     ensures cells { AreCells cells.new.entries }
     ensures put { result ≡ true
         → Puts (blocks_in cells.old.entries) (blocks_in cells.new.entries) block }
     ensures same { result ≡ false
         → SameBlocks (blocks_in cells.old.entries) (blocks_in cells.new.entries) }
+    ensures counted { len.new + length (blocks_in cells.old.entries)
+        ≡ len.old + length (blocks_in cells.new.entries) }
 {
     match open(cells, alloc, key, block) {
-        Ok(()) => true,
+        Ok(()) => {
+            *len += 1;
+            true
+        }
         Err(_) => false,
     }
 }
@@ -151,31 +173,37 @@ fn open(cells: &mut Cells, alloc: Global, key: (i32, i32), block: BlockAt) -> Re
     }
 }
 
-/// Takes a block out of the list of its chunk, and says whether the list is empty then.
-fn take_out(cells: &mut Cells, key: (i32, i32), at: BlockPos) -> bool
+/// Takes a block out of the list of its chunk, and says whether the list is empty then. `len` counts it no more.
+fn take_out(cells: &mut Cells, key: (i32, i32), at: BlockPos, len: &mut usize) -> bool
     requires cells { AreCells cells.old.entries }
     requires key { key ≡ key_at at }
+    requires counted { length (blocks_in cells.old.entries) ≤ len.old }
     ensures cells { AreCells cells.new.entries }
     ensures cleared { Clears (blocks_in cells.old.entries) (blocks_in cells.new.entries) at }
+    ensures counted { len.new + length (blocks_in cells.old.entries)
+        ≡ len.old + length (blocks_in cells.new.entries) }
     ensures empty { result ≡ true → blocks_at cells.new.entries key ≡ [] }
 {
     match cells.get_mut(&key) {
         Some(cell) => {
-            block_list::clear(cell, at);
+            block_list::clear(cell, at, len);
             cell.is_empty()
         }
         None => false,
     }
 }
 
-/// Takes a block out, where it is there. Takes no memory.
-pub fn clear(cells: &mut Cells, key: (i32, i32), at: BlockPos)
+/// Takes a block out, where it is there. `len` counts it no more. Takes no memory.
+pub fn clear(cells: &mut Cells, key: (i32, i32), at: BlockPos, len: &mut usize)
     requires cells { AreCells cells.old.entries }
     requires key { key ≡ key_at at }
+    requires counted { length (blocks_in cells.old.entries) ≤ len.old }
     ensures cells { AreCells cells.new.entries }
     ensures cleared { Clears (blocks_in cells.old.entries) (blocks_in cells.new.entries) at }
+    ensures counted { len.new + length (blocks_in cells.old.entries)
+        ≡ len.old + length (blocks_in cells.new.entries) }
 {
-    if take_out(cells, key, at) {
+    if take_out(cells, key, at, len) {
         let _ = cells.remove(&key);
     }
 }

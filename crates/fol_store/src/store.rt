@@ -269,8 +269,14 @@ impl Store {
             Ok(rows) => rows,
             Err(_) => return Err(AllocError),
         };
-        sorting::sort_blocks(&mut rows.blocks);
-        sorting::sort_entities(&mut rows.entities);
+        match sorting::sort_blocks(&mut rows.blocks) {
+            Ok(()) => {}
+            Err(_) => return Err(AllocError),
+        }
+        match sorting::sort_entities(&mut rows.entities) {
+            Ok(()) => {}
+            Err(_) => return Err(AllocError),
+        }
         sorting::sort_tasks(&mut rows.tasks);
         Ok(rows)
     }

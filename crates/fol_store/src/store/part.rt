@@ -192,7 +192,7 @@ impl Store {
     {
         let list = ChunkList::of(chunks);
         for c in own {
-            if has_bag(self.places.at(*c), id) && !list.has(*c) {
+            if !list.has(*c) && has_bag(self.places.at(*c), id) {
                 return false;
             }
         }

@@ -4,12 +4,12 @@ use Rattle.fol_chunks.proofs.block_list.put.Goals as goal
 pub returns-in-Ok-clause-order : goal.returns-in-Ok-clause-order
 returns-in-Ok-clause-order c =
     let found : Found c.args.blocks.now.items c.args.block.at c.in-Ok.i = rw c.deref.ensures.value at c.in-Ok.ensures in
-    order_replaced c.args.blocks.now.items c.in-Ok.i c.args.block c.requires found
+    order_replaced c.args.blocks.now.items c.in-Ok.i c.args.block c.requires.order found
 
 pub returns-in-Ok-clause-put : goal.returns-in-Ok-clause-put
 returns-in-Ok-clause-put c = λ t.
     let found : Found c.args.blocks.now.items c.args.block.at c.in-Ok.i = rw c.deref.ensures.value at c.in-Ok.ensures in
-    replaced c.args.blocks.now.items c.in-Ok.i c.args.block c.requires found
+    replaced c.args.blocks.now.items c.in-Ok.i c.args.block c.requires.order found
 
 pub returns-in-Err-clause-put : goal.returns-in-Err-clause-put
 returns-in-Err-clause-put c = λ t.

@@ -6,17 +6,17 @@ use Rattle.fol_chunks.proofs.block_list.put_or_grow.Goals as goal
 pub returns-in-Ok-clause-order : goal.returns-in-Ok-clause-order
 returns-in-Ok-clause-order c =
     let found : Found c.args.blocks.now.items c.args.block.at c.in-Ok.i = rw c.deref.ensures.value at c.in-Ok.ensures in
-    order_replaced c.args.blocks.now.items c.in-Ok.i c.args.block c.requires found
+    order_replaced c.args.blocks.now.items c.in-Ok.i c.args.block c.requires.order found
 
 pub returns-in-Ok-clause-put : goal.returns-in-Ok-clause-put
 returns-in-Ok-clause-put c = λ t.
     let found : Found c.args.blocks.now.items c.args.block.at c.in-Ok.i = rw c.deref.ensures.value at c.in-Ok.ensures in
-    replaced c.args.blocks.now.items c.in-Ok.i c.args.block c.requires found
+    replaced c.args.blocks.now.items c.in-Ok.i c.args.block c.requires.order found
 
 pub returns-in-Ok-insert-clause-order : goal.returns-in-Ok-insert-clause-order
 returns-in-Ok-insert-clause-order c =
     let lacking : Lacking c.args.blocks.now.items c.args.block.at c.in-Err.i = rw c.deref.ensures.value at c.in-Err.ensures in
-    rw c.in-Ok-insert.ensures.items (order_inserted c.args.blocks.now.items c.in-Err.i c.args.block c.requires lacking)
+    rw c.in-Ok-insert.ensures.items (order_inserted c.args.blocks.now.items c.in-Err.i c.args.block c.requires.order lacking)
 
 pub returns-in-Ok-insert-clause-put : goal.returns-in-Ok-insert-clause-put
 returns-in-Ok-insert-clause-put c = λ t.

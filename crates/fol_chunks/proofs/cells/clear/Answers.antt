@@ -1,5 +1,7 @@
 use Rattle.std.proofs.Common.{arith}
+use Rattle.fol_chunks.specs.Cells.{blocks_in}
 use Rattle.fol_chunks.proofs.CellSteps.{cells_less, taken}
+use Rattle.fol_chunks.proofs.Weighing.{length_sum}
 use Rattle.fol_chunks.proofs.cells.clear.Goals as goal
 
 pub returns-then-take_out-clause-cells : goal.returns-then-take_out-clause-cells
@@ -9,3 +11,8 @@ pub returns-then-take_out-clause-cleared : goal.returns-then-take_out-clause-cle
 returns-then-take_out-clause-cleared c = λ f.
     let less = rw (c.take_out.ensures.empty c.if-take_out.true) at (taken c.take_out.new.cells.entries _ c.args.key c.remove.ensures.entries f) in
     omega (arith, less, c.take_out.ensures.cleared f)
+
+pub returns-then-take_out-clause-counted : goal.returns-then-take_out-clause-counted
+returns-then-take_out-clause-counted c =
+    let less = rw (c.take_out.ensures.empty c.if-take_out.true) at (taken c.take_out.new.cells.entries _ c.args.key c.remove.ensures.entries (λ x. 1)) in
+    omega (arith, less, c.take_out.ensures.counted, length_sum (blocks_in c.take_out.new.cells.entries), length_sum (blocks_in c.remove.new.self.entries))

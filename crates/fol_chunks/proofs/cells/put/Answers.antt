@@ -1,13 +1,13 @@
-use Rattle.std.proofs.Common.{◌≡◌, ◌+◌, sym, ◌∙◌, ap, Some}
+use Rattle.std.proofs.Common.{◌≡◌, ◌+◌, length, sym, ◌∙◌, ap, arith, Some}
 use Rattle.std.specs.Prelude.{is_some, sum_by}
 use Rattle.fol_chunks.specs.Cells.{blocks_in, cell_at}
 use Rattle.fol_chunks.specs.Weights.{one_at, only, stands_elsewhere}
 use Rattle.fol_chunks.proofs.CellSums.{cell_after_put, items_none, items_there, place_count}
-use Rattle.fol_chunks.proofs.CellSteps.{cells_written, puts_written, same_written}
+use Rattle.fol_chunks.proofs.CellSteps.{cells_written, len_written, puts_written, same_written}
 use Rattle.fol_chunks.proofs.cells.put.Goals as goal
 
-pub put_or_grow-requires : goal.put_or_grow-requires
-put_or_grow-requires c = (c.requires.cells.cells c.args.key c.in-Some.cell.now (sym c.in-Some.ensures.value)).order
+pub put_or_grow-requires-clause-order : goal.put_or_grow-requires-clause-order
+put_or_grow-requires-clause-order c = (c.requires.cells.cells c.args.key c.in-Some.cell.now (sym c.in-Some.ensures.value)).order
 
 pub returns-in-Some-clause-cells : goal.returns-in-Some-clause-cells
 returns-in-Some-clause-cells c =
@@ -32,6 +32,20 @@ pub returns-in-Some-clause-same : goal.returns-in-Some-clause-same
 returns-in-Some-clause-same c = λ t.
     let there : cell_at c.args.cells.now.entries c.args.key ≡ Some c.in-Some.cell.now = sym c.in-Some.ensures.value in
     same_written c.args.cells.now.entries _ c.args.key c.in-Some.cell.now c.put_or_grow.new.blocks there (c.get_mut.follows.holds c.put_or_grow.new.blocks).0 (c.put_or_grow.ensures.same t)
+
+pub returns-in-Some-clause-counted : goal.returns-in-Some-clause-counted
+returns-in-Some-clause-counted c =
+    let there : cell_at c.args.cells.now.entries c.args.key ≡ Some c.in-Some.cell.now = sym c.in-Some.ensures.value in
+    omega (
+      arith,
+      len_written c.args.cells.now.entries _ c.args.key c.in-Some.cell.now c.put_or_grow.new.blocks there (c.get_mut.follows.holds c.put_or_grow.new.blocks).0,
+      c.put_or_grow.ensures.counted,
+      c.in-Some.cell.now.ok,
+      c.put_or_grow.new.blocks.ok,
+    )
+
+pub returns-in-None-clause-counted : goal.returns-in-None-clause-counted
+returns-in-None-clause-counted c = omega (arith, c.put_first.ensures.counted, ap (λ m. length (blocks_in m.entries)) c.get_mut.follows.holds-at-none)
 
 pub returns-in-None-clause-put : goal.returns-in-None-clause-put
 returns-in-None-clause-put c = λ t f.

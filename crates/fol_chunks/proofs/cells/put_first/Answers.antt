@@ -1,9 +1,10 @@
-use Rattle.std.proofs.Common.{◌∙◌, ap}
+use Rattle.std.proofs.Common.{◌∙◌, ap, arith}
 use Rattle.std.specs.Prelude.{sum_by}
 use Rattle.fol_chunks.specs.Cells.{blocks_in}
 use Rattle.fol_chunks.specs.Weights.{one_at}
 use Rattle.fol_chunks.proofs.CellSums.{items_none, place_count}
-use Rattle.fol_chunks.proofs.Weighing.{puts_more}
+use Rattle.fol_chunks.proofs.Weighing.{length_sum, puts_more}
+use Rattle.fol_chunks.proofs.Wholes.{len_same}
 use Rattle.fol_chunks.proofs.cells.put_first.Goals as goal
 
 pub returns-in-Ok-clause-put : goal.returns-in-Ok-clause-put
@@ -12,3 +13,10 @@ returns-in-Ok-clause-put c = λ t.
     (place_count c.args.cells.now.entries c.requires.cells c.args.key c.args.block.at c.requires.key
     ∙ ap (sum_by (one_at c.args.block.at)) (items_none c.args.cells.now.entries c.args.key c.requires.none))
     c.in-Ok.ensures.ok
+
+pub returns-in-Ok-clause-counted : goal.returns-in-Ok-clause-counted
+returns-in-Ok-clause-counted c =
+    omega (arith, c.in-Ok.ensures.ok (λ x. 1), length_sum (blocks_in c.args.cells.now.entries), length_sum (blocks_in c.open.new.cells.entries))
+
+pub returns-in-Err-clause-counted : goal.returns-in-Err-clause-counted
+returns-in-Err-clause-counted c = omega (arith, len_same (blocks_in c.args.cells.now.entries) (blocks_in c.open.new.cells.entries) c.in-Err.ensures.err)

@@ -1,14 +1,39 @@
-use Rattle.std.proofs.Common.{◌≡◌, sym, ◌∙◌, ap, Some}
+use Rattle.std.proofs.Common.{◌≡◌, length, sym, ◌∙◌, ap, arith, Some}
 use Rattle.std.specs.Prelude.{is_some, sum_by}
 use Rattle.fol_chunks.specs.Cells.{blocks_in, cell_at}
 use Rattle.fol_chunks.specs.Weights.{one_at}
-use Rattle.fol_chunks.proofs.CellSums.{cell_clear, items_none, place_count}
-use Rattle.fol_chunks.proofs.CellSteps.{cells_written, clears_written}
+use Rattle.fol_chunks.proofs.CellSums.{cell_clear, items_none, items_there, len_chunk, place_count}
+use Rattle.fol_chunks.proofs.CellSteps.{cells_written, clears_written, len_written}
 use Rattle.fol_chunks.proofs.Weighing.{clears_absent}
 use Rattle.fol_chunks.proofs.cells.take_out.Goals as goal
 
-pub clear-requires : goal.clear-requires
-clear-requires c = (c.requires.cells.cells c.args.key c.in-Some.cell.now (sym c.in-Some.ensures.value)).order
+pub clear-requires-clause-order : goal.clear-requires-clause-order
+clear-requires-clause-order c = (c.requires.cells.cells c.args.key c.in-Some.cell.now (sym c.in-Some.ensures.value)).order
+
+pub clear-requires-clause-counted : goal.clear-requires-clause-counted
+clear-requires-clause-counted c =
+    let there : cell_at c.args.cells.now.entries c.args.key ≡ Some c.in-Some.cell.now = sym c.in-Some.ensures.value in
+    omega (
+      arith,
+      ap length (items_there c.args.cells.now.entries c.args.key c.in-Some.cell.now there),
+      len_chunk c.args.cells.now.entries c.requires.cells c.args.key,
+      c.requires.counted,
+      c.in-Some.cell.now.ok,
+    )
+
+pub returns-in-Some-clause-counted : goal.returns-in-Some-clause-counted
+returns-in-Some-clause-counted c =
+    let there : cell_at c.args.cells.now.entries c.args.key ≡ Some c.in-Some.cell.now = sym c.in-Some.ensures.value in
+    omega (
+      arith,
+      len_written c.args.cells.now.entries _ c.args.key c.in-Some.cell.now c.clear.new.blocks there (c.get_mut.follows.holds c.clear.new.blocks).0,
+      c.clear.ensures.counted,
+      c.in-Some.cell.now.ok,
+      c.clear.new.blocks.ok,
+    )
+
+pub returns-in-None-clause-counted : goal.returns-in-None-clause-counted
+returns-in-None-clause-counted c = omega (arith, ap (λ m. length (blocks_in m.entries)) c.get_mut.follows.holds-at-none)
 
 pub returns-in-Some-clause-cells : goal.returns-in-Some-clause-cells
 returns-in-Some-clause-cells c =

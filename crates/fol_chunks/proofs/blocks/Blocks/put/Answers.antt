@@ -1,4 +1,4 @@
-use Rattle.std.proofs.Common.{◌≡◌, ◌++◌, arith, ap, refl}
+use Rattle.std.proofs.Common.{◌≡◌, ◌++◌, arith, ap, length, length-append, refl}
 use Rattle.std.specs.Prelude.{sum_by}
 use Rattle.std.proofs.lemmas.List.Sums.{sum_by-append}
 use Rattle.fol_chunks.specs.Cells.{blocks_in}
@@ -26,3 +26,24 @@ pub put_settled-requires-clause-laid : goal.put_settled-requires-clause-laid
 put_settled-requires-clause-laid c =
     let after : Blocks = record { cells = c.args.self.now.cells; fresh = c.replace.new.blocks; len = c.args.self.now.len } in
     laid_same c.args.self.now after c.requires.laid c.requires.laid.cells c.replace.ensures.order (λ f. ap (λ xs. sum_by f (blocks_in c.args.self.now.cells.entries ++ xs)) (c.replace.ensures.same c.if-replace.false))
+
+pub returns-then-replace-clause-counted : goal.returns-then-replace-clause-counted
+returns-then-replace-clause-counted c =
+    omega (
+      arith,
+      c.replace.ensures.len,
+      length-append (blocks_in c.args.self.now.cells.entries) c.args.self.now.fresh.items,
+      length-append (blocks_in c.args.self.now.cells.entries) c.replace.new.blocks.items,
+      c.args.self.now.fresh.ok,
+      c.replace.new.blocks.ok,
+    )
+
+pub returns-clause-counted : goal.returns-clause-counted
+returns-clause-counted c =
+    omega (
+      arith,
+      c.put_settled.ensures.counted,
+      ap length (c.replace.ensures.same c.if-replace.false),
+      length-append (blocks_in c.args.self.now.cells.entries) c.args.self.now.fresh.items,
+      length-append (blocks_in c.args.self.now.cells.entries) c.replace.new.blocks.items,
+    )
