@@ -27,7 +27,8 @@ fn read_lines(alloc: Global, count: u64, text: &[u8]) -> Result<EventLines, Allo
     for told in 0..count {
         match event_line(alloc, rest) {
             Ok((event, after)) => {
-                entries.push(PackedEntry::new(alloc, Entry { by: 0, event })?)?;
+                let entry = PackedEntry::new(alloc, Entry { by: 0, event })?;
+                entries.push(entry)?;
                 rest = after;
             }
             Err(Fault::Unspelled) => return Ok(EventLines::Text(told + 3)),

@@ -25,7 +25,7 @@ loop-told-preserved c =
     let so_far = c.loop-told.invariant in
     let found = c.in-Ok.ensures.found in
     let entry : Entry = record { by = 0; event = c.in-Ok.event } in
-    rw c.in_ok-push-in-Ok.ensures.items (record {
+    rw (c.in_ok-push-in-Ok.ensures.items, c.in_ok-entry-in-Ok.ensures) (record {
       in_range = all_more (λ (e : Entry). InRange e.event) c.loop-told.entries.items entry so_far.in_range found.0;
       count = omega (arith, so_far.count, length-append {A = Entry});
       text_is = so_far_more (λ (e : Entry). line (entry_words e)) c.loop-told.entries.items entry c.args.text.now c.loop-told.rest.now c.in-Ok.after.now so_far.text_is found.1;
