@@ -2,7 +2,7 @@
 use denote.Builtin.{u64}
 use denote.Param.Send.{IsSend, sendable}
 use denote.Param.SendFields.{as_row_send, declared_send}
-use Rattle.std.proofs.Crossing.{Vec-send}
+use Rattle.std.proofs.Crossing.{Box-send, Vec-send}
 use Rattle.std.specs.contracts.hash.FoldHasher as FoldHasher
 use Rattle.fol_model.proofs.Crossing.{Event-send, PackedEntry-send, Task-send}
 use Rattle.fol_model.proofs.grids.Grid.TheSendSync as grids
@@ -14,6 +14,7 @@ use Rattle.fol_regions.specs.contracts.regions.Regions as regions
 use Rattle.fol_store.proofs.Crossing.{Store-send}
 use Rattle.fol_bags.proofs.Crossing.{hasher_send, map_send, place_send}
 use Rattle.fol_store.specs.contracts.store.Store as store
+use Rattle.fol_core.specs.contracts.entries.Answers as answers
 use Rattle.fol_core.specs.contracts.machine.Core as core
 use Rattle.fol_core.specs.contracts.machine.Core.TheInside as inside
 use Rattle.fol_core.specs.contracts.machine.Room as room
@@ -33,8 +34,11 @@ Regions-send = sent_regions.the_send
 Course-send : IsSend (course.the_field).row
 Course-send = search sendable depth 14
 
+Answers-send : IsSend (answers.the_field).row
+Answers-send = search (sendable, Vec-send, Box-send, Event-send) depth 14
+
 Room-send : IsSend (room.the_field).row
-Room-send = search (sendable, Vec-send, Task-send) depth 14
+Room-send = search (sendable, Vec-send, Task-send, Answers-send) depth 14
 
 Marks-send : IsSend (marks.the_field).row
 Marks-send = search (sendable, Vec-send) depth 14
@@ -66,14 +70,14 @@ fields_send : IsSend inside.the_row
 fields_send = declared_send inside.the_type (
   as_row_send opening.the_field Opening-send,
   (
-    search (sendable, as_row_send, Vec-send, Entry-send) depth 14,
+    search (sendable, as_row_send, Vec-send, PackedEntry-send) depth 14,
     (
       Tables-send,
       (
         as_row_send marks.the_field Marks-send,
         (
           search (sendable, as_row_send, Room-send) depth 14,
-          (search sendable depth 14, tt),
+          (search (sendable, as_row_send, Box-send, Event-send) depth 14, (search sendable depth 14, tt)),
         ),
       ),
     ),

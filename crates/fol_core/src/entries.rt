@@ -14,8 +14,8 @@ pub(crate) type EventBox = Box<Event>;
 /// The list for the answers of an End, and memory for its event. Contracts see the list.
 #[derive(Drop)]
 pub(crate) struct Answers {
-    pub(crate) accepts: Vec<Accept>,
-    pub(crate) memory: EventBox,
+    accepts: Vec<Accept>,
+    memory: EventBox,
 }
 
 impl Model for Answers {
@@ -40,6 +40,14 @@ impl Answers {
         let accepts = Vec::with_capacity(alloc, asked)?;
         let memory = event_box(alloc, left)?;
         Ok(Answers { accepts, memory })
+    }
+
+    /// The list, and the memory for the event.
+    pub(crate) fn into_parts(self) -> (Vec<Accept>, EventBox)
+        ensures { result.0 ≡ self }
+    {
+        let Answers { accepts, memory } = self;
+        (accepts, memory)
     }
 }
 

@@ -97,7 +97,8 @@ impl Core {
             &mut self.left,
         ) {
             Err(_) => Err(AllocError),
-            Ok(Answers { accepts, memory }) => {
+            Ok(answers) => {
+                let (accepts, memory) = answers.into_parts();
                 let asked = tick.log.wishes.len() as u64;
                 let worker = tick.worker;
                 let event = end_tick(alloc, &mut self.tables, tick, accepts);
