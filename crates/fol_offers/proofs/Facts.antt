@@ -1,6 +1,6 @@
 -- What is known of regions that are free, that wait and that run.
-use Rattle.std.proofs.Common.{◌≡◌, ◌≢◌, ℕ, ◌<◌, List, [], ◌∷◌, ◌++◌, length, sym, refl, ap, ◌∙◌, subst, Option, Some, None, Bool, true, false, true≢false, not, ◌&&◌, nat_lt, arith, inl, inr}
-use Rattle.std.proofs.lemmas.Bool.{and_parts, eq-eqb}
+use Rattle.std.proofs.Common.{◌≡◌, ◌≢◌, ℕ, ◌<◌, ◌≤◌, List, [], ◌∷◌, ◌++◌, length, sym, refl, ap, ◌∙◌, subst, Option, Some, None, Bool, true, false, true≢false, not, ◌&&◌, nat_lt, arith, inl, inr}
+use Rattle.std.proofs.lemmas.Bool.{and_parts, eq-eqb, false_from_ne_true}
 use Rattle.std.proofs.lemmas.List.{append-nil}
 use Rattle.std.proofs.Math.ListN.{get_or-eq_default}
 use Rattle.std.proofs.lemmas.Bool.Decides.{leb_tells}
@@ -19,6 +19,7 @@ use Rattle.fol_laws.proofs.LongerRuns.{world_both}
 use Rattle.fol_laws.proofs.OwnedRuns.{owned}
 use Rattle.fol_laws.proofs.WholeRuns.{Good, good_run}
 use Rattle.fol_data.specs.declared.tick.Tick.{Tick}
+use Rattle.fol_core.specs.Ahead.{NonePrepared}
 use Rattle.fol_core.specs.Answers.{IsGiven, is_free, is_owing, is_over}
 use Rattle.fol_core.specs.Meaning.{Meaning, Stays, is_prepared, world_of}
 use Rattle.fol_core.specs.Ticks.{IsTick, IsTickOf}
@@ -106,6 +107,14 @@ module _ (m : Meaning) (r : ℕ) (t : Tick) (grid : IsGrid m.opening.grid) (run 
   pub waits_ready : (world_of m).grid.state r ≡ Ready
   waits_ready = ap (λ (x : World). x.grid.state r) (sym there) ∙ (ap (λ (q : ℕ). (after_all at w.between).grid.state q) (sym own) ∙ later.0.0)
 
+  -- and owes it
+  pub waits_owes : 1 ≤ (world_of m).owed r
+  waits_owes =
+      let here : 1 ≤ (after_all at w.between).owed t.region = later.0.1 in
+      let P : World → Type 0 = λ x. 1 ≤ x.owed r in
+      let Q : ℕ → Type 0 = λ q. 1 ≤ (after_all at w.between).owed q in
+      subst P there (subst Q own here)
+
 -- ---- a tick that runs
 
 -- its region ticks
@@ -155,13 +164,21 @@ stays_free m n r same =
     let world_is : world_of n ≡ world_of m = λ k. world (same.opening k) (same.history k) in
     λ k. is_owing (world_is k) r && not (same.prepared k r)
 
--- a prepared region is Ready
-pub prepared_ready : (m : Meaning) (s : Keeper Offer) (xs : List ℕ) (r : ℕ) → Tied m s xs → Run m.opening m.history → is_prepared m r ≡ true → (world_of m).grid.state r ≡ Ready
-prepared_ready m s xs r t run marked =
+-- the tick of a prepared region waits
+pub prepared_waits : (m : Meaning) (s : Keeper Offer) (xs : List ℕ) (r : ℕ) → Tied m s xs → is_prepared m r ≡ true → (t : Tick) × Waits m r t
+prepared_waits m s xs r t marked =
     let z = t.prepared r marked in
     let i : ℕ = z.0 in
     let u : InUse m r (place_at s i) = subst (λ (x : ℕ). InUse m x (place_at s i)) z.3 (t.used i z.2 (subst (λ (x : ℕ). 0 < x) (sym z.3) z.1)) in
-    waits_ready m r u.tick t.grid run (u.waits (no_worker (place_at s i).found (λ j found. true≢false (sym marked ∙ (u.runs j found).unprepared))))
+    (u.tick, u.waits (no_worker (place_at s i).found (λ j found. true≢false (sym marked ∙ (u.runs j found).unprepared))))
+
+-- the history is not over
+pub prepared_on : (m : Meaning) (s : Keeper Offer) (xs : List ℕ) (r : ℕ) → Tied m s xs → is_prepared m r ≡ true → is_over (world_of m) ≡ false
+prepared_on m s xs r t marked = false_from_ne_true (is_over (world_of m)) (λ over. true≢false (sym marked ∙ t.calm over r))
+
+-- the region is Ready
+pub prepared_ready : (m : Meaning) (s : Keeper Offer) (xs : List ℕ) (r : ℕ) → Tied m s xs → Run m.opening m.history → is_prepared m r ≡ true → (world_of m).grid.state r ≡ Ready
+prepared_ready m s xs r t run marked = let w = prepared_waits m s xs r t marked in waits_ready m r w.0 t.grid run w.1
 
 -- and its id was given out
 pub prepared_below : (m : Meaning) (s : Keeper Offer) (xs : List ℕ) (r : ℕ) → Tied m s xs → Run m.opening m.history → is_prepared m r ≡ true → r < (world_of m).grid.next
@@ -169,3 +186,13 @@ prepared_below m s xs r t run marked =
     let rules : Rules (world_of m).grid = rules_hold m.opening m.history [] t.grid (rw append-nil run) in
     let ready : (world_of m).grid.state r ≡ Ready = prepared_ready m s xs r t run marked in
     rules.below_next r (λ dead. let never : false ≡ true = rw dead at (ap is_ready ready) in absurd (true≢false (sym never)))
+
+-- outside phases no region owes a tick, so that none is prepared
+pub none_outside : (m : Meaning) (s : Keeper Offer) (xs : List ℕ) → Tied m s xs → Run m.opening m.history → (world_of m).in_phase ≡ false → NonePrepared m
+none_outside m s xs t run outside r = false_from_ne_true (is_prepared m r) (λ marked.
+    let w = prepared_waits m s xs r t marked in
+    let ready : (world_of m).grid.state r ≡ Ready = waits_ready m r w.0 t.grid run w.1 in
+    let owes : 1 ≤ (world_of m).owed r = waits_owes m r w.0 t.grid run w.1 in
+    let good : Good m.opening (world_of m) = good_run m.opening m.history [] t.grid (rw append-nil run) in
+    let none : (world_of m).owed r ≡ 0 = good.owing outside r (λ dead. cc) in
+    omega (arith, owes, none))

@@ -1,6 +1,8 @@
-pub mod Events
+pub mod CalledBack
+pub mod EventsKept
 pub mod Facts
-mod Matching
+pub mod FitTicks
+pub mod FreeSlots
+pub mod Matching
 pub mod Passing
-pub mod Recalls
 pub mod Tying

@@ -33,6 +33,7 @@ use Rattle.fol_offers.specs.declared.offer.Offer.{Offer}
 use Rattle.fol_offers.specs.Places.{region_at}
 use Rattle.fol_offers.specs.Tied.{InUse, Runs, Tied, Waits, nothing, of_tick}
 use Rattle.fol_offers.proofs.Facts.{no_worker}
+use Rattle.fol_offers.proofs.FreeSlots.{none_at}
 use Rattle.fol_offers.proofs.Passing.{Passes, in_use_passes, passes_same, passes_one}
 
 none_some : {A : Type 0} (a : A) → None ≡ Some a → ⊥
@@ -45,11 +46,6 @@ set_twice : {A : Type 0} (l : List A) (i : ℕ) (a b : A) → set (set l i a) i 
 set_twice [] i a b = refl
 set_twice (x ∷ xs) zero a b = refl
 set_twice (x ∷ xs) (suc i) a b = ap (λ (ys : List _). x ∷ ys) (set_twice xs i a b)
-
-none_at : (n i : ℕ) → region_at (replicate n 0) i ≡ 0
-none_at zero i = refl
-none_at (suc n) zero = refl
-none_at (suc n) (suc i) = none_at n i
 
 -- whether the history is over does not change with what is prepared
 same_world : (m n : Meaning) → n.opening ≡ m.opening → n.history ≡ m.history → world_of n ≡ world_of m
@@ -76,7 +72,7 @@ begun_over m n by k r opening history = ap is_over (one_more m n (record { by = 
 -- nothing is offered yet
 pub tied_first : (m : Meaning) (s : Keeper Offer) (n : ℕ) → IsGrid m.opening.grid → NonePrepared m → s.slots.slots ≡ n → length s.places ≡ n → n < 65536
     → ((i : ℕ) → i < n → (place_at s i).kept ≡ Some nothing) → Tied m s (replicate n 0)
-tied_first m s n grid none slots places few empty = let long : length (replicate n 0) ≡ n = length-replicate n 0 in record {
+tied_first m s n grid none slots places few empty = let long : length {A = ℕ} (replicate n 0) ≡ n = length-replicate n 0 in record {
   grid = grid;
   calm = λ _. none;
   places = places ∙ sym long;

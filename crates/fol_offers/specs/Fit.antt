@@ -1,11 +1,12 @@
 -- What may be offered.
-use Rattle.std.specs.Prelude.{List, length, IsSomeAnd}
+use Rattle.std.specs.Prelude.{ℕ, List, length, IsSomeAnd}
 use Rattle.fol_model.specs.declared.openings.Opening.{Opening}
 use Rattle.fol_model.specs.declared.events.Entry.{Entry}
 use Rattle.fol_model.specs.declared.events.Event.TheVariants.{Begin}
 use Rattle.fol_model.specs.GridNumbers.{IsGrid}
 use Rattle.fol_model.specs.Run.{Allowed, Run, world}
 use Rattle.fol_data.specs.declared.tick.Tick.{Tick}
+use Rattle.fol_tick.specs.Runs.{MayRun}
 use Rattle.fol_core.specs.Ticks.{IsTick}
 use Rattle.fol_offers.specs.declared.offer.Offer.{Offer}
 
@@ -21,3 +22,7 @@ pub record IsFitTick (tick : Tick) : Type 0 where
 -- there is such a tick
 abbrev pub IsFit : Offer → Type 0
 IsFit o = IsSomeAnd o.tick IsFitTick
+
+-- a tick that was offered may be run by any worker
+abbrev pub OfferedTickMayRun : Type 0
+OfferedTickMayRun = (tick : Tick) (k : ℕ) → IsFitTick tick → MayRun (record tick { worker = k })

@@ -7,11 +7,20 @@
 //! Contracts see the core, as if no slot were there; which tick lies in which slot is what the type keeps. It is for who keeps a shared world.
 #![tactic(auto)]
 
+ghost use Rattle.fol_offers.specs.Fit.{OfferedTickMayRun};
+
+mod events;
 mod offer;
 mod offers;
 mod places;
+mod recalls;
 #[cfg(test)]
 mod tests;
 
 pub use offer::Offer;
 pub use offers::{Offers, OffersAndSeats};
+
+/// A tick that was offered may be run, by whichever worker claims it.
+pub fn offered_tick_may_run()
+    ensures { OfferedTickMayRun }
+{}

@@ -1,7 +1,8 @@
 //! Which region's tick lies in which slot.
 
-ghost use Rattle.std.specs.Prelude.{◌≡◌, ◌<◌, ◌≢◌, ℕ, length, set, replicate, IfOk, IfSome, IsTrue, OnErr};
+ghost use Rattle.std.specs.Prelude.{◌≡◌, ◌<◌, ◌≤◌, ◌≢◌, ℕ, length, set, replicate, IfOk, IfSome, IsTrue, OnErr, vec_capacity};
 ghost use Rattle.std.specs.Option.{is_none};
+ghost use Rattle.fol_offers.specs.Places.{AreFree};
 
 use std::alloc::{AllocError, Global};
 use std::collections::HashMap;
@@ -13,17 +14,21 @@ pub(crate) struct Places {
     regions: Vec<u64>,
     /// The slot of each region that has one.
     slots: HashMap<u64, u32>,
+    /// The slots that are not in use, with room for all.
+    free: Vec<u32>,
 }
 
 impl Model for Places {
-    ghost use Rattle.std.specs.Prelude.{ℕ, List};
-    ghost use Rattle.fol_offers.specs.Places.{AreMatched};
+    ghost use Rattle.std.specs.Prelude.{ℕ, List, ◌≤◌, length, vec_capacity};
+    ghost use Rattle.fol_offers.specs.Places.{AreFree, AreMatched};
 
     ghost Value = { List ℕ };
 
     ghost view = { λ p. p.regions.items };
 
-    ghost invariant = { λ p. AreMatched p.regions.items p.slots.entries };
+    ghost invariant = { λ p. AreMatched p.regions.items p.slots.entries
+        × AreFree p.regions.items p.free.items
+        × (length p.regions.items ≤ vec_capacity p.free) };
 }
 
 impl Places {
@@ -33,10 +38,12 @@ impl Places {
     pub(crate) fn new(alloc: Global, count: u32) -> Result<Places, AllocError>
         ensures { IfOk result (λ p. p ≡ replicate count 0) }
     {
+        let free = all_slots(alloc, count)?;
         let regions = vec![in alloc; 0u64; count as usize]?;
         Ok(Places {
             regions,
             slots: HashMap::new(alloc),
+            free,
         })
     }
 
@@ -62,28 +69,40 @@ impl Places {
     pub(crate) fn put(&mut self, region: u64) -> Result<u32, AllocError>
         requires id { 0 < region }
         requires fresh { (i : ℕ) → region_at self.old i ≢ region }
-        requires few { length self.old < 65536 }
         ensures free { IfOk result (λ i. (i < length self.old) × (region_at self.old i ≡ 0)) }
         ensures placed { IfOk result (λ i. self.new ≡ set self.old i region) }
         ensures err { OnErr result (self.new ≡ self.old) }
     {
-        let Some(i) = self.regions.iter().position(|r| *r == 0) else {
+        let Some(slot) = self.free.last().copied() else {
             return Err(AllocError);
         };
-        let slot = i as u32;
         self.slots.insert(region, slot)?;
-        self.regions[i] = region;
+        let _ = self.free.pop();
+        self.regions[slot as usize] = region;
         Ok(slot)
     }
 
-    /// A slot is not in use any more. Takes no memory.
+    /// A slot that was in use is so no more. Takes no memory.
     pub(crate) fn clear(&mut self, slot: u32)
-        requires { slot < length self.old }
+        requires { 0 < region_at self.old slot }
         ensures { self.new ≡ set self.old slot 0 }
     {
         let i = slot as usize;
         let region = self.regions[i];
         let _ = self.slots.remove(&region);
         self.regions[i] = 0;
+        self.free.push_reserved(slot);
     }
+}
+
+/// So many slots, the last one first.
+fn all_slots(alloc: Global, count: u32) -> Result<Vec<u32>, AllocError>
+    ensures free { IfOk result (λ slots. AreFree (replicate count 0) slots.items) }
+    ensures room { IfOk result (λ slots. count ≤ vec_capacity slots) }
+{
+    let mut slots = Vec::with_capacity(alloc, count as usize)?;
+    for i in 0..count {
+        slots.push_reserved(count - 1 - i);
+    }
+    Ok(slots)
 }

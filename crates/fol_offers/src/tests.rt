@@ -4,7 +4,7 @@ ghost use Rattle.std.specs.Prelude.{◌≡◌, ◌<◌, None, All};
 ghost use Rattle.fol_slots.specs.Table.{slots_id, slot_count};
 
 use crate::{Offer, Offers, OffersAndSeats};
-use fol_core::{Core, Phase};
+use fol_core::{Close, Core, Finish, Phase};
 use fol_model::{ChunkPos, EventRef, Grid, Loaded, Opening, PackedEntry, Sequence};
 use fol_slots::{Claim, Slots, WorkerSeat};
 use std::alloc::Global;
@@ -90,10 +90,10 @@ fn claim(rt: &impl Abort, slots: &Slots<Offer>, seat: &mut WorkerSeat<Offer>) ->
     }
 }
 
-/// Whether the entry is the Begin of worker 2 in this region, which seat 0 recorded.
-fn is_learnt(entry: &PackedEntry, region: u64) -> bool {
+/// Whether the entry is the Begin of worker 2 in this region, which this seat recorded.
+fn is_begin(entry: &PackedEntry, by: u32, region: u64) -> bool {
     match entry.event() {
-        EventRef::Begin { worker, region: at } => entry.by() == 0 && worker == 2 && at == region,
+        EventRef::Begin { worker, region: at } => entry.by() == by && worker == 2 && at == region,
         _ => false,
     }
 }
@@ -134,11 +134,27 @@ fn the_tick_that_was_claimed_is_learnt(rt: HostRuntime) -> Result<(), Fail> {
     assert!(&rt; !offers.is_offered(1) && !offers.is_offered(2));
     let history = offers.history();
     assert_eq!(&rt; history.len(), 5);
-    assert!(&rt; is_learnt(&history[3], claimed));
+    assert!(&rt; is_begin(&history[3], 0, claimed));
     // The other region came back, and waits for the claimed one now: it owes its tick, and can't be offered.
     assert!(&rt; !offers_one(&rt, alloc, &mut offers, &slots));
     offers.stop(&slots, 0);
     offers.stop(&slots, 0);
     assert_eq!(&rt; offers.history().len(), 6);
+    Ok(())
+}
+
+#[test]
+fn a_phase_in_which_nobody_ticks_is_closed(rt: HostRuntime) -> Result<(), Fail> {
+    let alloc = rt.alloc();
+    let OffersAndSeats {
+        mut offers,
+        slots: _,
+        seats: _,
+    } = start(&rt, alloc);
+    assert_eq!(&rt; offers.phase_ticks(), 0);
+    assert!(&rt; matches!(offers.open_phase(0, 1), Ok(Phase::Opened)));
+    assert!(&rt; matches!(offers.finish(0), Ok(Finish::InPhase)));
+    assert!(&rt; matches!(offers.close_phase(0), Ok(Close::Closed)));
+    assert!(&rt; matches!(offers.finish(0), Ok(Finish::Finished)));
     Ok(())
 }

@@ -1,12 +1,13 @@
-use Rattle.std.proofs.Common.{rules, ◌≡◌, ℕ, List, sym, subst, ap, ◌∙◌, true, false, Some, inl}
+use Rattle.std.proofs.Common.{rules, ◌≡◌, ℕ, List, sym, subst, ap, ◌∙◌, true, Some}
+use Rattle.std.specs.Prelude.{nat_eq}
 use Rattle.fol_core.specs.Ahead.{Withdraws}
-use Rattle.fol_core.specs.Answers.{is_over}
-use Rattle.fol_core.specs.Meaning.{Meaning, is_prepared, world_of}
+use Rattle.fol_core.specs.Meaning.{Meaning, is_prepared}
 use Rattle.fol_slots.specs.Shown.{Keeper, keeping, place_at}
 use Rattle.fol_offers.specs.declared.offer.Offer.{Offer}
-use Rattle.fol_offers.specs.Shown.{Shown}
+use Rattle.fol_offers.specs.Shown.{CallsBack, Shown}
 use Rattle.fol_offers.specs.Tied.{Tied, nothing}
-use Rattle.fol_offers.proofs.Facts.{waits_now}
+use Rattle.fol_offers.proofs.CalledBack.{back_learnt, back_withdrawn}
+use Rattle.fol_offers.proofs.Facts.{prepared_on, waits_now}
 use Rattle.fol_offers.proofs.Tying.{came_back, tied_withdraws, tied_learns}
 use Rattle.fol_offers.proofs.offers.Offers.call_back.Goals as goal
 
@@ -52,16 +53,33 @@ invariant_of-self-in-Busy c =
     let n : Meaning = c.learn.new.self in
     let marked : is_prepared m c.args.region ≡ true = subst (λ (v : Shown). is_prepared v.core c.args.region ≡ true) (sym c.self.view_is) c.requires.prepared in
     subst (λ (x : Keeper Offer). Tied n x c.self.inside.places) (sym c.in-Busy.ensures.answer)
-    (tied_learns m n c.self.inside.keeper c.self.inside.places c.self.invariant c.in-Some.i c.args.region c.in-Some.ensures.some.0 (c.self.invariant.prepared c.args.region marked).1 c.args.by c.in-Busy.worker c.in-Some.ensures.some.1 marked (subst (λ (v : Shown). is_over (world_of v.core) ≡ false) (sym c.self.view_is) c.requires.on) c.learn.ensures)
+    (tied_learns m n c.self.inside.keeper c.self.inside.places c.self.invariant c.in-Some.i c.args.region c.in-Some.ensures.some.0 (c.self.invariant.prepared c.args.region marked).1 c.args.by c.in-Busy.worker c.in-Some.ensures.some.1 marked (prepared_on m c.self.inside.keeper c.self.inside.places c.args.region c.self.invariant marked) c.learn.ensures)
+
+pub learn-requires-clause-on : goal.learn-requires-clause-on
+learn-requires-clause-on c =
+    let marked : is_prepared c.self.inside.core c.args.region ≡ true = subst (λ (v : Shown). is_prepared v.core c.args.region ≡ true) (sym c.self.view_is) c.requires.prepared in
+    prepared_on c.self.inside.core c.self.inside.keeper c.self.inside.places c.args.region c.self.invariant marked
 
 pub returns-in-Kept : goal.returns-in-Kept
 returns-in-Kept c =
     let m : Meaning = c.self.inside.core in
     let n : Meaning = c.withdraw-is_ready.new.self in
+    let k : Keeper Offer = c.body.new.seat in
+    let old : Shown = record { core = m; slots = c.self.inside.keeper.slots } in
+    let new : Shown = record { core = n; slots = k.slots } in
     let marked : is_prepared m c.args.region ≡ true = subst (λ (v : Shown). is_prepared v.core c.args.region ≡ true) (sym c.self.view_is) c.requires.prepared in
     let w = came_back m c.self.inside.keeper c.try_keep.new.seat c.self.inside.places c.in-Some.i c.args.region c.body.result c.into_tick-tick.result c.self.invariant c.in-Some.ensures.some.0 c.in-Some.ensures.some.1 marked c.in-Kept.ensures.answer.1 c.body.ensures.old c.into_tick-tick.ensures in
     let did : Withdraws m n c.args.region = subst (λ (r : ℕ). Withdraws m n r) w.is.region c.withdraw-is_ready.ensures.withdrawn in
-    record {
-      slots = ap (λ (x : Keeper Offer). x.slots) c.body.ensures.seat ∙ (ap (λ (x : Keeper Offer). x.slots) c.in-Kept.ensures.answer.1 ∙ ap (λ (v : Shown). v.slots) c.self.view_is);
-      came = inl (subst (λ (v : Shown). Withdraws v.core n c.args.region) c.self.view_is did);
-    }
+    let slots : k.slots ≡ c.self.inside.keeper.slots = ap (λ (x : Keeper Offer). x.slots) c.body.ensures.seat ∙ ap (λ (x : Keeper Offer). x.slots) c.in-Kept.ensures.answer.1 in
+    subst (λ (v : Shown). CallsBack v new c.args.by (nat_eq c.args.region)) c.self.view_is (back_withdrawn old new c.args.by c.args.region slots did)
+
+pub returns-in-Busy : goal.returns-in-Busy
+returns-in-Busy c =
+    let m : Meaning = c.self.inside.core in
+    let n : Meaning = c.learn.new.self in
+    let k : Keeper Offer = c.try_keep.new.seat in
+    let old : Shown = record { core = m; slots = c.self.inside.keeper.slots } in
+    let new : Shown = record { core = n; slots = k.slots } in
+    let marked : is_prepared m c.args.region ≡ true = subst (λ (v : Shown). is_prepared v.core c.args.region ≡ true) (sym c.self.view_is) c.requires.prepared in
+    let slots : k.slots ≡ c.self.inside.keeper.slots = ap (λ (x : Keeper Offer). x.slots) c.in-Busy.ensures.answer in
+    subst (λ (v : Shown). CallsBack v new c.args.by (nat_eq c.args.region)) c.self.view_is (back_learnt old new c.args.by c.in-Busy.worker c.args.region slots marked c.learn.ensures)

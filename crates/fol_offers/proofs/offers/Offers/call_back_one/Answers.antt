@@ -1,5 +1,6 @@
-use Rattle.fol_offers.proofs.Recalls.{back_one}
+use Rattle.std.proofs.Common.{rules}
+use Rattle.fol_offers.proofs.CalledBack.{back_idle}
 use Rattle.fol_offers.proofs.offers.Offers.call_back_one.Goals as goal
 
-pub returns-then-is_prepared : goal.returns-then-is_prepared
-returns-then-is_prepared c = back_one c.args.by c.args.self.now c.call_back.new.self c.args.region c.call_back.ensures
+pub returns-else-is_prepared : goal.returns-else-is_prepared
+returns-else-is_prepared c = back_idle c.args.self.now c.args.by c.args.region (search rules)
