@@ -19,7 +19,7 @@ returns-then-not-branch c =
     let is = c.events.invariant in
     let s = c.args.self.now in
     stops_here c.events.self c.step.new.self s.core.opening s.script c.args.history c.events.left.items c.pop_front.new.self.items c.in-Some.entry is.number c.events.place c.in_ok-step.field-0
-    is.played is.place c.in-Some.ensures.items c.in_ok-step.ensures c.if-not-branch.true
+    is.played is.place c.in-Some.ensures.items (rw c.into_event.ensures at c.in_ok-step.ensures) c.if-not-branch.true
 
 pub overflow_add-place : goal.overflow_add-place
 overflow_add-place c =
@@ -39,7 +39,7 @@ events-preserved c =
       number = is.number + 1;
       place = omega arith;
       played = goes_here c.events.self c.step.new.self s.core.opening s.script c.args.history c.events.left.items c.pop_front.new.self.items c.in-Some.entry is.number c.events.place
-          c.in_ok-step.field-0 is.played is.place c.in-Some.ensures.items c.in_ok-step.ensures c.if-not-branch.false;
+          c.in_ok-step.field-0 is.played is.place c.in-Some.ensures.items (rw c.into_event.ensures at c.in_ok-step.ensures) c.if-not-branch.false;
       in_range = (rw c.in-Some.ensures.items at is.in_range).1;
     }
 
