@@ -27,7 +27,8 @@ use Rattle.fol_tick.specs.ListAnswers.{Answers}
 use Rattle.fol_tick.specs.Runs.{Finishes, MayRun}
 use Rattle.fol_tick.specs.declared.list_host.HostAnswer.{HostAnswer}
 use Rattle.fol_tick.specs.declared.list_host.HostAnswer.TheVariants as answers
-use Rattle.fol_core.specs.Answers.{Begins, end_event}
+use Rattle.fol_core.specs.Answers.{Begins}
+use Rattle.fol_world.specs.AtEnd.{end_event}
 use Rattle.fol_core.specs.Ticks.{IsOut}
 use Rattle.fol_tick_laws.proofs.OpenTicks.{may_run_open, out_when_run}
 use Rattle.fol_data.specs.declared.tick.Tick.{Tick}

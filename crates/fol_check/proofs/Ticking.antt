@@ -24,7 +24,8 @@ use Rattle.fol_tick.specs.Calls.{AreCallsOf, HostCall, hosted, told}
 use Rattle.fol_tick.specs.ListAnswers.{Answers}
 use Rattle.fol_tick.specs.Runs.{Finishes}
 use Rattle.fol_tick.specs.declared.list_host.HostAnswer.{HostAnswer}
-use Rattle.fol_core.specs.Answers.{Begins, end_event}
+use Rattle.fol_core.specs.Answers.{Begins}
+use Rattle.fol_world.specs.AtEnd.{end_event}
 use Rattle.fol_core.specs.Meaning.{Meaning, Stays, world_of}
 use Rattle.fol_core.specs.Meaning as meaning
 use Rattle.fol_core.specs.Ticks.{IsTick}

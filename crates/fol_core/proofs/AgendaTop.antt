@@ -8,7 +8,7 @@ use Rattle.std.proofs.lemmas.List.{drop_all, nil_from_length, take-append-drop}
 use Rattle.std.proofs.lemmas.Option.{same_Some, slice_get_cases}
 use Rattle.fol_model.specs.GridState.{GridState}
 use Rattle.fol_store.specs.Bag.{Bag}
-use Rattle.fol_core.specs.Agenda.{IsAgenda, owes}
+use Rattle.fol_world.specs.Agenda.{IsAgenda, owes}
 
 -- the last of a list stands behind the others
 last_behind : (xs : List ℕ) (r : ℕ) → slice_get xs (length xs - 1) ≡ Some r → xs ≡ take (length xs - 1) xs ++ r ∷ []

@@ -21,16 +21,16 @@ use Rattle.fol_early_laws.proofs.EarlyEvents.{finished_same, owed_off, phase_sam
 use Rattle.fol_regions.specs.Answers.{IsGiven}
 use Rattle.fol_regions.specs.Table.{grid_state}
 use Rattle.fol_store.specs.Stock.{Stock, bag_of, next_of}
-use Rattle.fol_core.specs.declared.tables.Tables.{Tables}
-use Rattle.fol_core.specs.Agenda.{owes}
+use Rattle.fol_world.specs.declared.tables.Tables.{Tables}
+use Rattle.fol_world.specs.Agenda.{owes}
 use Rattle.fol_core.specs.Ahead.{AheadRun, AreAmong, RunsAhead, StandsAhead}
 use Rattle.fol_core.specs.Answers.{is_over, is_owing}
-use Rattle.fol_core.specs.Hands.{rests}
-use Rattle.fol_core.specs.Begun.{Gathered}
-use Rattle.fol_core.specs.Same.{SameTables, SameThings}
-use Rattle.fol_core.specs.Stands.{Stands}
+use Rattle.fol_world.specs.Hands.{rests}
+use Rattle.fol_world.specs.Begun.{Gathered}
+use Rattle.fol_world.specs.Same.{SameTables, SameThings}
+use Rattle.fol_world.specs.Stands.{Stands}
 use Rattle.fol_core.proofs.AheadRuns.{allowed_ahead, early_entries, early_run, event_entries, event_run, good_at, late_allowed, late_entries, late_run}
-use Rattle.fol_core.proofs.GatheredBags.{gathered_stands, is_ready-true}
+use Rattle.fol_world.proofs.GatheredBags.{gathered_stands, is_ready-true}
 use Rattle.fol_core.proofs.SameKept.{same_stands}
 
 -- the same run, by the same marks

@@ -35,16 +35,16 @@ use Rattle.fol_core.specs.declared.answers.Finish.TheVariants as finishes
 use Rattle.fol_core.specs.declared.answers.Phase.TheVariants as phases
 use Rattle.fol_core.specs.declared.answers.Posting.{Posting}
 use Rattle.fol_core.specs.declared.answers.Posting.TheVariants as postings
-use Rattle.fol_core.specs.declared.tables.Tables.{Tables}
-use Rattle.fol_core.specs.Agenda.{IsAgenda, owes}
+use Rattle.fol_world.specs.declared.tables.Tables.{Tables}
+use Rattle.fol_world.specs.Agenda.{IsAgenda, owes}
 use Rattle.fol_core.specs.Ahead.{AheadRun, StandsAhead}
 use Rattle.fol_core.specs.Answers.{close_result, finish_result, is_busy, is_over, is_owing, load_result, phase_result, post_result, posting_of, state_result, unload_result}
-use Rattle.fol_core.specs.Closings.{owners_in}
-use Rattle.fol_core.specs.Follows.{load_answer_in}
-use Rattle.fol_core.specs.Hands.{at_rest, owner_of, since, went}
-use Rattle.fol_core.specs.Stands.{Fits, Stands}
+use Rattle.fol_world.specs.Closings.{owners_in}
+use Rattle.fol_world.specs.Follows.{load_answer_in}
+use Rattle.fol_world.specs.Hands.{at_rest, owner_of, since, went}
+use Rattle.fol_world.specs.Stands.{Fits, Stands}
 use Rattle.fol_core.proofs.AgendaTop.{none_owes, top_owes}
-use Rattle.fol_core.proofs.OwnerRows.{owners_stand}
+use Rattle.fol_world.proofs.OwnerRows.{owners_stand}
 use Rattle.fol_core.proofs.Ahead.{finished_is, good_now, next_ahead, next_is, over_is, owes_free, over_ahead, owner_ahead, phase_ahead, phase_is, state_ahead, state_free}
 
 module _ (o : Opening) (h : List Entry) (p : ℕ → Bool) (t : Tables) (s : StandsAhead o h p t) where

@@ -16,14 +16,14 @@ use Rattle.fol_regions.specs.Answers.{state_answer}
 use Rattle.fol_regions.specs.Table.{grid_state}
 use Rattle.fol_store.specs.Stock.{bag_of}
 use Rattle.fol_data.specs.declared.tick.Tick.{Tick}
-use Rattle.fol_core.specs.declared.tables.Tables.{Tables}
-use Rattle.fol_core.specs.Agenda.{owes}
+use Rattle.fol_world.specs.declared.tables.Tables.{Tables}
+use Rattle.fol_world.specs.Agenda.{owes}
 use Rattle.fol_core.specs.Ahead.{StandsAhead}
 use Rattle.fol_core.specs.Answers.{is_over, is_owing}
 use Rattle.fol_core.specs.Ticks.{IsTick}
 use Rattle.fol_core.proofs.Ahead.{good_now, owes_free, state_free}
 use Rattle.fol_core.proofs.AheadTicks.{tick_ahead}
-use Rattle.fol_core.proofs.GatheredBags.{is_ready-true}
+use Rattle.fol_world.proofs.GatheredBags.{is_ready-true}
 
 not_true : (b : Bool) → not b ≡ true → b ≡ false
 not_true true h = absurd (true≢false (sym h))

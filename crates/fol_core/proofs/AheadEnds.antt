@@ -23,13 +23,12 @@ use Rattle.fol_early_laws.specs.EarlyBegins.{ahead_of, down_all, SparesAll}
 use Rattle.fol_early_laws.proofs.EarlyEvents.{answers_met, counter_met, due_met, owed_met, recorded_met, ticked_met, ticking_met, ticking_off}
 use Rattle.fol_chunks.specs.Contents.{within}
 use Rattle.fol_data.specs.declared.tick.Tick.{Tick}
-use Rattle.fol_core.specs.declared.tables.Tables.{Tables}
+use Rattle.fol_world.specs.declared.tables.Tables.{Tables}
 use Rattle.fol_core.specs.Ahead.{StandsAhead}
-use Rattle.fol_core.specs.Answers.{end_event}
-use Rattle.fol_core.specs.AtEnd.{AtEnd}
-use Rattle.fol_core.specs.Hands.{owner_of, since, ticker, went}
+use Rattle.fol_world.specs.AtEnd.{end_event, AtEnd}
+use Rattle.fol_world.specs.Hands.{owner_of, since, ticker, went}
 use Rattle.fol_core.proofs.Ahead.{good_now}
-use Rattle.fol_core.proofs.HandSteps.{ticker_on}
+use Rattle.fol_world.proofs.HandSteps.{ticker_on}
 
 -- what a region that is not marked has queued
 queued_down : (g : GridState) (p : ℕ → Bool) (q : ℕ) → p q ≡ false → (x : Option Job) → queued_in g q (down_all g p x) ≡ queued_in g q x

@@ -29,11 +29,11 @@ use Rattle.fol_laws.proofs.WholeRuns.{Good}
 use Rattle.fol_early_laws.specs.EarlyBegins.{ahead_of, IsAhead, own_event, SparesAll}
 use Rattle.fol_early_laws.proofs.EarlyEvents.{chunks_kept, met, new_unmarked}
 use Rattle.fol_core.specs.Ahead.{Goes}
-use Rattle.fol_core.specs.Hands.{owner_of, since_after, ticker, went}
+use Rattle.fol_world.specs.Hands.{owner_of, since_after, ticker, went}
 use Rattle.fol_core.proofs.BegunHands.{went_else, went_here}
-use Rattle.fol_core.proofs.GridRuns.{grid_after}
-use Rattle.fol_core.proofs.HandSteps.{ticker_off, ticker_on, went_by}
-use Rattle.fol_core.proofs.SinceRuns.{since_below}
+use Rattle.fol_world.proofs.GridRuns.{grid_after}
+use Rattle.fol_world.proofs.HandSteps.{ticker_off, ticker_on, went_by}
+use Rattle.fol_world.proofs.SinceRuns.{since_below}
 
 -- ---- a queued task was queued before, on the same chunk
 pub record WasQueued (x : Option Job) (j : Job) : Type 0 where

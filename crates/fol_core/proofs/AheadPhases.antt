@@ -9,11 +9,11 @@ use Rattle.fol_model.specs.GridState.{is_ticking}
 use Rattle.fol_model.specs.Run.{world}
 use Rattle.fol_regions.specs.Table.{grid_state}
 use Rattle.fol_store.specs.Stock.{bag_of}
-use Rattle.fol_core.specs.declared.tables.Tables.{Tables}
-use Rattle.fol_core.specs.Agenda.{is_busy_in}
+use Rattle.fol_world.specs.declared.tables.Tables.{Tables}
+use Rattle.fol_world.specs.Agenda.{is_busy_in}
 use Rattle.fol_core.specs.Ahead.{StandsAhead}
 use Rattle.fol_core.specs.Answers.{is_owing}
-use Rattle.fol_core.specs.Closings.{live_in}
+use Rattle.fol_world.specs.Closings.{live_in}
 use Rattle.fol_core.proofs.Ahead.{state_ahead}
 use Rattle.fol_core.proofs.PhaseKept.{none_busy}
 

@@ -23,12 +23,13 @@ use Rattle.fol_early_laws.specs.EarlyBegins.{IsAhead, SparesAll}
 use Rattle.fol_early_laws.proofs.EarlyEvents.{counter_met, tick_same, ticked_met, ticking_off}
 use Rattle.fol_regions.specs.Table.{grid_state}
 use Rattle.fol_store.specs.Stock.{bag_of}
-use Rattle.fol_core.specs.declared.tables.Course.{Course}
-use Rattle.fol_core.specs.declared.tables.Tables.{Tables}
+use Rattle.fol_world.specs.declared.tables.Course.{Course}
+use Rattle.fol_world.specs.declared.tables.Tables.{Tables}
 use Rattle.fol_core.specs.Ahead.{RunsAhead, StandsAhead}
 use Rattle.fol_core.specs.Answers.{is_over}
-use Rattle.fol_core.specs.Quiet.{IsQuiet, PassesTick, quiet_tick}
-use Rattle.fol_core.specs.Stands.{Stands}
+use Rattle.fol_world.specs.Quiet.{IsQuiet, PassesTick}
+use Rattle.fol_core.specs.Quiet.{quiet_tick}
+use Rattle.fol_world.specs.Stands.{Stands}
 use Rattle.fol_core.proofs.Ahead.{event_runs, over_is, runs_entries}
 use Rattle.fol_core.proofs.AheadBegins.{begin_allowed, begin_spares}
 use Rattle.fol_core.proofs.AheadRuns.{good_at}

@@ -23,11 +23,11 @@ use Rattle.fol_laws.proofs.WholeRuns.{Good, good_run}
 use Rattle.fol_early_laws.specs.EarlyBegins.{ahead_of, IsAhead, own_event, SparesAll}
 use Rattle.fol_early_laws.proofs.EarlyEvents.{comes_early, finished_same, is_met, met}
 use Rattle.fol_core.specs.Ahead.{AheadRun, Goes}
-use Rattle.fol_core.specs.Hands.{owner_of, since, went}
+use Rattle.fol_world.specs.Hands.{owner_of, since, went}
 use Rattle.fol_core.proofs.AheadHands.{counted_was, goes_after}
 use Rattle.fol_core.proofs.BegunHands.{went_else, went_here}
-use Rattle.fol_core.proofs.Longer.{answered_more, length_more, since_more}
-use Rattle.fol_core.proofs.SinceRuns.{since_most}
+use Rattle.fol_world.proofs.Longer.{answered_more, length_more, since_more}
+use Rattle.fol_world.proofs.SinceRuns.{since_most}
 
 pub good_at : (o : Opening) (h : List Entry) → IsGrid o.grid → Run o h → Good o (world o h)
 good_at o h ok run = good_run o h [] ok (rw (append-nil h) run)

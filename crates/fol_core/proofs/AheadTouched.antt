@@ -17,7 +17,7 @@ use Rattle.fol_region_tables.proofs.Chosen.{filter_like, filter_twice}
 use Rattle.fol_regions.specs.Answers.{state_answer}
 use Rattle.fol_regions.specs.Table.{grid_state}
 use Rattle.fol_regions.specs.Touched.{is_touched}
-use Rattle.fol_core.specs.declared.tables.Tables.{Tables}
+use Rattle.fol_world.specs.declared.tables.Tables.{Tables}
 use Rattle.fol_core.specs.Ahead.{StandsAhead, may_touch}
 use Rattle.fol_core.specs.Answers.{state_result}
 use Rattle.fol_core.proofs.Ahead.{good_now, next_is}

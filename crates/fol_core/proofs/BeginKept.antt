@@ -29,12 +29,12 @@ use Rattle.fol_regions.specs.Table.{grid_state}
 use Rattle.fol_sections.specs.Places.{count_at}
 use Rattle.fol_store.specs.Bag.{Bag, is_whole, taken_out}
 use Rattle.fol_store.specs.Stock.{bag_of, due_of, flat_of, jobs_of, next_of}
-use Rattle.fol_core.specs.declared.tables.Course.{Course}
-use Rattle.fol_core.specs.declared.tables.Tables.{Tables}
-use Rattle.fol_core.specs.Agenda.{Covers, HaveBags, IsAgenda, owes}
-use Rattle.fol_core.specs.Bags.{AreBut, IsBagOf}
-use Rattle.fol_core.specs.Begun.{due_task, left_job}
-use Rattle.fol_core.specs.Hands.{at_rest, in_hands, since}
+use Rattle.fol_world.specs.declared.tables.Course.{Course}
+use Rattle.fol_world.specs.declared.tables.Tables.{Tables}
+use Rattle.fol_world.specs.Agenda.{Covers, HaveBags, IsAgenda, owes}
+use Rattle.fol_world.specs.Bags.{AreBut, IsBagOf}
+use Rattle.fol_world.specs.Begun.{due_task, left_job}
+use Rattle.fol_world.specs.Hands.{at_rest, in_hands, since}
 use Rattle.fol_core.specs.declared.machine.Room.{Room}
 use Rattle.fol_core.specs.declared.machine.Room.TheVariants.{Begin, End}
 use Rattle.fol_core.specs.Meaning.{ForBegin}
@@ -43,15 +43,15 @@ use Rattle.fol_regions.specs.Answers.{state_answer}
 use Rattle.std.specs.Global.{Vec}
 use Rattle.std.specs.Prelude.{vec_len, vec_capacity}
 use Rattle.std.proofs.lemmas.Option.{same_Some}
-use Rattle.fol_core.specs.Stands.{Fits, IsCourse, Stands}
+use Rattle.fol_world.specs.Stands.{Fits, IsCourse, Stands}
 use Rattle.fol_core.proofs.BegunHands.{due_is, hands_after, left_is, not_in_hands, outside_outside, rest_is, within_outside}
-use Rattle.fol_core.proofs.ChunkLists.{kept_listed, loaded_within, owned}
+use Rattle.fol_world.proofs.ChunkLists.{kept_listed, loaded_within, owned}
 use Rattle.fol_core.proofs.DueLists.{due_is_list, due_number}
-use Rattle.fol_core.proofs.GatheredBags.{ready_now}
-use Rattle.fol_core.proofs.KeptUp.{keeps_exact}
+use Rattle.fol_world.proofs.GatheredBags.{ready_now}
+use Rattle.fol_world.proofs.KeptUp.{keeps_exact}
 use Rattle.fol_core.proofs.LoadKept.{SameMarks}
-use Rattle.fol_core.proofs.Longer.{good_of}
-use Rattle.fol_core.proofs.UnsettledBags.{exact_bag, have_bags}
+use Rattle.fol_world.proofs.Longer.{good_of}
+use Rattle.fol_world.proofs.UnsettledBags.{exact_bag, have_bags}
 
 pub state_else : (g : GridState) (id r : ℕ) → r ≢ id → (begin g id).state r ≡ g.state r
 unfolding begin

@@ -19,17 +19,17 @@ use Rattle.fol_regions.specs.Table.{grid_state}
 use Rattle.fol_store.specs.Bag.{taken_out}
 use Rattle.fol_store.specs.Stock.{bag_of, flat_of, jobs_of, next_of}
 use Rattle.fol_data.specs.declared.tick.Tick.{Tick}
-use Rattle.fol_core.specs.declared.tables.Course.{Course}
-use Rattle.fol_core.specs.declared.tables.Tables.{Tables}
-use Rattle.fol_core.specs.Agenda.{IsAgenda, owes}
+use Rattle.fol_world.specs.declared.tables.Course.{Course}
+use Rattle.fol_world.specs.declared.tables.Tables.{Tables}
+use Rattle.fol_world.specs.Agenda.{IsAgenda, owes}
 use Rattle.fol_core.specs.Answers.{is_over, is_owing}
-use Rattle.fol_core.specs.Begun.{due_task, left_job}
-use Rattle.fol_core.specs.Stands.{Stands}
+use Rattle.fol_world.specs.Begun.{due_task, left_job}
+use Rattle.fol_world.specs.Stands.{Stands}
 use Rattle.fol_core.specs.Ticks.{IsTick}
 use Rattle.fol_core.proofs.BeginKept.{begin_contents, begin_due, begin_fits, begin_left, begun_marks, its_chunks}
-use Rattle.fol_core.proofs.GatheredBags.{ready_here, ready_now}
+use Rattle.fol_world.proofs.GatheredBags.{ready_here, ready_now}
 use Rattle.fol_core.proofs.LoadKept.{course_more}
-use Rattle.fol_core.proofs.Longer.{stands_more}
+use Rattle.fol_world.proofs.Longer.{stands_more}
 
 begun_jobs : (w : World) (worker id n : ℕ) → (begun w worker id).jobs n ≡ counted_down w.grid id (w.jobs n)
 unfolding begun

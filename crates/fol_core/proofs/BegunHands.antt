@@ -14,9 +14,9 @@ use Rattle.fol_model.specs.Outputs.{is_chunk_of}
 use Rattle.fol_model.specs.QueuedTask.{counted_down, queued_in}
 use Rattle.fol_chunks.specs.Contents.{option_filter as kept_standing, outside, within}
 use Rattle.fol_queues.specs.Waiting.{option_filter}
-use Rattle.fol_core.specs.Begun.{due_task, left_job}
-use Rattle.fol_core.specs.Hands.{at_rest, in_hands, owner_of, ticker, went}
-use Rattle.fol_core.proofs.Flats.{flat_ext}
+use Rattle.fol_world.specs.Begun.{due_task, left_job}
+use Rattle.fol_world.specs.Hands.{at_rest, in_hands, owner_of, ticker, went}
+use Rattle.fol_world.proofs.Flats.{flat_ext}
 
 -- one or no task as a list
 abbrev pub listed : Option Task → List Task

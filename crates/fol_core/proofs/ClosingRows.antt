@@ -25,20 +25,20 @@ use Rattle.fol_laws.proofs.PlaceOfEntity.{places_ok}
 use Rattle.fol_laws.proofs.WholeRuns.{Good, good_start}
 use Rattle.fol_regions.specs.Table.{grid_state}
 use Rattle.fol_store.specs.Stock.{bag_of, flat_of, jobs_of}
-use Rattle.fol_core.specs.declared.tables.Tables.{Tables}
+use Rattle.fol_world.specs.declared.tables.Tables.{Tables}
 use Rattle.fol_core.specs.declared.answers.CloseFault.{CloseFault}
 use Rattle.fol_core.specs.declared.answers.CloseFault.TheVariants.{NoMemory, Ticking}
-use Rattle.fol_core.specs.Answers.{Faults, is_ticking_in}
-use Rattle.fol_core.specs.Closings.{FindsTicking, ArePlaces, AreRows, AreThings, HasRow, live_in, owners_in, row_in, ticks_in}
-use Rattle.fol_core.specs.Hands.{since}
-use Rattle.fol_core.specs.Stands.{Stands}
-use Rattle.fol_core.proofs.BlockRuns.{BlocksWithin, blocks_within, first_within}
-use Rattle.fol_core.proofs.CalmStore.{all_flat, all_jobs, calm, have_rows, rows_of_bags, ticking_lives}
-use Rattle.fol_core.proofs.EntityRows.{are_places, entity_rows_are, few_ids}
-use Rattle.fol_core.proofs.OwnerRows.{owners_stand}
-use Rattle.fol_core.proofs.LeastFound.{first_below, first_found, first_none, first_some}
-use Rattle.fol_core.proofs.Longer.{good_of}
-use Rattle.fol_core.proofs.RowsInOrder.{block_rows_are, task_rows_are}
+use Rattle.fol_core.specs.Answers.{Faults, is_ticking_in, FindsTicking}
+use Rattle.fol_world.specs.Closings.{ArePlaces, AreRows, AreThings, HasRow, live_in, owners_in, row_in, ticks_in}
+use Rattle.fol_world.specs.Hands.{since}
+use Rattle.fol_world.specs.Stands.{Stands}
+use Rattle.fol_world.proofs.BlockRuns.{BlocksWithin, blocks_within, first_within}
+use Rattle.fol_world.proofs.CalmStore.{all_flat, all_jobs, calm, have_rows, rows_of_bags, ticking_lives}
+use Rattle.fol_world.proofs.EntityRows.{are_places, entity_rows_are, few_ids}
+use Rattle.fol_world.proofs.OwnerRows.{owners_stand}
+use Rattle.fol_world.proofs.LeastFound.{first_below, first_found, first_none, first_some}
+use Rattle.fol_world.proofs.Longer.{good_of}
+use Rattle.fol_world.proofs.RowsInOrder.{block_rows_are, task_rows_are}
 
 module _ (o : Opening) (h : List Entry) (t : Tables) (s : Stands o h t) (live : List ℕ) (l : live ≡ filter (λ r. not (is_dead ((grid_state t.regions).state r))) (numbers_below (grid_state t.regions).next)) where
   live_now : live ≡ live_in (world o h).grid

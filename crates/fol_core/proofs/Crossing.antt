@@ -18,9 +18,9 @@ use Rattle.fol_core.specs.contracts.entries.Answers as answers
 use Rattle.fol_core.specs.contracts.machine.Core as core
 use Rattle.fol_core.specs.contracts.machine.Core.TheInside as inside
 use Rattle.fol_core.specs.contracts.machine.Room as room
-use Rattle.fol_core.specs.contracts.tables.Course as course
+use Rattle.fol_world.specs.contracts.tables.Course as course
 use Rattle.fol_core.specs.contracts.marks.Marks as marks
-use Rattle.fol_core.specs.contracts.tables.Tables as tables
+use Rattle.fol_world.specs.contracts.tables.Tables as tables
 
 Grid-send : IsSend (grid.the_field).row
 Grid-send = grids.the_send

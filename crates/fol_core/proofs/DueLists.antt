@@ -10,7 +10,7 @@ use Rattle.fol_model.specs.Job.{Job, taken_task}
 use Rattle.fol_model.specs.World.{World, due_below}
 use Rattle.fol_laws.proofs.OutcomesAgain.{due_rising}
 use Rattle.fol_queues.specs.Waiting.{task_in}
-use Rattle.fol_core.specs.Begun.{due_task}
+use Rattle.fol_world.specs.Begun.{due_task}
 use Rattle.fol_core.proofs.BegunHands.{listed}
 
 above_none : (n k : ℕ) (ts : List Task) → AllAbove n ts → k ≤ n → task_in ts k ≡ None

@@ -24,9 +24,9 @@ use Rattle.fol_laws.proofs.WholeRuns.{Good}
 use Rattle.fol_chunks.specs.Contents.{flat_of, is_recorded, within}
 use Rattle.fol_queues.specs.Waiting.{jobs_of}
 use Rattle.fol_data.specs.declared.tick.Tick.{Tick}
-use Rattle.fol_core.specs.AtEnd.{AtEnd}
-use Rattle.fol_core.specs.Hands.{since, since_from}
-use Rattle.fol_core.proofs.BackTasks.{on_recorded, since_along, since_at}
+use Rattle.fol_world.specs.AtEnd.{AtEnd}
+use Rattle.fol_world.specs.Hands.{since, since_from}
+use Rattle.fol_world.proofs.BackTasks.{on_recorded, since_along, since_at}
 use Rattle.fol_core.proofs.FinishedRun as fr
 use Rattle.fol_core.proofs.OutAtBegin.{OutAtBegin}
 

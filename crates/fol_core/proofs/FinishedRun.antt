@@ -37,10 +37,10 @@ use Rattle.fol_end_laws.specs.KeptQueue.{SameQueue}
 use Rattle.fol_end_laws.proofs.FinishedTicks.{due_on_recorded, finished_ends}
 use Rattle.fol_end_laws.proofs.KeptQueues.{queue_kept}
 use Rattle.fol_chunks.specs.Contents.{is_recorded, option_filter, within}
-use Rattle.fol_core.proofs.CalmRuns.{calm_after, calm_run}
-use Rattle.fol_core.proofs.ChunkLists.{kept_listed}
-use Rattle.fol_core.proofs.Flats.{flat_ext}
-use Rattle.fol_core.proofs.OwedKept.{owes_along}
+use Rattle.fol_world.proofs.CalmRuns.{calm_after, calm_run}
+use Rattle.fol_world.proofs.ChunkLists.{kept_listed}
+use Rattle.fol_world.proofs.Flats.{flat_ext}
+use Rattle.fol_world.proofs.OwedKept.{owes_along}
 
 -- ---- the entry in a run
 at_entry : (w : World) (es : List Entry) (e : Entry) (rest : List Entry) → RunFrom w (es ++ e ∷ rest) → Allowed (after_all w es) e.event × RunFrom (after (after_all w es) e.event) rest

@@ -20,7 +20,7 @@ use Rattle.fol_model.specs.Holds.{loaded, unloaded, posted}
 use Rattle.fol_model.specs.QueuedTask.{begun}
 use Rattle.fol_model.specs.End.{dropped, ticked, put_back, accepted, all_accepted, released, run_down, ended}
 use Rattle.fol_model.specs.Run.{Allowed, RunFrom, after, after_all}
-use Rattle.fol_core.proofs.CalmRuns.{calm_run}
+use Rattle.fol_world.proofs.CalmRuns.{calm_run}
 
 over_loaded : (w : World) (c : ChunkPos) → (loaded w c).finished ≡ w.finished
 unfolding loaded

@@ -20,15 +20,15 @@ use Rattle.fol_model.specs.Run.{Allowed, after, world}
 use Rattle.fol_sections.specs.Places.{count_at}
 use Rattle.fol_regions.specs.Table.{grid_state}
 use Rattle.fol_store.specs.Stock.{bag_of, jobs_of, next_of}
-use Rattle.fol_core.specs.declared.tables.Course.{Course}
-use Rattle.fol_core.specs.declared.tables.Tables.{Tables}
-use Rattle.fol_core.specs.Hands.{at_rest, since}
-use Rattle.fol_core.specs.Agenda.{Covers, IsAgenda, TopOwes}
-use Rattle.fol_core.specs.Follows.{Holds, load_answer_in, tickets_after}
-use Rattle.fol_core.specs.Stands.{IsCourse, Stands}
-use Rattle.fol_core.proofs.GridRuns.{grid_after}
-use Rattle.fol_core.proofs.Held.{HeldMore, held_bags, held_flat, held_loaded, held_next, held_rest}
-use Rattle.fol_core.proofs.Longer.{stands_more}
+use Rattle.fol_world.specs.declared.tables.Course.{Course}
+use Rattle.fol_world.specs.declared.tables.Tables.{Tables}
+use Rattle.fol_world.specs.Hands.{at_rest, since}
+use Rattle.fol_world.specs.Agenda.{Covers, IsAgenda, TopOwes}
+use Rattle.fol_world.specs.Follows.{Holds, load_answer_in, tickets_after}
+use Rattle.fol_world.specs.Stands.{IsCourse, Stands}
+use Rattle.fol_world.proofs.GridRuns.{grid_after}
+use Rattle.fol_world.proofs.Held.{HeldMore, held_bags, held_flat, held_loaded, held_next, held_rest}
+use Rattle.fol_world.proofs.Longer.{stands_more}
 
 -- the marks of v are those of w
 pub record SameMarks (w v : World) : Type 0 where

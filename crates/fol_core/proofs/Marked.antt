@@ -5,10 +5,10 @@ use Rattle.fol_model.specs.declared.openings.Opening.{Opening}
 use Rattle.fol_model.specs.declared.events.Event.TheVariants.{Finish, Stop}
 use Rattle.fol_model.specs.declared.events.Entry.{Entry}
 use Rattle.fol_model.specs.Run.{world}
-use Rattle.fol_core.specs.declared.tables.Course.{Course}
-use Rattle.fol_core.specs.declared.tables.Tables.{Tables}
-use Rattle.fol_core.specs.Stands.{Stands}
-use Rattle.fol_core.proofs.Longer.{stands_more}
+use Rattle.fol_world.specs.declared.tables.Course.{Course}
+use Rattle.fol_world.specs.declared.tables.Tables.{Tables}
+use Rattle.fol_world.specs.Stands.{Stands}
+use Rattle.fol_world.proofs.Longer.{stands_more}
 
 module _ (o : Opening) (h : List Entry) (t : Tables) (s : Stands o h t) (on : (t.course.finished || t.course.stopped) ≡ false) where
   parts : (t.course.finished ≡ false) × (t.course.stopped ≡ false)

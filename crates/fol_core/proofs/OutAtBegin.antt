@@ -28,7 +28,7 @@ use Rattle.fol_chunks.specs.Contents.{is_recorded, within}
 use Rattle.fol_data.specs.declared.tick.Tick.{Tick}
 use Rattle.fol_core.specs.Meaning.{Meaning}
 use Rattle.fol_core.specs.Ticks.{HasRun, IsOut, IsTickOf}
-use Rattle.fol_core.proofs.ChunkLists.{kept_listed}
+use Rattle.fol_world.proofs.ChunkLists.{kept_listed}
 use Rattle.fol_core.proofs.FinishedRun.{within_same}
 
 -- the tick is open in the history and is finished, as if it had been made at its Begin

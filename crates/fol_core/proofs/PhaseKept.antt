@@ -21,22 +21,22 @@ use Rattle.fol_laws.proofs.WholeRuns.{Good}
 use Rattle.fol_regions.specs.Table.{grid_state}
 use Rattle.fol_store.specs.Bag.{Bag}
 use Rattle.fol_store.specs.Stock.{Stock, bag_of, next_of}
-use Rattle.fol_core.specs.declared.tables.Course.{Course}
-use Rattle.fol_core.specs.declared.tables.Tables.{Tables}
-use Rattle.fol_core.specs.Hands.{rests}
-use Rattle.fol_core.specs.Bags.{IsBagOf, owing_bags}
-use Rattle.fol_core.specs.Agenda.{HaveBags, IsAgenda, is_busy_in}
+use Rattle.fol_world.specs.declared.tables.Course.{Course}
+use Rattle.fol_world.specs.declared.tables.Tables.{Tables}
+use Rattle.fol_world.specs.Hands.{rests}
+use Rattle.fol_world.specs.Bags.{IsBagOf, owing_bags}
+use Rattle.fol_world.specs.Agenda.{HaveBags, IsAgenda, is_busy_in}
 use Rattle.fol_core.specs.declared.answers.Close.TheVariants.{Closed, NotYet}
 use Rattle.fol_core.specs.Answers.{close_result, is_busy, is_owing}
-use Rattle.fol_core.specs.Same.{SameThings}
-use Rattle.fol_core.specs.Stands.{Stands}
-use Rattle.fol_core.proofs.CalmRuns.{calm_run}
-use Rattle.fol_core.specs.Closings.{live_in}
-use Rattle.fol_core.proofs.CalmStore.{dead_not, in_live}
-use Rattle.fol_core.proofs.KeyedRows.{none_passes, passing}
-use Rattle.fol_core.proofs.LeastFound.{first_below, first_found, first_none, first_some, holds_of}
-use Rattle.fol_core.proofs.Longer.{good_of, stands_more}
-use Rattle.fol_core.proofs.UnsettledBags.{have_bags, ready_rests}
+use Rattle.fol_world.specs.Same.{SameThings}
+use Rattle.fol_world.specs.Stands.{Stands}
+use Rattle.fol_world.proofs.CalmRuns.{calm_run}
+use Rattle.fol_world.specs.Closings.{live_in}
+use Rattle.fol_world.proofs.CalmStore.{dead_not, in_live}
+use Rattle.fol_world.proofs.KeyedRows.{none_passes, passing}
+use Rattle.fol_world.proofs.LeastFound.{first_below, first_found, first_none, first_some, holds_of}
+use Rattle.fol_world.proofs.Longer.{good_of, stands_more}
+use Rattle.fol_world.proofs.UnsettledBags.{have_bags, ready_rests}
 
 -- ---- the bags of regions that all owe n
 owing_there : (n : ℕ) (xs : List ℕ) (f : ℕ → Bag) (r : ℕ) → owing_bags n xs f r ≡ (if list_any (nat_eq r) xs then record (f r) { owed = n } else f r)

@@ -23,19 +23,19 @@ use Rattle.fol_laws.proofs.FunctionsChanged.{at_here, at_other}
 use Rattle.fol_sections.specs.Places.{count_at}
 use Rattle.fol_regions.specs.Table.{grid_state}
 use Rattle.fol_store.specs.Stock.{bag_of, jobs_of, next_of}
-use Rattle.fol_core.specs.declared.tables.Course.{Course}
-use Rattle.fol_core.specs.declared.tables.Tables.{Tables}
-use Rattle.fol_core.specs.Hands.{at_rest, since, ticker, went}
-use Rattle.fol_core.specs.Bags.{IsBagOf}
-use Rattle.fol_core.specs.Agenda.{IsAgenda}
-use Rattle.fol_core.specs.Follows.{Holds, Posts, PostsUnless, accept_in}
-use Rattle.fol_core.specs.Stands.{IsCourse, Stands}
-use Rattle.fol_core.proofs.GridRuns.{grid_after}
-use Rattle.fol_core.proofs.Held.{held_bags, held_flat, held_next, held_posted, held_rest}
+use Rattle.fol_world.specs.declared.tables.Course.{Course}
+use Rattle.fol_world.specs.declared.tables.Tables.{Tables}
+use Rattle.fol_world.specs.Hands.{at_rest, since, ticker, went}
+use Rattle.fol_world.specs.Bags.{IsBagOf}
+use Rattle.fol_world.specs.Agenda.{IsAgenda}
+use Rattle.fol_world.specs.Follows.{Holds, Posts, PostsUnless, accept_in}
+use Rattle.fol_world.specs.Stands.{IsCourse, Stands}
+use Rattle.fol_world.proofs.GridRuns.{grid_after}
+use Rattle.fol_world.proofs.Held.{held_bags, held_flat, held_next, held_posted, held_rest}
 use Rattle.fol_core.proofs.LoadKept.{SameMarks, agenda_held, course_more, grid_held, jobs_held, regions_held, stack_kept}
-use Rattle.fol_core.proofs.Longer.{good_of, stands_more}
-use Rattle.fol_core.proofs.SinceRuns.{since_most}
-use Rattle.fol_core.proofs.TicketRuns.{tickets_posted}
+use Rattle.fol_world.proofs.Longer.{good_of, stands_more}
+use Rattle.fol_world.proofs.SinceRuns.{since_most}
+use Rattle.fol_world.proofs.TicketRuns.{tickets_posted}
 
 full_marks : (w : World) (c : ChunkPos) (d : ℕ) (a : Action) → is_full w.grid c ≡ true → SameMarks w (posted w c d a)
 unfolding posted

@@ -15,8 +15,8 @@ use Rattle.fol_model.specs.QueuedTask.{counted_down, is_queued_in}
 use Rattle.fol_laws.proofs.FunctionsChanged.{at_other}
 use Rattle.fol_chunks.specs.Contents.{option_filter, within}
 use Rattle.fol_store.specs.Passing.{nearer}
-use Rattle.fol_core.specs.Hands.{at_rest, in_hands, owner_of, ticker, went}
-use Rattle.fol_core.proofs.Flats.{flat_ext}
+use Rattle.fol_world.specs.Hands.{at_rest, in_hands, owner_of, ticker, went}
+use Rattle.fol_world.proofs.Flats.{flat_ext}
 
 -- ---- entities that stand in some chunks and do not walk
 stands_still : (rec : Recorded) (o : Option Standing) → walked rec (option_filter (λ s. rec (chunk_of s.at)) o) ≡ option_filter (λ s. rec (chunk_of s.at)) o → walked rec o ≡ o

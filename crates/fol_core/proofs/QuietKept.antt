@@ -35,20 +35,20 @@ use Rattle.fol_sections.specs.Places.{count_at}
 use Rattle.fol_store.specs.Bag.{Bag}
 use Rattle.fol_store.specs.Passing.{nearer}
 use Rattle.fol_store.specs.Stock.{bag_of, flat_of, jobs_of}
-use Rattle.fol_core.specs.declared.tables.Course.{Course}
-use Rattle.fol_core.specs.declared.tables.Tables.{Tables}
-use Rattle.fol_core.specs.Begun.{due_task}
-use Rattle.fol_core.specs.Bags.{IsBagOf}
-use Rattle.fol_core.specs.Hands.{at_rest, rests, since}
-use Rattle.fol_core.specs.Agenda.{IsAgenda, owes}
-use Rattle.fol_core.specs.Quiet.{IsQuiet, PassesTick}
-use Rattle.fol_core.specs.Stands.{Fits, IsCourse, Stands}
+use Rattle.fol_world.specs.declared.tables.Course.{Course}
+use Rattle.fol_world.specs.declared.tables.Tables.{Tables}
+use Rattle.fol_world.specs.Begun.{due_task}
+use Rattle.fol_world.specs.Bags.{IsBagOf}
+use Rattle.fol_world.specs.Hands.{at_rest, rests, since}
+use Rattle.fol_world.specs.Agenda.{IsAgenda, owes}
+use Rattle.fol_world.specs.Quiet.{IsQuiet, PassesTick}
+use Rattle.fol_world.specs.Stands.{Fits, IsCourse, Stands}
 use Rattle.fol_core.proofs.BeginKept.{begin_contents, begin_due, begun_marks, its_chunks}
-use Rattle.fol_core.proofs.ChunkLists.{kept_listed, loaded_within}
-use Rattle.fol_core.proofs.GatheredBags.{ready_here, ready_now}
-use Rattle.fol_core.proofs.Held.{ends_most}
+use Rattle.fol_world.proofs.ChunkLists.{kept_listed, loaded_within}
+use Rattle.fol_world.proofs.GatheredBags.{ready_here, ready_now}
+use Rattle.fol_world.proofs.Held.{ends_most}
 use Rattle.fol_core.proofs.LoadKept.{SameMarks}
-use Rattle.fol_core.proofs.Longer.{answered_more, good_of, since_more}
+use Rattle.fol_world.proofs.Longer.{answered_more, good_of, since_more}
 use Rattle.fol_core.proofs.QuietHands.{all_still, quiet_hands, quiet_rest, quiet_untaken}
 use Rattle.fol_core.proofs.QuietWorlds.{end_allowed, passed, quiet_ended}
 

@@ -9,16 +9,15 @@ use Rattle.fol_model.specs.World.{World}
 use Rattle.fol_model.specs.Run.{Allowed, world}
 use Rattle.fol_laws.specs.Growth.{answers_in}
 use Rattle.fol_data.specs.declared.tick.Tick.{Tick}
-use Rattle.fol_core.specs.declared.tables.Course.{Course}
-use Rattle.fol_core.specs.declared.tables.Tables.{Tables}
-use Rattle.fol_core.specs.Answers.{end_event}
-use Rattle.fol_core.specs.AtEnd.{AtEnd}
-use Rattle.fol_core.specs.Hands.{since}
+use Rattle.fol_world.specs.declared.tables.Course.{Course}
+use Rattle.fol_world.specs.declared.tables.Tables.{Tables}
+use Rattle.fol_world.specs.AtEnd.{end_event, AtEnd}
+use Rattle.fol_world.specs.Hands.{since}
 use Rattle.fol_core.specs.Meaning.{Meaning}
-use Rattle.fol_core.specs.Stands.{Fits, Stands}
+use Rattle.fol_world.specs.Stands.{Fits, Stands}
 use Rattle.fol_core.specs.Ticks.{IsOut, SameTick}
 use Rattle.fol_core.proofs.FinishedRuns.{not_finished}
-use Rattle.fol_core.proofs.Longer.{stands_more}
+use Rattle.fol_world.proofs.Longer.{stands_more}
 
 -- a tick whose room for more changed is out as it was
 pub out_same : (m : Meaning) (old new : Tick) → SameTick old new → IsOut m old → IsOut m new

@@ -8,13 +8,13 @@ use Rattle.fol_model.specs.declared.openings.Opening.{Opening}
 use Rattle.fol_chunks.specs.Contents.{Contents}
 use Rattle.fol_core.specs.declared.machine.Room.{Room}
 use Rattle.fol_core.specs.declared.machine.Room.TheVariants.{Begin, End}
-use Rattle.fol_core.specs.declared.tables.Course.{Course}
-use Rattle.fol_core.specs.declared.tables.Tables.{Tables}
-use Rattle.fol_core.specs.Agenda.{GrowsBy, IsTop}
+use Rattle.fol_world.specs.declared.tables.Course.{Course}
+use Rattle.fol_world.specs.declared.tables.Tables.{Tables}
+use Rattle.fol_world.specs.Agenda.{GrowsBy, IsTop}
 use Rattle.fol_core.specs.Ahead.{StandsAhead}
 use Rattle.fol_core.specs.Room.{AgendaRoom, EndRoom, EntryRoom, HasEndRoom, HasPlace, HasRoom}
-use Rattle.fol_core.specs.Same.{SameTables}
-use Rattle.fol_core.specs.Underway.{HasRoomFor}
+use Rattle.fol_world.specs.Same.{SameTables}
+use Rattle.fol_world.specs.Underway.{HasRoomFor}
 
 -- over the lengths and the capacities of two histories
 pub same_room : (c d : Course) (l m a b k : ℕ) → d ≡ c → m ≡ l → a ≤ b → ((c.finished || c.stopped) ≡ false → l + k < a) → (d.finished || d.stopped) ≡ false → m + k < b

@@ -8,13 +8,13 @@ use Rattle.fol_model.specs.Run.{world}
 use Rattle.fol_sections.specs.Places.{count_at}
 use Rattle.fol_store.specs.Bag.{Bag}
 use Rattle.fol_store.specs.Stock.{Stock, bag_of}
-use Rattle.fol_core.specs.declared.tables.Course.{Course}
-use Rattle.fol_core.specs.declared.tables.Tables.{Tables}
-use Rattle.fol_core.specs.Hands.{since}
-use Rattle.fol_core.specs.Bags.{IsBagOf, StoredIn}
-use Rattle.fol_core.specs.Agenda.{IsAgenda}
-use Rattle.fol_core.specs.Same.{SameStock, SameTables}
-use Rattle.fol_core.specs.Stands.{Fits, IsCourse, IsSize, Stands}
+use Rattle.fol_world.specs.declared.tables.Course.{Course}
+use Rattle.fol_world.specs.declared.tables.Tables.{Tables}
+use Rattle.fol_world.specs.Hands.{since}
+use Rattle.fol_world.specs.Bags.{IsBagOf, StoredIn}
+use Rattle.fol_world.specs.Agenda.{IsAgenda}
+use Rattle.fol_world.specs.Same.{SameStock, SameTables}
+use Rattle.fol_world.specs.Stands.{Fits, IsCourse, IsSize, Stands}
 
 pub same_stored : (k l : Stock) (w : World) (f : ℕ → ℕ) → SameStock k l → StoredIn k w f → StoredIn l w f
 same_stored k l w f e s = record {

@@ -12,13 +12,13 @@ use Rattle.fol_regions.specs.Table.{grid_state}
 use Rattle.fol_sections.specs.Places.{count_at, number_at}
 use Rattle.fol_store.specs.Bag.{Bag, no_bag}
 use Rattle.fol_store.specs.Stock.{Stock, flat_of, jobs_of, bag_of, next_of}
-use Rattle.fol_core.specs.declared.tables.Tables.{Tables}
-use Rattle.fol_core.specs.Hands.{in_hands, ticker}
-use Rattle.fol_core.specs.Bags.{IsBagOf, StoredIn}
-use Rattle.fol_core.specs.Agenda.{IsAgenda, TopOwes}
+use Rattle.fol_world.specs.declared.tables.Tables.{Tables}
+use Rattle.fol_world.specs.Hands.{in_hands, ticker}
+use Rattle.fol_world.specs.Bags.{IsBagOf, StoredIn}
+use Rattle.fol_world.specs.Agenda.{IsAgenda, TopOwes}
 use Rattle.fol_core.specs.First.{AreFirst, untouched}
-use Rattle.fol_core.specs.Stands.{AreTickets, Stands}
-use Rattle.fol_core.proofs.Flats.{outside_none}
+use Rattle.fol_world.specs.Stands.{AreTickets, Stands}
+use Rattle.fol_world.proofs.Flats.{outside_none}
 
 none_in_hands : (o : Opening) (c : ChunkPos) → in_hands (start o).grid (start o).recorded c ≡ false
 unfolding in_hands ticker

@@ -15,7 +15,7 @@ use Rattle.fol_model.specs.QueuedTask.{counted_down, is_queued_in, queued_in}
 use Rattle.fol_early_laws.specs.EarlyBegins.{down_all}
 use Rattle.fol_queues.specs.declared.dated.Dated.{Dated}
 use Rattle.fol_queues.specs.Waiting.{job_of, task_in}
-use Rattle.fol_core.specs.Hands.{at_rest, owner_of, went}
+use Rattle.fol_world.specs.Hands.{at_rest, owner_of, went}
 use Rattle.fol_core.specs.Undone.{AreNew, queued_again}
 use Rattle.fol_core.proofs.BegunHands.{listed}
 

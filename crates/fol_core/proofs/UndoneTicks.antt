@@ -45,35 +45,35 @@ use Rattle.fol_store.specs.Bag.{Bag}
 use Rattle.fol_store.specs.Stock.{bag_of, flat_of, jobs_of}
 use Rattle.fol_core.specs.declared.machine.Room.{Room}
 use Rattle.fol_core.specs.declared.machine.Room.TheVariants.{Begin, End}
-use Rattle.fol_core.specs.declared.tables.Course.{Course}
-use Rattle.fol_core.specs.declared.tables.Tables.{Tables}
-use Rattle.fol_core.specs.Agenda.{Covers, HaveBags, owes}
+use Rattle.fol_world.specs.declared.tables.Course.{Course}
+use Rattle.fol_world.specs.declared.tables.Tables.{Tables}
+use Rattle.fol_world.specs.Agenda.{Covers, HaveBags, owes}
 use Rattle.fol_core.specs.Ahead.{AheadRun, AreAmong, StandsAhead}
-use Rattle.fol_core.specs.Bags.{AreBut, IsBagOf, KeepsUp}
-use Rattle.fol_core.specs.CatchingUp.{AreHeld}
-use Rattle.fol_core.specs.Hands.{at_rest, in_hands, owner_of, since, went}
+use Rattle.fol_world.specs.Bags.{AreBut, IsBagOf, KeepsUp}
+use Rattle.fol_world.specs.CatchingUp.{AreHeld}
+use Rattle.fol_world.specs.Hands.{at_rest, in_hands, owner_of, since, went}
 use Rattle.fol_core.specs.Meaning.{ForBegin}
-use Rattle.fol_core.specs.Released.{CanComeBack, IsReturned}
+use Rattle.fol_world.specs.Released.{CanComeBack, IsReturned}
 use Rattle.fol_core.specs.Room.{EntryRoom, HasRoom, room_of}
-use Rattle.fol_core.specs.Stands.{Fits, IsCourse, Stands}
+use Rattle.fol_world.specs.Stands.{Fits, IsCourse, Stands}
 use Rattle.fol_core.specs.Ticks.{IsTick}
 use Rattle.fol_core.specs.Undone.{AreNew, IsRoomAgain, Undoes, rests_again}
 use Rattle.fol_core.proofs.Ahead.{at_again, good_now, state_ahead}
 use Rattle.fol_core.proofs.AheadRuns.{good_at}
-use Rattle.fol_core.proofs.BackTasks.{apart, chunk_in, in_time}
+use Rattle.fol_world.proofs.BackTasks.{apart, chunk_in, in_time}
 use Rattle.fol_core.proofs.BeginKept.{state_else}
 use Rattle.fol_core.proofs.BegunHands.{hands_after, not_in_hands, went_quiet}
-use Rattle.fol_core.proofs.ChunkLists.{kept_listed, loaded_within, owned}
+use Rattle.fol_world.proofs.ChunkLists.{kept_listed, loaded_within, owned}
 use Rattle.fol_core.proofs.DueLists.{due_has}
-use Rattle.fol_core.proofs.EndSteps.{queued_was, within_twice}
-use Rattle.fol_core.proofs.Flats.{joined_back}
-use Rattle.fol_core.proofs.Held.{ends_most}
-use Rattle.fol_core.proofs.JoinedBags.{behind, in_front}
-use Rattle.fol_core.proofs.KeptUp.{keeps_exact}
+use Rattle.fol_world.proofs.EndSteps.{queued_was, within_twice}
+use Rattle.fol_world.proofs.Flats.{joined_back}
+use Rattle.fol_world.proofs.Held.{ends_most}
+use Rattle.fol_world.proofs.JoinedBags.{behind, in_front}
+use Rattle.fol_world.proofs.KeptUp.{keeps_exact}
 use Rattle.fol_core.proofs.OwedMost.{owed_most}
-use Rattle.fol_core.proofs.Unheld.{none_on, none_rests}
+use Rattle.fol_world.proofs.Unheld.{none_on, none_rests}
 use Rattle.fol_core.proofs.UndoneTasks.{again_at, again_is, again_job, all_new, job_back, jobs_apart, one_listed, one_number, taken_apart, taken_one}
-use Rattle.fol_core.proofs.UnsettledBags.{have_bags}
+use Rattle.fol_world.proofs.UnsettledBags.{have_bags}
 
 none_dated : (k : ℕ) (x : Option Dated) → option_map (job_of k) x ≡ None → IsNone x
 none_dated k None e = refl

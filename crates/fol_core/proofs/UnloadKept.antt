@@ -26,23 +26,23 @@ use Rattle.fol_sections.specs.Places.{count_at}
 use Rattle.fol_regions.specs.Table.{grid_state}
 use Rattle.fol_store.specs.Bag.{Bag}
 use Rattle.fol_store.specs.Stock.{bag_of, jobs_of}
-use Rattle.fol_core.specs.declared.tables.Course.{Course}
-use Rattle.fol_core.specs.declared.tables.Tables.{Tables}
-use Rattle.fol_core.specs.Hands.{at_rest, in_hands, since, ticker, went}
-use Rattle.fol_core.specs.Bags.{AreBut, IsBagOf, unsettled_at}
-use Rattle.fol_core.specs.Agenda.{IsAgenda}
-use Rattle.fol_core.specs.Follows.{CanDrop, CanLose, Settle, Drops, IsKnown, losing}
+use Rattle.fol_world.specs.declared.tables.Course.{Course}
+use Rattle.fol_world.specs.declared.tables.Tables.{Tables}
+use Rattle.fol_world.specs.Hands.{at_rest, in_hands, since, ticker, went}
+use Rattle.fol_world.specs.Bags.{AreBut, IsBagOf, unsettled_at}
+use Rattle.fol_world.specs.Agenda.{IsAgenda}
+use Rattle.fol_world.specs.Follows.{CanDrop, CanLose, Settle, Drops, IsKnown, losing}
 use Rattle.fol_core.specs.Answers.{unload_result}
-use Rattle.fol_core.specs.Stands.{Fits, IsCourse, Stands}
-use Rattle.fol_core.proofs.Added.{off_owed}
-use Rattle.fol_core.proofs.AddBags.{same_filter}
+use Rattle.fol_world.specs.Stands.{Fits, IsCourse, Stands}
+use Rattle.fol_world.proofs.Added.{off_owed}
+use Rattle.fol_world.proofs.AddBags.{same_filter}
 use Rattle.fol_core.proofs.LoadKept.{SameMarks, course_more}
-use Rattle.fol_core.proofs.Longer.{good_of, stands_more}
-use Rattle.fol_core.proofs.Unheld.{none_on, none_rests}
-use Rattle.fol_core.proofs.Loosened.{stays_loaded}
-use Rattle.fol_core.proofs.UnsettledBags.{IsBagBut, bag_but, known_bag, unsettled_bag}
-use Rattle.fol_core.proofs.GatheredBags.{gathered_agenda, gathered_bag}
-use Rattle.fol_core.proofs.SettledBags.{narrows}
+use Rattle.fol_world.proofs.Longer.{good_of, stands_more}
+use Rattle.fol_world.proofs.Unheld.{none_on, none_rests}
+use Rattle.fol_world.proofs.Loosened.{stays_loaded}
+use Rattle.fol_world.proofs.UnsettledBags.{IsBagBut, bag_but, known_bag, unsettled_bag}
+use Rattle.fol_world.proofs.GatheredBags.{gathered_agenda, gathered_bag}
+use Rattle.fol_world.proofs.SettledBags.{narrows}
 
 -- only the chunk's own region may have a chunk less
 dropped_chunks : (g : GridState) (c : ChunkPos) (r : ℕ) → g.owner (section_of g.grid c) ≢ r → (q : ChunkPos) → is_chunk_of (drop_hold g c) r q ≡ is_chunk_of g r q

@@ -14,10 +14,10 @@ use Rattle.fol_model.specs.Run.{Run, world}
 use Rattle.fol_laws.specs.Growth.{answered}
 use Rattle.fol_laws.specs.LateBegin.{draws_in, ground}
 use Rattle.fol_early_laws.specs.EarlyBegins.{IsAhead}
-use Rattle.fol_core.specs.declared.tables.Tables.{Tables}
-use Rattle.fol_core.specs.Hands.{owner_of, since, went}
+use Rattle.fol_world.specs.declared.tables.Tables.{Tables}
+use Rattle.fol_world.specs.Hands.{owner_of, since, went}
 use Rattle.fol_core.specs.Meaning.{Meaning, is_prepared, world_of}
-use Rattle.fol_core.specs.Stands.{Stands}
+use Rattle.fol_world.specs.Stands.{Stands}
 
 -- a queued task of w went with an open tick in x exactly where it went with one in w, or is on a chunk of a marked region; h and f are the
 -- numbers of the next task at the last Begin of each region, in w and in x

@@ -1,5 +1,5 @@
 -- What each call of a core answers in a world, and what it records.
-use Rattle.std.specs.Prelude.{◌≡◌, ℕ, ◌+◌, ◌<◌, Bool, true, false, not, ◌&&◌, ◌||◌, nat_lt, if◌then◌else◌, List, length, Option, Some, None}
+use Rattle.std.specs.Prelude.{◌≡◌, ℕ, ◌<◌, Bool, true, false, not, ◌&&◌, ◌||◌, nat_lt, if◌then◌else◌, length, Option, Some, None}
 use Rattle.fol_model.specs.declared.places.ChunkPos.{ChunkPos}
 use Rattle.fol_model.specs.declared.regions.State.{State}
 use Rattle.fol_model.specs.declared.events.Loaded.{Loaded}
@@ -8,15 +8,12 @@ use Rattle.fol_model.specs.declared.events.Unloaded.{Unloaded}
 use Rattle.fol_model.specs.declared.events.Unloaded.TheVariants as unloads
 use Rattle.fol_model.specs.declared.events.Accept.{Accept}
 use Rattle.fol_model.specs.declared.events.Accept.TheVariants as accepts
-use Rattle.fol_model.specs.declared.events.Event.{Event}
 use Rattle.fol_model.specs.declared.events.Event.TheVariants as events
 use Rattle.fol_model.specs.declared.actions.Action.{Action}
-use Rattle.fol_model.specs.declared.tasks.Ran.{Ran}
 use Rattle.fol_model.specs.Counting.{some_below, least}
-use Rattle.fol_model.specs.GridState.{is_ready, is_ticking, present_count}
+use Rattle.fol_model.specs.GridState.{is_ready, is_ticking, present_count, GridState}
 use Rattle.fol_model.specs.Add.{is_full, wanted}
 use Rattle.fol_model.specs.World.{World}
-use Rattle.fol_model.specs.End.{answers, run_down, ticked}
 use Rattle.fol_model.specs.Run.{load_answer, unload_answer}
 use Rattle.fol_core.specs.Meaning.{Meaning, Records, Unchanged, is_prepared, world_of}
 use Rattle.fol_core.specs.Ticks.{IsTick}
@@ -35,6 +32,8 @@ use Rattle.fol_core.specs.declared.answers.Next.{Next}
 use Rattle.fol_core.specs.declared.answers.Next.TheVariants as nexts
 use Rattle.fol_core.specs.declared.answers.BeginAnswer.{BeginAnswer}
 use Rattle.fol_core.specs.declared.answers.BeginAnswer.TheVariants.{Got, NotReady, NotOwing, Over}
+use Rattle.std.specs.List.{find}
+use Rattle.fol_world.specs.Closings.{ticks_in, live_in}
 
 -- Finish or Stop stands in the history
 abbrev pub is_over : World → Bool
@@ -131,10 +130,6 @@ BeginsNext old new worker nexts.Begun tick = (is_over (world_of old) ≡ false) 
 BeginsNext old new worker nexts.Idle tick = (is_over (world_of old) ≡ false) × ((r : ℕ) → 0 < r → r < (world_of old).grid.next → is_free old r ≡ false) × Unchanged old new
 BeginsNext old new worker nexts.Over tick = (is_over (world_of old) ≡ true) × Unchanged old new
 
--- the End of the tick in which these tasks ran
-abbrev pub end_event : World → ℕ → ℕ → List Ran → Event
-end_event w worker r ran = events.End worker r (w.tick r + 1) ran (answers (run_down w r ran) (ticked w r ran).wishes)
-
 -- ---- the closing
 
 abbrev pub is_ticking_in : World → ℕ → Bool
@@ -144,6 +139,11 @@ is_ticking_in w r = is_ticking (w.grid.state r)
 abbrev pub Faults : World → CloseFault → Type 0
 Faults w (faults.Ticking r) = (some_below (is_ticking_in w) w.grid.next ≡ true) × (r ≡ least (is_ticking_in w) w.grid.next)
 Faults w faults.NoMemory = Unit {0}
+
+-- a region ticks, and this is the first such one; out of memory needs no cause
+abbrev pub FindsTicking : GridState → CloseFault → Type 0
+FindsTicking g (faults.Ticking r) = find (ticks_in g) (live_in g) ≡ Some r
+FindsTicking g faults.NoMemory = Unit {0}
 
 -- ---- queries
 

@@ -7,8 +7,8 @@ use Rattle.fol_model.specs.World.{start}
 use Rattle.fol_regions.specs.Table.{grid_state}
 use Rattle.fol_store.specs.Bag.{no_bag}
 use Rattle.fol_store.specs.Stock.{bag_of, flat_of, jobs_of, next_of}
-use Rattle.fol_core.specs.declared.tables.Course.{Course}
-use Rattle.fol_core.specs.declared.tables.Tables.{Tables}
+use Rattle.fol_world.specs.declared.tables.Course.{Course}
+use Rattle.fol_world.specs.declared.tables.Tables.{Tables}
 
 abbrev pub untouched : Course
 untouched = record { next_job = 1; in_phase = false; sum = 0; stopped = false; finished = false; size = 0 }

@@ -1,5 +1,5 @@
 -- The memory that was taken for what comes next.
-use Rattle.std.specs.Prelude.{◌≡◌, ◌⊎◌, ℕ, Bool, ◌+◌, ◌≤◌, ◌<◌, ◌^◌, true, false, ◌||◌, [], Option, Some, None, vec_len, vec_capacity}
+use Rattle.std.specs.Prelude.{◌≡◌, ◌⊎◌, ℕ, ◌+◌, ◌≤◌, ◌<◌, ◌^◌, true, false, ◌||◌, [], Option, Some, None, vec_len, vec_capacity, length}
 use Rattle.std.specs.Global.{Vec}
 use Rattle.std.specs.HashMap.{spare as room_in}
 use Rattle.fol_model.specs.declared.events.Accept.{Accept}
@@ -8,13 +8,14 @@ use Rattle.fol_model.specs.declared.tasks.Task.{Task}
 use Rattle.fol_regions.specs.Table.{grid_state}
 use Rattle.fol_regions.specs.Answers.{IsGiven}
 use Rattle.fol_store.specs.Bag.{is_whole}
-use Rattle.fol_store.specs.Stock.{Stock, bag_of, due_of}
-use Rattle.fol_core.specs.declared.tables.Course.{Course}
-use Rattle.fol_core.specs.declared.tables.Tables.{Tables}
+use Rattle.fol_store.specs.Stock.{bag_of, due_of}
+use Rattle.fol_world.specs.declared.tables.Course.{Course}
+use Rattle.fol_world.specs.declared.tables.Tables.{Tables}
 use Rattle.fol_core.specs.declared.machine.Room.{Room}
 use Rattle.fol_core.specs.declared.machine.Room.TheVariants.{Begin, End}
-use Rattle.fol_core.specs.Agenda.{IsTop, owes}
+use Rattle.fol_world.specs.Agenda.{IsTop, owes}
 use Rattle.fol_core.specs.Meaning.{Reserved, Nothing, ForBegin, ForEnd}
+use Rattle.fol_data.specs.declared.tick.Tick.{Tick}
 
 -- what it was taken for
 abbrev pub room_of : Option Room → Reserved
@@ -80,19 +81,7 @@ HasRoom (Some (End wishes accepts)) t h early marks = EndRoom wishes accepts t h
 abbrev pub EntryRoom : Course → Vec Entry → ℕ → Type 0
 EntryRoom c h early = (c.finished || c.stopped) ≡ false → vec_len h + early < vec_capacity h
 
--- there is memory for an entry with one hold added, for so many tasks, for a Stop after it, and for the Begins of so many prepared regions
--- or their places in the stack
-pub record HasGrown (t : Tables) (h : Vec Entry) (wanted early : ℕ) : Type 0 where
-  pub size : t.course.size < 2 ^ 50
-  pub history : vec_len h + 2 + early ≤ vec_capacity h
-  pub regions : 1 ≤ t.regions.spare
-  pub tasks : wanted ≤ t.store.spare
-  pub bags : 1 ≤ t.store.slots
-  pub tickets : 1 ≤ room_in t.tickets
-  pub agenda : vec_len t.agenda + 1 + early ≤ vec_capacity t.agenda
-
--- an empty list with room for the due tasks of a whole bag, where the region owes a tick
-pub record DueRoom (due : Vec Task) (k : Stock) (owes : Bool) (id : ℕ) : Type 0 where
-  pub empty : due.items ≡ []
-  pub whole : owes ≡ true → is_whole (bag_of k id) ≡ true
-  pub room : owes ≡ true → due_of k id ≤ vec_capacity due
+-- there is memory for the End of the tick, with its answers, for a Stop after it, and for the Begins of so many prepared regions
+pub record HasGrownToEnd (t : Tables) (h : Vec Entry) (tick : Tick) (accepts : Vec Accept) (early : ℕ) : Type 0 where
+  pub core : EndRoom (length tick.log.wishes) accepts t h early
+  pub things : length tick.log.wishes ≤ tick.body.chunks.spare

@@ -16,12 +16,12 @@ use Rattle.fol_regions.specs.Answers.{unbegun}
 use Rattle.fol_regions.specs.Table.{grid_state}
 use Rattle.fol_store.specs.Bag.{is_whole}
 use Rattle.fol_store.specs.Stock.{bag_of, due_of, flat_of, jobs_of, next_of}
-use Rattle.fol_core.specs.declared.tables.Tables.{Tables}
+use Rattle.fol_world.specs.declared.tables.Tables.{Tables}
 use Rattle.fol_core.specs.declared.machine.Room.{Room}
 use Rattle.fol_core.specs.declared.machine.Room.TheVariants.{Begin, End}
-use Rattle.fol_core.specs.Agenda.{GrowsBy, IsAgenda, IsTop}
+use Rattle.fol_world.specs.Agenda.{GrowsBy, IsAgenda, IsTop}
 use Rattle.fol_core.specs.Ahead.{StandsAhead}
-use Rattle.fol_core.specs.Released.{IsReturned}
+use Rattle.fol_world.specs.Released.{IsReturned}
 use Rattle.fol_core.specs.Ticks.{IsTick}
 
 -- these tasks wait again, with this deadline

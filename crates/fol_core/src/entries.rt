@@ -3,8 +3,8 @@
 ghost use Rattle.std.specs.Prelude.{◌≡◌, ◌+◌, ◌≤◌, ◌<◌, ◌^◌, ◌++◌, [], ◌∷◌, IsTrue, IfOk, vec_len, vec_capacity};
 ghost use Rattle.fol_model.specs.Packed.{is_light};
 
-use crate::tables::Course;
 use fol_model::{Accept, Event, PackedEntry};
+use fol_world::tables::Course;
 use std::alloc::{AllocError, Global};
 use std::marker::Model;
 

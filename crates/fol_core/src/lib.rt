@@ -1,9 +1,9 @@
 //! The machine of one thread: a core stands for an opening and a history that is a run of it. It is for who keeps a world alone, and `fol_live`
 //! makes a shared world of it. Nothing here waits or starts a thread.
 //!
-//! Each call returns what the world after the history says, and adds the entry that it says. The tables inside are the world after
-//! the history, so no call replays it; where ticks were made before their Begins are recorded, they are the world in which these regions
-//! have begun already.
+//! Each call returns what the world after the history says, and adds the entry that it says. The tables inside, of `fol_world`, are the
+//! world after the history, so no call replays it; where ticks were made before their Begins are recorded, they are the world in which
+//! these regions have begun already.
 //!
 //! The calls that a user makes first, in this order:
 //! 1. `Core::start` makes a core of an opening.
@@ -16,28 +16,21 @@
 //! 6. `Core::close_phase` and `Core::finish` end a phase and the history, and `Core::closing` gives all that stands at the end.
 #![tactic(auto)]
 
-mod agenda;
 mod answers;
-mod bags;
-mod begins;
-mod catching_up;
 mod closing;
-mod ends;
 mod entries;
-mod holds;
+mod loads;
 mod machine;
 mod marks;
 mod owners;
-mod parts;
 mod phase_steps;
 mod phases;
 mod posts;
 mod prepared;
 mod quiet;
 mod releases;
-mod tables;
+mod ticks;
 mod undone;
-mod wishes;
 
 pub use answers::{BeginAnswer, Close, CloseFault, Finish, Next, Phase, Posting};
 pub use fol_data::Tick;

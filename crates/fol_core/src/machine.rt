@@ -9,13 +9,13 @@ ghost use Rattle.fol_core.specs.First.{AreFirst, untouched};
 ghost use Rattle.fol_model.specs.GridState.{empty};
 ghost use Rattle.fol_regions.specs.Table.{grid_state};
 
-use crate::agenda::owes;
 use crate::entries::{Answers, EventBox};
 use crate::marks::Marks;
-use crate::tables::{Course, Tables};
 use fol_model::{Grid, Opening, PackedEntry, SectionPos, State, Task};
 use fol_regions::Regions;
 use fol_store::Store;
+use fol_world::agenda::owes;
+use fol_world::tables::{Course, Tables};
 use std::alloc::{AllocError, Global};
 use std::collections::HashMap;
 use std::marker::Model;

@@ -1,19 +1,16 @@
 //! The begin and the end of a phase.
 
-ghost use Rattle.std.specs.Prelude.{◌≡◌, ◌+◌, ◌≤◌, find, IfOk, OnErr};
-ghost use Rattle.fol_regions.specs.Table.{grid_state};
-ghost use Rattle.fol_store.specs.Stock.{bag_of};
+ghost use Rattle.std.specs.Prelude.{◌≡◌, ◌+◌, ◌≤◌, IfOk, OnErr};
 ghost use Rattle.fol_core.specs.Meaning.{Stays, world_of};
-ghost use Rattle.fol_core.specs.Agenda.{HaveBags, is_busy_in};
 ghost use Rattle.fol_core.specs.Answers.{CloseRecords, PhaseRecords, close_result, phase_result};
 
-use crate::agenda::owes;
-use crate::bags::set_owed;
 use crate::entries::record;
 use crate::machine::Core;
-use crate::tables::{Tables, grow_history};
 use crate::{Close, Phase};
-use fol_model::{Event, State};
+use fol_model::Event;
+use fol_world::agenda::first_busy;
+use fol_world::bags::set_owed;
+use fol_world::tables::grow_history;
 use std::alloc::AllocError;
 
 impl Core {
@@ -77,26 +74,5 @@ impl Core {
         );
         self.tables.course.in_phase = false;
         Ok(Close::Closed)
-    }
-}
-
-/// The first region of a list that ticks, or is Ready and owes a tick.
-fn first_busy(tables: &Tables, live: &[u64]) -> Option<u64>
-    requires bags { HaveBags (grid_state tables.now.regions) (bag_of tables.now.store) }
-    ensures { result ≡ find (is_busy_in (grid_state tables.now.regions) (bag_of tables.now.store))
-        live.now }
-{
-    live.iter().copied().find(|id| is_busy(tables, *id))
-}
-
-/// Whether a region ticks, or is Ready and owes a tick.
-fn is_busy(tables: &Tables, id: u64) -> bool
-    requires bags { HaveBags (grid_state tables.now.regions) (bag_of tables.now.store) }
-    ensures { result ≡ is_busy_in (grid_state tables.now.regions) (bag_of tables.now.store) id }
-{
-    tables.regions.keeps_rules();
-    match tables.regions.state(id) {
-        Some(State::Ticking) => true,
-        _ => owes(&tables.regions, &tables.store, id),
     }
 }

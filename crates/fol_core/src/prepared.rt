@@ -11,12 +11,13 @@ ghost use Rattle.fol_core.specs.Meaning.{IsReadyToBegin, is_prepared, world_of};
 ghost use Rattle.fol_core.specs.Ticks.{IsTick};
 ghost use Rattle.fol_core.specs.Undone.{IsRoomAgain};
 
-use crate::begins::{due_room, hand_out, tick_of};
 use crate::machine::{Core, Room};
-use crate::tables::Tables;
+use crate::ticks::due_room;
 use crate::undone::undo;
 use fol_data::Tick;
 use fol_model::{ChunkPos, Event, PackedEntry, State, Task};
+use fol_world::begins::{hand_out, tick_of};
+use fol_world::tables::Tables;
 use std::alloc::AllocError;
 
 impl Core {

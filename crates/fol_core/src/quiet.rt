@@ -1,19 +1,14 @@
 //! Ticks in which nothing happens.
 
 ghost use Rattle.std.specs.Prelude.{◌≡◌, ◌+◌, ◌≤◌, ◌<◌, ◌^◌, false, IsTrue, OnOk, vec_len, vec_capacity};
-ghost use Rattle.fol_regions.specs.Table.{grid_state};
-ghost use Rattle.fol_store.specs.Stock.{bag_of};
-ghost use Rattle.fol_core.specs.Agenda.{HaveBags, IsAgenda};
 ghost use Rattle.fol_core.specs.Meaning.{Stays};
-ghost use Rattle.fol_core.specs.Quiet.{IsQuiet, Passes, PassesOne, PassesTick};
+ghost use Rattle.fol_core.specs.Quiet.{Passes, PassesOne};
 
-use crate::agenda::{owes, tidy};
 use crate::entries::record;
 use crate::machine::Core;
-use crate::tables::{Course, MOST, Tables};
 use fol_model::{Event, PackedEntry, Sequence};
-use fol_regions::Regions;
-use fol_store::Store;
+use fol_world::quiet::{is_quiet, pass_tick};
+use fol_world::tables::{Course, MOST};
 use std::alloc::AllocError;
 
 impl Core {
@@ -62,21 +57,6 @@ impl Core {
     }
 }
 
-/// Whether nothing would happen in the next tick of a region.
-fn is_quiet(regions: &Regions, store: &Store, id: u64) -> bool
-    requires bags { HaveBags (grid_state regions.now) (bag_of store.now) }
-    ensures { IsTrue result → IsQuiet (grid_state regions.now) store.now id }
-{
-    regions.keeps_rules();
-    if !owes(regions, store, id) {
-        return false;
-    }
-    if !store.is_quiet(id) {
-        return false;
-    }
-    regions.will_rest(id)
-}
-
 /// Takes the memory for the Begin and the End of a tick, for a Stop after them, and for the Begins of so many prepared regions.
 fn grow_tick(history: &mut Vec<PackedEntry>, course: &Course, early: u64) -> Result<(), AllocError>
     requires few { early < 2 ^ 63 }
@@ -91,19 +71,4 @@ fn grow_tick(history: &mut Vec<PackedEntry>, course: &Course, early: u64) -> Res
         return Err(AllocError);
     }
     Ok(())
-}
-
-/// A tick of a region passes in which nothing happens. Returns its counter.
-fn pass_tick(tables: &mut Tables, id: u64) -> u64
-    requires quiet { IsQuiet (grid_state tables.old.regions) tables.old.store id }
-    requires bags { HaveBags (grid_state tables.old.regions) (bag_of tables.old.store) }
-    requires agenda { IsAgenda tables.old.agenda.items (grid_state tables.old.regions)
-        (bag_of tables.old.store) }
-    requires early { (bag_of tables.old.store id).tick < 2 ^ 62 }
-    ensures counter { result ≡ (bag_of tables.old.store id).tick + 1 }
-    ensures passed { PassesTick tables.old tables.new id }
-{
-    tables.store.pass(id);
-    tidy(&mut tables.agenda, &tables.regions, &tables.store);
-    tables.store.tick(id)
 }

@@ -4,19 +4,18 @@ ghost use Rattle.std.specs.Prelude.{◌≡◌, ◌+◌, ◌≤◌, ◌<◌, ◌^
 ghost use Rattle.fol_model.specs.End.{run_down};
 ghost use Rattle.fol_laws.specs.LateBegin.{wishes_touch};
 ghost use Rattle.fol_core.specs.Ahead.{Spares};
-ghost use Rattle.fol_core.specs.Answers.{end_event};
+ghost use Rattle.fol_world.specs.AtEnd.{end_event};
 ghost use Rattle.fol_core.specs.Meaning.{ForEnd, Records, Stays, world_of};
-ghost use Rattle.fol_core.specs.MayEnd.{HasGrownToEnd};
-ghost use Rattle.fol_core.specs.Room.{HasEndRoom, room_of};
-ghost use Rattle.fol_core.specs.Same.{SameTables};
+ghost use Rattle.fol_core.specs.Room.{HasGrownToEnd, HasEndRoom, room_of};
+ghost use Rattle.fol_world.specs.Same.{SameTables};
 ghost use Rattle.fol_core.specs.Ticks.{IsOut, IsReadyToRelease, SameTick};
 
-use crate::ends::end_tick;
 use crate::entries::{Answers, EventBox, record_in};
 use crate::machine::{Core, Room};
-use crate::tables::{MOST, Tables, grow_store, grow_tickets};
 use fol_data::Tick;
 use fol_model::PackedEntry;
+use fol_world::ends::end_tick;
+use fol_world::tables::{MOST, Tables, grow_store, grow_tickets};
 use std::alloc::{AllocError, Global};
 
 /// How many parts a region can fall into at most.

@@ -5,12 +5,12 @@ ghost use Rattle.fol_model.specs.FlatTick.{Rising};
 ghost use Rattle.fol_queues.specs.Waiting.{dated};
 ghost use Rattle.fol_core.specs.Undone.{AreNew, MayBeUndone, Undoes, queued_again};
 
-use crate::agenda::add;
-use crate::ends::bring_back;
-use crate::tables::Tables;
 use fol_data::Tick;
 use fol_model::{State, Task};
 use fol_queues::Queues;
+use fol_world::agenda::add;
+use fol_world::ends::bring_back;
+use fol_world::tables::Tables;
 
 /// What a tick has, of which nothing ran, lies in the store again as it lay there before its Begin. Its region is Ready and owes the tick.
 /// Returns the list of the due tasks, emptied. Takes no memory.

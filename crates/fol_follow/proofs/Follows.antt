@@ -8,8 +8,8 @@ use Rattle.fol_model.specs.World.{World}
 use Rattle.fol_model.specs.End.{dropped, run_down, ticked}
 use Rattle.fol_laws.proofs.DetachedLaws.{tick_is_detached}
 use Rattle.fol_chunks.specs.Contents.{within}
-use Rattle.fol_core.specs.AtEnd.{AtEnd}
-use Rattle.fol_core.specs.Hands.{since}
+use Rattle.fol_world.specs.AtEnd.{AtEnd}
+use Rattle.fol_world.specs.Hands.{since}
 use Rattle.fol_core.specs.Meaning.{world_of}
 use Rattle.fol_core.proofs.EndFacts.{at_end}
 use Rattle.fol_core.proofs.OutAtBegin.{out_at_begin}

@@ -5,7 +5,7 @@ use Rattle.std.specs.Prelude.{Result, Ok, Err, IfOk, OnErr}
 use Rattle.std.specs.declared.alloc.AllocError.{AllocError}
 use Rattle.fol_model.specs.declared.events.Entry.{Entry}
 use Rattle.fol_data.specs.declared.tick.Tick.{Tick}
-use Rattle.fol_core.specs.Answers.{end_event}
+use Rattle.fol_world.specs.AtEnd.{end_event}
 use Rattle.fol_core.specs.Meaning.{Meaning, Stays, world_of}
 use Rattle.fol_core.specs.Ticks.{SameTick}
 use Rattle.fol_lock.specs.Log.{Extends}

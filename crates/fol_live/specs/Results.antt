@@ -5,7 +5,8 @@ use Rattle.fol_model.specs.declared.events.Event.TheVariants as events
 use Rattle.fol_model.specs.World.{World}
 use Rattle.fol_core.specs.Meaning.{Meaning, Records, Stays, world_of}
 use Rattle.fol_data.specs.declared.tick.Tick.{Tick}
-use Rattle.fol_core.specs.Answers.{end_event, is_over, is_owing}
+use Rattle.fol_world.specs.AtEnd.{end_event}
+use Rattle.fol_core.specs.Answers.{is_over, is_owing}
 use Rattle.fol_core.specs.Ticks.{IsTick}
 use Rattle.fol_live.specs.declared.answers.LivePhase.{LivePhase}
 use Rattle.fol_live.specs.declared.answers.LivePhase.TheVariants as phases

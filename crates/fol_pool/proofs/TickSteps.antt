@@ -22,7 +22,7 @@ use Rattle.fol_data.specs.declared.tick.Tick.{Tick}
 use Rattle.fol_tick.specs.Calls.{HostCall, hosted, told}
 use Rattle.fol_tick.specs.Calls as calls
 use Rattle.fol_tick.specs.Runs.{Finishes, Runs}
-use Rattle.fol_core.specs.Answers.{end_event}
+use Rattle.fol_world.specs.AtEnd.{end_event}
 use Rattle.fol_core.specs.Meaning.{world_of}
 use Rattle.fol_core.specs.Ticks.{IsBegun, IsTick}
 use Rattle.fol_tick_laws.proofs.BegunTicks.{due_is}

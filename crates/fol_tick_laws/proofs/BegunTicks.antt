@@ -17,7 +17,7 @@ use Rattle.fol_chunks.specs.Contents.{flat_of, is_recorded, within}
 use Rattle.fol_data.specs.declared.tick.Tick.{Tick}
 use Rattle.fol_tick.specs.Runs.{AreFresh, MayRun}
 use Rattle.fol_core.specs.Ticks.{IsTick}
-use Rattle.fol_core.proofs.ChunkLists.{kept_sorted, kept_within}
+use Rattle.fol_world.proofs.ChunkLists.{kept_sorted, kept_within}
 use Rattle.fol_tick_laws.proofs.FreshArrivals.{fresh_due}
 
 flat_begun : (w : World) (k r : ℕ) → (begun w k r).flat ≡ w.flat

@@ -27,7 +27,8 @@ use Rattle.fol_data.specs.declared.tick.Tick.{Tick}
 use Rattle.fol_tick.specs.Calls.{HostCall}
 use Rattle.fol_tick.specs.Runs.{Finishes, MayRun}
 use Rattle.fol_core.specs.Ahead.{Learns}
-use Rattle.fol_core.specs.Answers.{Begins, IsGiven, LoadRecords, PhaseRecords, PostRecords, end_event, is_over, is_owing, state_result}
+use Rattle.fol_core.specs.Answers.{Begins, IsGiven, LoadRecords, PhaseRecords, PostRecords, is_over, is_owing, state_result}
+use Rattle.fol_world.specs.AtEnd.{end_event}
 use Rattle.fol_core.specs.Meaning.{Meaning, Records, Stays, world_of}
 use Rattle.fol_core.specs.Ticks.{IsOut, IsTick, SameTick}
 use Rattle.fol_core.specs.declared.answers.BeginAnswer.{BeginAnswer}

@@ -2,7 +2,8 @@
 
 ghost use Rattle.std.specs.Prelude.{◌≡◌, ◌≢◌};
 ghost use Rattle.fol_core.specs.Ahead.{NonePrepared};
-ghost use Rattle.fol_core.specs.Answers.{Begins, end_event};
+ghost use Rattle.fol_core.specs.Answers.{Begins};
+ghost use Rattle.fol_world.specs.AtEnd.{end_event};
 ghost use Rattle.fol_core.specs.Meaning.{Meaning, Records, world_of};
 ghost use Rattle.fol_core.specs.Ticks.{IsOut};
 ghost use Rattle.fol_tick_laws.specs.OpenTicks.{IsOpen, KeepsOpen, KeepsOthers};

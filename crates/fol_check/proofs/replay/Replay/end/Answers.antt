@@ -2,7 +2,7 @@ use Rattle.std.proofs.Common.{◌≡◌, ◌<◌, refl, sym, ◌∙◌, Some, No
 use Rattle.std.specs.Prelude.{◌-◌}
 use Rattle.std.specs.Vec.{with_item}
 use Rattle.fol_model.specs.declared.events.Entry.{Entry}
-use Rattle.fol_core.specs.Answers.{end_event}
+use Rattle.fol_world.specs.AtEnd.{end_event}
 use Rattle.fol_core.specs.Meaning.{world_of}
 use Rattle.fol_check.specs.declared.replay.Replay.{Replay}
 use Rattle.fol_check.proofs.Places.{end_goes, end_needs, is_out, may_end, read_at}

@@ -9,7 +9,7 @@ use Rattle.fol_model.specs.GridState.{is_ready}
 use Rattle.fol_queues.specs.Waiting.{task_in}
 use Rattle.fol_regions.specs.Table.{grid_state}
 use Rattle.fol_store.specs.Stock.{bag_of}
-use Rattle.fol_core.specs.Agenda.{owes}
+use Rattle.fol_world.specs.Agenda.{owes}
 use Rattle.fol_core.proofs.Ahead.{event_ahead, over_is}
 use Rattle.fol_core.proofs.AheadBegins as ahead
 use Rattle.fol_core.proofs.AheadBegins.{begin_allowed, begin_spares, owed_told, state_told, tick_now}

@@ -12,7 +12,7 @@ use Rattle.fol_core.proofs.Ahead.{event_ahead, gathered_ahead, over_is}
 use Rattle.fol_core.proofs.AheadBegins.{begin_allowed, begin_spares, tick_now}
 use Rattle.fol_core.proofs.AheadAnswers.{owing_tables}
 use Rattle.fol_core.proofs.BeginTick.{begin_stands, tick_is}
-use Rattle.fol_core.proofs.GatheredBags.{gathered_owes, gathered_stands, owing_given, ready_free, ready_here, ready_home}
+use Rattle.fol_world.proofs.GatheredBags.{gathered_owes, gathered_stands, owing_given, ready_free, ready_here, ready_home}
 use Rattle.fol_core.proofs.Rooms.{not_grown, room_left}
 use Rattle.fol_core.proofs.machine.Core.begin_next.Goals as goal
 

@@ -3,8 +3,8 @@ use Rattle.fol_model.specs.End.{run_down}
 use Rattle.fol_model.specs.Run.{world}
 use Rattle.fol_laws.specs.LateBegin.{wishes_touch}
 use Rattle.fol_data.specs.declared.tick.Tick.{Tick}
-use Rattle.fol_core.specs.declared.tables.Course.{Course}
-use Rattle.fol_core.specs.Answers.{end_event}
+use Rattle.fol_world.specs.declared.tables.Course.{Course}
+use Rattle.fol_world.specs.AtEnd.{end_event}
 use Rattle.fol_core.specs.Meaning.{mark}
 use Rattle.fol_core.proofs.Ahead.{event_ahead, same_ahead}
 use Rattle.fol_core.proofs.AheadEnds.{at_ahead, end_same, end_spares}

@@ -1,9 +1,9 @@
 use Rattle.std.proofs.Common.{ap, sym, ◌∙◌}
 use Rattle.fol_model.specs.declared.events.Event.TheVariants.{Load}
-use Rattle.fol_core.specs.declared.tables.Course.{Course}
+use Rattle.fol_world.specs.declared.tables.Course.{Course}
 use Rattle.fol_core.proofs.Ahead.{event_ahead, finished_is, same_ahead}
 use Rattle.fol_core.proofs.AheadAnswers.{load_now, load_over, load_told}
-use Rattle.fol_core.proofs.Held.{can_hold}
+use Rattle.fol_world.proofs.Held.{can_hold}
 use Rattle.fol_core.proofs.LoadKept.{load_kept}
 use Rattle.fol_core.proofs.Rooms.{places_left, room_left, same_places, same_room}
 use Rattle.fol_core.proofs.machine.Core.load.Goals as goal

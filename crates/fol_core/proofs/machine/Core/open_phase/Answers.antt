@@ -1,5 +1,5 @@
 use Rattle.std.proofs.Common.{ap, sym, ◌∙◌, arith}
-use Rattle.fol_core.specs.declared.tables.Course.{Course}
+use Rattle.fol_world.specs.declared.tables.Course.{Course}
 use Rattle.fol_core.proofs.Ahead.{sum_is}
 use Rattle.fol_core.proofs.AheadAnswers.{none_outside, none_stands, phase_in_phase, phase_outside, phase_over, stands_none}
 use Rattle.fol_core.proofs.MarkCounts.{count_off}

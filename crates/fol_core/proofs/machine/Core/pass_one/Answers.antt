@@ -1,6 +1,6 @@
 use Rattle.std.proofs.Common.{refl, ◌∙◌, sym, arith}
 use Rattle.fol_regions.specs.Table.{grid_state}
-use Rattle.fol_core.specs.Quiet.{IsQuiet}
+use Rattle.fol_world.specs.Quiet.{IsQuiet}
 use Rattle.fol_core.proofs.AheadQuiet.{quiet_ahead, quiet_history, quiet_then}
 use Rattle.fol_core.proofs.QuietKept.{early}
 use Rattle.fol_core.proofs.Rooms.{not_grown, room_left_by_two}

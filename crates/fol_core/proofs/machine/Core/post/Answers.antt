@@ -1,9 +1,9 @@
 use Rattle.std.proofs.Common.{ap, sym, ◌∙◌, arith}
 use Rattle.fol_model.specs.declared.events.Event.TheVariants.{Post}
-use Rattle.fol_core.specs.declared.tables.Course.{Course}
+use Rattle.fol_world.specs.declared.tables.Course.{Course}
 use Rattle.fol_core.proofs.Ahead.{event_ahead, finished_is, same_ahead}
 use Rattle.fol_core.proofs.AheadAnswers.{post_now, post_over, posting_same}
-use Rattle.fol_core.proofs.Held.{can_hold, few_jobs}
+use Rattle.fol_world.proofs.Held.{can_hold, few_jobs}
 use Rattle.fol_core.proofs.PostKept.{accept_same, fresh_number, post_kept}
 use Rattle.fol_core.proofs.Rooms.{places_left, room_left, same_places, same_room}
 use Rattle.fol_core.proofs.machine.Core.post.Goals as goal

@@ -7,7 +7,7 @@ use Rattle.fol_core.proofs.AheadAnswers.{owing_tables}
 use Rattle.fol_core.proofs.AheadBegins.{not_prepared, owing_now, tick_now}
 use Rattle.fol_core.proofs.BeginKept.{room_due, room_for, room_whole, tidy_bags, tidy_covers}
 use Rattle.fol_core.proofs.BeginTick.{begin_stands, tick_is}
-use Rattle.fol_core.proofs.GatheredBags.{ready_here}
+use Rattle.fol_world.proofs.GatheredBags.{ready_here}
 use Rattle.fol_core.proofs.Rooms.{place_taken}
 use Rattle.fol_core.proofs.machine.Core.prepare.Goals as goal
 

@@ -1,6 +1,6 @@
 use Rattle.std.proofs.Common.{arith, inl}
 use Rattle.fol_core.proofs.Ahead.{gathered_ahead, given_ahead, places_ahead}
-use Rattle.fol_core.proofs.GatheredBags.{owes_as_before, ready_free}
+use Rattle.fol_world.proofs.GatheredBags.{owes_as_before, ready_free}
 use Rattle.fol_core.proofs.Rooms.{not_grown}
 use Rattle.fol_core.proofs.machine.Core.reserve.Goals as goal
 

@@ -1,6 +1,6 @@
 use Rattle.std.proofs.Common.{ap, sym, ◌∙◌}
 use Rattle.fol_model.specs.declared.events.Event.TheVariants.{Unload}
-use Rattle.fol_core.specs.declared.tables.Course.{Course}
+use Rattle.fol_world.specs.declared.tables.Course.{Course}
 use Rattle.fol_core.proofs.Ahead.{event_ahead, finished_is, same_ahead}
 use Rattle.fol_core.proofs.AheadAnswers.{unload_over, unload_result_same, unload_same}
 use Rattle.fol_core.proofs.Rooms.{room_left, same_places, same_room}

@@ -1,5 +1,5 @@
 use Rattle.std.proofs.Common.{sym, ◌∙◌, ap, refl, arith}
-use Rattle.fol_core.specs.declared.tables.Course.{Course}
+use Rattle.fol_world.specs.declared.tables.Course.{Course}
 use Rattle.fol_core.proofs.MarkCounts.{mark_below}
 use Rattle.fol_core.proofs.UndoneTicks.{over_back, room_back, room_is, some_size, undone_ahead}
 use Rattle.fol_core.proofs.machine.Core.withdraw.Goals as goal

@@ -1,5 +1,5 @@
 use Rattle.std.proofs.Common.{◌≡◌, ◌∙◌, sym, ap, subst, length}
-use Rattle.fol_core.specs.Answers.{end_event}
+use Rattle.fol_world.specs.AtEnd.{end_event}
 use Rattle.fol_core.specs.Ticks.{IsOut}
 use Rattle.fol_core.specs.Meaning.{Meaning, world_of}
 use Rattle.fol_live.specs.Seat.{Shown, meaning_of}

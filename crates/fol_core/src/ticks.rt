@@ -1,0 +1,122 @@
+//! Begins of ticks.
+
+ghost use Rattle.std.specs.Prelude.{◌≡◌, false, [], OnOk, OnErr, IfOk};
+ghost use Rattle.fol_core.specs.Answers.{Begins, BeginsNext, IsGiven};
+ghost use Rattle.fol_core.specs.Room.{IsDueList, IsForBegin, room_of};
+ghost use Rattle.fol_core.specs.Meaning.{IsReadyToBegin, Stays, is_prepared, world_of};
+
+use crate::entries::record;
+use crate::machine::{Core, Room};
+use crate::{BeginAnswer, Next};
+use fol_data::Tick;
+use fol_model::{Event, Sequence, State, Task};
+use fol_world::begins::{due_list, hand_out, owed_list, tick_of};
+use fol_world::tables::grow_history;
+use std::alloc::{AllocError, Global};
+use std::mem;
+
+impl Core {
+    /// Takes the memory for a Begin of this region. The region is then ready to begin, until the next call that changes the core.
+    /// If memory runs out, nothing has changed, but an earlier readiness may be lost.
+    pub fn reserve(&mut self, alloc: Global, id: u64) -> Result<(), AllocError>
+        requires given { IsGiven (world_of self.old) id }
+        ensures ready { OnOk result (IsReadyToBegin self.new id) }
+        ensures same { Stays self.old self.new }
+    {
+        self.room = None;
+        grow_history(&mut self.history, &self.tables.course, self.marks.count())?;
+        self.marks.make_room(id)?;
+        self.tables.agenda.reserve(1 + self.marks.count() as usize)?;
+        let due = due_list(alloc, &self.tables.regions, &mut self.tables.store, id)?;
+        self.room = Some(Room::Begin { id, due });
+        Ok(())
+    }
+
+    /// Begins the tick of a region that is not prepared and is ready to begin, by `reserve`. Over exactly where Finish or Stop stands in
+    /// the history; else NotReady exactly where its state is not Ready; else NotOwing exactly where it owes no tick. Only Got is
+    /// recorded. A refusal changes nothing, any readiness included. Takes no memory.
+    pub fn begin(&mut self, by: u32, worker: u32, id: u64) -> BeginAnswer
+        requires ready { IsReadyToBegin self.old id }
+        requires free { is_prepared self.old id ≡ false }
+        ensures { Begins self.old self.new by worker id result }
+    {
+        if self.tables.course.is_over() {
+            return BeginAnswer::Over;
+        }
+        match self.tables.regions.state(id) {
+            Some(State::Ready) => {}
+            Some(state) => return BeginAnswer::NotReady(state),
+            None => unreachable!(),
+        }
+        if self.tables.store.owed(id) == 0 {
+            return BeginAnswer::NotOwing;
+        }
+        let begun = self.history.as_slice().len() as u64;
+        let room = due_room(self.room.take());
+        let taken = hand_out(&mut self.tables, id, room);
+        let event = Event::Begin { worker, region: id };
+        record(&mut self.history, &mut self.tables.course, by, event);
+        let wishes = Vec::new(self.alloc);
+        BeginAnswer::Got(tick_of(self.alloc, worker, id, begun, taken, wishes))
+    }
+
+    /// Begins a tick of a Ready region that owes one and is not prepared, by a worker that records it, and puts it in place of `tick`. It
+    /// is `first` where that is such a region, and else which one is free. Over exactly where Finish or Stop stands in the history, else
+    /// Idle exactly where there is no such region. Only Begun is recorded. If memory runs out, nothing has changed, but a readiness
+    /// may be lost.
+    pub fn begin_next(
+        &mut self,
+        alloc: Global,
+        worker: u32,
+        first: u64,
+        tick: &mut Tick,
+    ) -> Result<Next, AllocError>
+        ensures begun { IfOk result (λ a. BeginsNext self.old self.new worker a tick.new) }
+        ensures refused { OnErr result (Stays self.old self.new) }
+    {
+        if self.tables.course.is_over() {
+            return Ok(Next::Over);
+        }
+        let Some(id) = self.next_owing(first) else {
+            return Ok(Next::Idle);
+        };
+        self.room = None;
+        grow_history(&mut self.history, &self.tables.course, self.marks.count())?;
+        let list = emptied(alloc, &mut tick.due);
+        let room = owed_list(
+            alloc,
+            &self.tables.regions,
+            &mut self.tables.store,
+            id,
+            list,
+        )?;
+        let begun = self.history.as_slice().len() as u64;
+        let taken = hand_out(&mut self.tables, id, room);
+        let event = Event::Begin { worker, region: id };
+        record(&mut self.history, &mut self.tables.course, worker, event);
+        let wishes = emptied(alloc, &mut tick.log.wishes);
+        *tick = tick_of(self.alloc, worker, id, begun, taken, wishes);
+        Ok(Next::Begun)
+    }
+}
+
+/// The memory of a list, without what is in it.
+fn emptied<T: Drop>(alloc: Global, list: &mut Sequence<T>) -> Vec<T>
+    ensures { result.items ≡ [] }
+{
+    let mut elements = mem::replace(list, Sequence::new(alloc)).into_vec();
+    elements.clear();
+    elements
+}
+
+/// The memory for the due tasks that was taken for a Begin.
+pub(crate) fn due_room(room: Option<Room>) -> Vec<Task>
+    requires { IsForBegin (room_of room) }
+    ensures { IsDueList room result }
+{
+    match room {
+        Some(Room::Begin { id: _, due }) => due,
+        Some(Room::End { .. }) => unreachable!(),
+        None => unreachable!(),
+    }
+}

@@ -1,0 +1,17 @@
+pub mod Hands
+pub mod Bags
+pub mod Agenda
+pub mod Follows
+pub mod Stands
+pub mod Same
+pub mod Begun
+pub mod CatchingUp
+pub mod Released
+pub mod Posts
+pub mod Underway
+pub mod Returned
+pub mod AtEnd
+pub mod MayEnd
+pub mod Closings
+pub mod Grown
+pub mod Quiet
