@@ -7,6 +7,7 @@ ghost use Rattle.fol_core.specs.Quiet.{Passes, PassesOne};
 use crate::entries::record;
 use crate::machine::Core;
 use fol_model::{Event, PackedEntry, Sequence};
+use fol_world::begins::settle_next;
 use fol_world::quiet::{is_quiet, pass_tick};
 use fol_world::tables::{Course, MOST};
 use std::alloc::AllocError;
@@ -20,12 +21,23 @@ impl Core {
         ensures few { result ≤ most }
         ensures passed { Passes self.old self.new worker id result }
     {
+        self.settle_next(id);
         for passed in 0..most {
             if !self.pass_one(worker, id) {
                 return passed;
             }
         }
         most
+    }
+
+    /// Makes the bag of a region whole, where it owes a tick, so that what happens in that tick can be told. If memory runs out, the bag may
+    /// stay as it is.
+    fn settle_next(&mut self, id: u64)
+        ensures { Stays self.old self.new }
+    {
+        let tables = &mut self.tables;
+        self.room = None;
+        settle_next(self.alloc, &tables.regions, &mut tables.store, id);
     }
 
     /// Begins and ends one such tick, where there is one, and memory for it.

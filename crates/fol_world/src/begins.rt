@@ -125,6 +125,25 @@ pub fn owed_list(
     Ok(due)
 }
 
+/// Makes the bag of a region whole, where it owes a tick. If memory runs out, the bag may stay as it is.
+pub fn settle_next(alloc: Global, regions: &Regions, store: &mut Store, id: u64)
+    requires given { owes_tick (grid_state regions.now) (bag_of store.old) id ≡ true
+        → IsGivenIn (grid_state regions.now) id }
+    requires bags { HaveBags (grid_state regions.now) (bag_of store.old) }
+    requires at_home { owes_tick (grid_state regions.now) (bag_of store.old) id ≡ true
+        → (bag_of store.old id).taken ≡ false }
+    requires free { owes_tick (grid_state regions.now) (bag_of store.old) id ≡ true
+        → AreFree (bag_of store.old) (filter (is_chunk_of (grid_state regions.now) id) all_chunks) }
+    ensures bags { (r : ℕ)
+        → Gathered (grid_state regions.now) r (bag_of store.old r) (bag_of store.new r) }
+    ensures things { SameThings store.old store.new }
+    ensures next { next_of store.new ≡ next_of store.old }
+{
+    if owes(regions, store, id) {
+        let _ = settle(alloc, regions, store, id);
+    }
+}
+
 /// Makes the bag of a region whole for the region's loaded chunks. Where these are the bag's, only what came goes into it.
 fn settle(alloc: Global, regions: &Regions, store: &mut Store, id: u64) -> Result<(), AllocError>
     requires given { IsGivenIn (grid_state regions.now) id }

@@ -1,9 +1,11 @@
 use Rattle.std.proofs.Common.{arith}
-use Rattle.fol_core.proofs.QuietRuns.{passes_more, passes_none}
+use Rattle.fol_core.proofs.QuietRuns.{passes_more, passes_none, passes_still}
 use Rattle.fol_core.proofs.machine.Core.pass.Goals as goal
 
 pub loop-passed-init : goal.loop-passed-init
-loop-passed-init c = (passes_none _ _ _, omega arith)
+loop-passed-init c =
+    let stays = c.settle_next.ensures in
+    (passes_still _ _ _ _ _ _ (passes_none c.args.self.now c.args.worker c.args.id) stays, rw (stays.opening, stays.history) (omega arith))
 
 pub loop-passed-preserved : goal.loop-passed-preserved
 loop-passed-preserved c =

@@ -5,5 +5,5 @@ use Rattle.fol_core.proofs.machine.Core.pass.Given as goal
 
 abbrev pub invariant-loop-passed : goal.invariant-loop-passed
 invariant-loop-passed l =
-    Passes l.initial.self l.self l.worker l.id l.passed
-    × ((world_of l.self).tick l.id ≡ (world_of l.initial.self).tick l.id + l.passed)
+    Passes l.fn.self l.self l.worker l.id l.passed
+    × ((world_of l.self).tick l.id ≡ (world_of l.fn.self).tick l.id + l.passed)
