@@ -31,7 +31,7 @@ use Rattle.fol_world.specs.Stands.{Stands}
 use Rattle.fol_world.proofs.ChunkLists.{kept_passes, owned}
 use Rattle.fol_world.proofs.KeptUp.{keeps_exact, keeps_like}
 use Rattle.fol_world.proofs.Longer.{good_of}
-use Rattle.fol_world.proofs.UnsettledBags.{ready_rests, rests_home}
+use Rattle.fol_world.proofs.UnsettledBags.{rests_home}
 
 pub is_ready-true : (s : State) → is_ready s ≡ true → s ≡ Ready
 is_ready-true Ready h = refl
