@@ -1,5 +1,5 @@
 -- A hold more on a chunk that has one: nothing is missing, and no section changes.
-use Rattle.std.proofs.Common.{◌≡◌, ℕ, ◌+◌, ◌≤◌, refl, sym, ◌∙◌, ap, arith, Bool, true, false, cond, not, ◌&&◌, ◌||◌, List, []}
+use Rattle.std.proofs.Common.{◌≡◌, ℕ, ◌+◌, refl, sym, ◌∙◌, ap, arith, Bool, true, false, cond, not, ◌&&◌, ◌||◌, List, []}
 use Rattle.std.specs.Prelude.{ℤ, nat_eq, nat_lt}
 use Rattle.std.specs.List.{filter}
 use Rattle.std.proofs.Math.Path.{fun_ext}
@@ -9,7 +9,7 @@ use Rattle.fol_model.specs.declared.places.SectionPos.{SectionPos}
 use Rattle.fol_model.specs.declared.grids.Grid.{Grid}
 use Rattle.fol_model.specs.Geometry.{is_chunk, is_within, same_section, section_of}
 use Rattle.fol_model.specs.GridState.{at_chunk}
-use Rattle.fol_model.specs.Universe.{count_sections, square}
+use Rattle.fol_model.specs.Universe.{square}
 use Rattle.fol_sections.specs.declared.answers.Added.TheVariants.{Counted}
 use Rattle.fol_sections.specs.Places.{count_at}
 use Rattle.fol_sections.specs.Pages.{chunks_at, is_here, near_at}

@@ -1,9 +1,8 @@
-use Rattle.std.proofs.Common.{◌≡◌, ◌+◌, ◌*◌, ◌≤◌, ◌^◌, sym, ◌∙◌, ap, arith, ◌++◌, length}
+use Rattle.std.proofs.Common.{◌+◌, ◌*◌, ◌^◌, sym, ◌∙◌, ap, ◌++◌}
 use Rattle.std.specs.Prelude.{ℤ, pos, ◌*ℤ◌}
 use Rattle.fol_sections.specs.Kept.{is_held}
 use Rattle.fol_sections.specs.Rows.{chunk_at, rows_of}
 use Rattle.fol_sections.proofs.Lengths.{length-rows}
-use Rattle.fol_sections.proofs.Products.{area_few}
 use Rattle.fol_sections.proofs.Rows.{filter_whole}
 use Rattle.fol_sections.proofs.chunks.list_section.Goals as goal
 

@@ -1,4 +1,4 @@
-use Rattle.std.proofs.Common.{◌≡◌, refl, sym, ◌∙◌, ap, arith, ◌∷◌, [], ◌++◌, append_assoc, length, length-append}
+use Rattle.std.proofs.Common.{refl, sym, ◌∙◌, ap, arith, ◌∷◌, [], ◌++◌, append_assoc, length, length-append}
 use Rattle.std.specs.Prelude.{ℤ, pos, ◌+ℤ◌}
 use Rattle.fol_model.specs.declared.places.ChunkPos.{ChunkPos}
 use Rattle.fol_sections.specs.Rows.{chunk_at, row_of}

@@ -1,9 +1,7 @@
-use Rattle.std.proofs.Common.{◌≡◌, ◌+◌, ◌-◌, sym, ◌∙◌, ap, arith, cond, true, false}
-use Rattle.std.specs.Prelude.{Some, is_some, nat_lt}
+use Rattle.std.proofs.Common.{◌≡◌, ◌+◌, ◌-◌, sym, ◌∙◌, ap, arith, cond}
+use Rattle.std.specs.Prelude.{Some, is_some}
 use Rattle.std.specs.Option.{option_copied_mut, unwrap_or}
-use Rattle.std.proofs.lemmas.Bool.{true≢false}
 use Rattle.std.proofs.lemmas.Int.{to_z-of_z}
-use Rattle.std.proofs.lemmas.Map.Steps.{set_value_same}
 use Rattle.std.proofs.lemmas.Result.{IfOk-at_ok}
 use mir.Val.{SFits}
 use mir.Syntax.{w32}

@@ -1,14 +1,11 @@
-use Rattle.std.proofs.Common.{◌≡◌, ◌+◌, ◌-◌, sym, ◌∙◌, ap, arith, cond, true, false}
+use Rattle.std.proofs.Common.{◌≡◌, ◌+◌, ◌-◌, sym, ◌∙◌, ap, arith, cond}
 use Rattle.std.specs.Prelude.{Some, is_some, nat_lt}
 use Rattle.std.specs.Option.{option_copied_mut, unwrap_or}
-use Rattle.std.proofs.lemmas.Bool.{true≢false}
 use Rattle.std.proofs.lemmas.Int.{to_z-of_z}
 use Rattle.std.proofs.lemmas.Map.Steps.{set_value_same}
-use Rattle.std.proofs.lemmas.Result.{IfOk-at_ok}
 use mir.Val.{SFits}
 use mir.Syntax.{w32}
 use Rattle.fol_sections.specs.Places.{number_at, is_same}
-use Rattle.fol_sections.proofs.Results.{ok_value}
 use Rattle.fol_sections.proofs.places.raise_again.Goals as goal
 
 pub overflow_add-number : goal.overflow_add-number

@@ -1,5 +1,4 @@
-use Rattle.std.proofs.Common.{◌≡◌, refl, sym, ◌∙◌, ap, cond}
-use Rattle.std.specs.Prelude.{Some}
+use Rattle.std.proofs.Common.{refl, sym, ◌∙◌, ap, cond}
 use Rattle.std.specs.Option.{unwrap_or}
 use Rattle.fol_laws.proofs.SamePlaces.{same_section-self}
 use Rattle.fol_sections.specs.Pages.{chunks_at, counts_at, is_here, near_at, no_counts}

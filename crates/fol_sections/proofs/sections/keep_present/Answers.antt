@@ -1,4 +1,4 @@
-use Rattle.std.proofs.Common.{◌+◌, sym, ◌∙◌, arith, rules}
+use Rattle.std.proofs.Common.{sym, ◌∙◌, arith, rules}
 use Rattle.std.proofs.lemmas.Fn.{filter_same}
 use Rattle.fol_sections.specs.Pages.{is_here}
 use Rattle.fol_sections.proofs.Rows.{filter_none, filter_whole}
