@@ -6,7 +6,7 @@ use Rattle.std.proofs.lemmas.List.{length-map}
 use Rattle.std.proofs.lemmas.List.Concat.{flat_map-cons}
 use Rattle.fol_model.specs.declared.places.SectionPos.{SectionPos}
 use Rattle.fol_model.specs.Universe.{from, square}
-use Rattle.fol_sections.specs.Rows.{rows_of}
+use Rattle.fol_sections.specs.Rows.{row_of, rows_of}
 
 length-from : (z : ℤ) (n : ℕ) → length (from z n) ≡ n
 unfolding from
@@ -24,6 +24,10 @@ module _ {X : Type 0} (at : ℤ → ℤ → X) where
         length-map xs (λ a. at a y),
         length-plane xs ys,
       )
+
+  pub length-row : (x z : ℤ) (n : ℕ) → length (row_of at x z n) ≡ n
+  unfolding row_of
+  length-row x z n = length-map (from x n) (λ a. at a z) ∙ length-from x n
 
   pub length-rows : (x z : ℤ) (rows n : ℕ) → length (rows_of at x z rows n) ≡ rows * n
   unfolding rows_of

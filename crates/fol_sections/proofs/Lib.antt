@@ -7,6 +7,7 @@ pub mod Tables
 pub mod NumberSteps
 pub mod Bounds
 pub mod AddTable
+mod AgainTable
 pub mod DeadSteps
 pub mod Rows
 pub mod Products

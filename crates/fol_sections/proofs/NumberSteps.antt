@@ -1,5 +1,5 @@
 -- The counts after the number of one place was changed.
-use Rattle.std.proofs.Common.{◌≡◌, ℕ, zero, suc, ◌<◌, refl, sym, ◌∙◌, ap, arith, Bool, true, false, cond, ◌&&◌, ◌||◌, inl, inr, List, [], ◌∷◌, length, take, get_or}
+use Rattle.std.proofs.Common.{◌≡◌, ℕ, zero, suc, ◌-◌, ◌<◌, refl, sym, ◌∙◌, ap, arith, Bool, true, false, cond, ◌&&◌, ◌||◌, inl, inr, List, [], ◌∷◌, length, take, get_or}
 use Rattle.std.specs.Prelude.{ℤ, Option, Some, None, is_some}
 use Rattle.std.specs.Option.{unwrap_or}
 use Rattle.std.specs.List.{All, IsDistinct}
@@ -13,7 +13,7 @@ use Rattle.fol_model.specs.declared.grids.Grid.{Grid}
 use Rattle.fol_model.specs.Geometry.{is_within, same_chunk, same_section, section_of, is_among}
 use Rattle.fol_model.specs.GridState.{at_chunk}
 use Rattle.fol_model.specs.Universe.{all_chunks}
-use Rattle.fol_laws.proofs.SamePlaces.{same_section-true, same_section-self}
+use Rattle.fol_laws.proofs.SamePlaces.{same_chunk-true, same_section-true, same_section-self}
 use Rattle.fol_laws.proofs.AllSections.{some_chunk-is}
 use Rattle.fol_laws.proofs.ListCounts.{count_by-some, list_any-count}
 use Rattle.fol_sections.specs.Places.{count_at, is_same, number_at}
@@ -31,6 +31,13 @@ module _ (before after : List ((ℤ × ℤ) × ℕ)) where
   pub count-out : (c : ChunkPos) → ((a b : ℤ) → number_at after a b ≡ cond (is_same c.x c.z a b) None (number_at before a b)) → (q : ChunkPos) → count_at after q ≡ at_chunk (count_at before) c 0 q
   unfolding count_at is_same same_chunk
   count-out c step q = ap (λ o. unwrap_or o 0) (step q.x q.z) ∙ elim (cases_Bool (int_eq c.x q.x && int_eq c.z q.z)) [ inl e ↦ rw e refl | inr e ↦ rw e refl ]
+
+-- where there is none, one less changes nothing
+pub count-stays : (holds : List ((ℤ × ℤ) × ℕ)) (c : ChunkPos) → count_at holds c ≡ 0 → (q : ChunkPos) → count_at holds q ≡ at_chunk (count_at holds) c (count_at holds c - 1) q
+count-stays holds c none q = elim (cases_Bool (same_chunk c q)) [
+  | inl e ↦ let k = same_chunk-true c q e in let n : count_at holds q ≡ count_at holds c - 1 = omega (arith, none, ap (count_at holds) k) in rw e n
+  | inr e ↦ rw e refl
+]
 
 -- ---- the numbers of one section changed
 module _ (before after : List ((ℤ × ℤ) × Page)) (s : SectionPos) (counts : Counts)

@@ -1,6 +1,6 @@
 -- Sections side by side in one page.
 use Rattle.std.proofs.Common.{◌≡◌, ◌≢◌, ℕ, zero, suc, ◌+◌, ◌<◌, ◌≤◌, refl, sym, ◌∙◌, ap, arith, Bool, true, false, cond, inl, inr, ◌∷◌, [], ◌++◌, List, length}
-use Rattle.std.specs.Prelude.{ℤ, pos, ◌+ℤ◌, nat_abs, Some, None, is_some, slice_index_or, slice_set}
+use Rattle.std.specs.Prelude.{ℤ, pos, ◌+ℤ◌, nat_abs, Option, Some, None, is_some, slice_index_or, slice_set}
 use Rattle.std.specs.Int.{int_rem_euclid}
 use Rattle.std.specs.List.{count_by, filter}
 use Rattle.std.specs.Option.{option_and_then, unwrap_or}
@@ -48,6 +48,11 @@ count_none p x z (suc n) h =
     let e : suc n ≡ n + 1 = omega arith in
     let k = count_none p x z n (λ i l. h i (omega arith)) in
     ap (λ m. count_by p (row_of section_at x z m)) e ∙ count_more section_at p x z n ∙ rw (k, h n (omega arith)) refl
+
+-- what is kept of a present section
+pub some_is : (o : Option Counts) → is_some o ≡ true → o ≡ Some (unwrap_or o no_counts)
+some_is (Some c) h = refl
+some_is None h = absurd (true≢false (sym h))
 
 -- ---- a turn at one section of a page
 module _ (before : Page) (whole : 32 ≤ length before.sections) (s at : SectionPos) (page : IsOnPage s at) (place : ℕ) (is : place ≡ place_of at) (was now : Counts) (had : counts_on before at ≡ Some was) where

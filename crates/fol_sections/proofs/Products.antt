@@ -24,6 +24,15 @@ row_few (suc (suc (suc (suc zero)))) h = omega arith
 row_few (suc (suc (suc (suc (suc zero))))) h = omega arith
 row_few (suc (suc (suc (suc (suc (suc n)))))) h = absurd (omega arith)
 
+pub area_is : (shift : ℕ) → shift ≤ 5 → 1 * 2 ^ (2 * shift) % 18446744073709551616 ≡ 2 ^ shift * 2 ^ shift
+area_is zero h = refl
+area_is (suc zero) h = refl
+area_is (suc (suc zero)) h = refl
+area_is (suc (suc (suc zero))) h = refl
+area_is (suc (suc (suc (suc zero)))) h = refl
+area_is (suc (suc (suc (suc (suc zero))))) h = refl
+area_is (suc (suc (suc (suc (suc (suc n)))))) h = absurd (omega arith)
+
 pub area_few : (shift : ℕ) → shift ≤ 5 → 2 ^ shift * 2 ^ shift ≤ 1024
 area_few zero h = omega arith
 area_few (suc zero) h = omega arith

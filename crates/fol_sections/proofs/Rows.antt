@@ -1,10 +1,11 @@
 -- Places row by row, and what a test keeps of them.
-use Rattle.std.proofs.Common.{◌≡◌, ℕ, zero, suc, ◌+◌, ◌-◌, ◌≤◌, refl, ◌∙◌, ap, arith, Bool, true, false, cond, List, [], ◌∷◌, ◌++◌, length, add-zero}
+use Rattle.std.proofs.Common.{◌≡◌, ℕ, zero, suc, ◌+◌, ◌-◌, ◌≤◌, refl, ◌∙◌, ap, arith, Bool, true, false, cond, inl, inr, List, [], ◌∷◌, ◌++◌, length, add-zero}
 use Rattle.std.specs.Prelude.{ℤ, pos, ◌+ℤ◌, map, flat_map}
 use Rattle.std.specs.List.{count_by, filter}
 use Rattle.std.proofs.lemmas.List.{map-append}
 use Rattle.std.proofs.lemmas.List.Elements.{filter-append}
-use Rattle.std.proofs.lemmas.List.Sums.{length-filter}
+use Rattle.std.proofs.lemmas.List.Sums.{count_by-le-length, length-filter}
+use Rattle.std.proofs.lemmas.Bool.{cases_Bool}
 use Rattle.std.proofs.lemmas.Grind.{flat_map-append}
 use Rattle.std.proofs.lemmas.List.Concat.{flat_map-cons}
 use borrow.Author.Differences.{ints}
@@ -33,6 +34,14 @@ module _ {X : Type 0} where
       empty : (ys : List X) → length ys ≡ 0 → ys ≡ []
       empty [] e = refl
       empty (y ∷ ys) e = absurd (omega arith)
+
+  -- a test that all pass keeps all
+  pub filter_whole : (p : X → Bool) (xs : List X) → count_by p xs ≡ length xs → filter p xs ≡ xs
+  filter_whole p [] h = refl
+  filter_whole p (x ∷ xs) h = elim (cases_Bool (p x)) [
+    | inl y ↦ ap (λ b. cond b (x ∷ filter p xs) (filter p xs)) y ∙ ap (λ ys. x ∷ ys) (filter_whole p xs (omega (arith, h, count_by-cons p x xs, ap (λ b. cond {A = ℕ} b 1 0) y)))
+    | inr n ↦ absurd (omega (arith, h, count_by-cons p x xs, ap (λ b. cond {A = ℕ} b 1 0) n, count_by-le-length p xs))
+  ]
 
   module _ (at : ℤ → ℤ → X) where
     pub row-none : (x z : ℤ) → row_of at x z 0 ≡ []

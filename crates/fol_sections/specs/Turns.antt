@@ -1,5 +1,6 @@
 -- What the turn of a section, from empty to filled or back, does to the numbers around it.
-use Rattle.std.specs.Prelude.{ℕ}
+use Rattle.std.specs.Prelude.{ℕ, ◌+◌, ◌-◌}
+use Rattle.fol_sections.specs.declared.pages.Counts.{Counts}
 use Rattle.fol_sections.specs.declared.turns.Turn.{Turn}
 use Rattle.fol_sections.specs.declared.turns.Turn.TheVariants.{Filled, Emptied}
 
@@ -12,3 +13,7 @@ rise Emptied k = 0
 abbrev pub fall : Turn → ℕ → ℕ
 fall Filled k = 0
 fall Emptied k = k
+
+-- what is kept of a section after a turn near it
+abbrev pub turned : Turn → Counts → Counts
+turned turn counts = record { loaded = counts.loaded; near = counts.near + rise turn 1 - fall turn 1 }

@@ -1,6 +1,6 @@
 //! The loaded chunks of a section, in order.
 
-ghost use Rattle.std.specs.Prelude.{◌≡◌, ◌+◌, ◌≤◌, ◌^◌, ◌++◌, length, pos, ◌+ℤ◌, ◌*ℤ◌, nat_abs};
+ghost use Rattle.std.specs.Prelude.{◌≡◌, ◌+◌, ◌*◌, ◌≤◌, ◌^◌, ◌++◌, length, pos, ◌+ℤ◌, ◌*ℤ◌, nat_abs};
 ghost use Rattle.std.specs.List.{count_by, filter};
 ghost use Rattle.std.specs.Vec.{vec_capacity};
 ghost use Rattle.fol_sections.specs.Kept.{is_held};
@@ -80,6 +80,33 @@ fn list_square(holds: &Numbers, out: &mut Vec<ChunkPos>, first: ChunkPos, side: 
     }
 }
 
+/// Adds `n` chunks in a row.
+fn list_whole_row(out: &mut Vec<ChunkPos>, first: ChunkPos, row: u32, n: u32)
+    requires near { (nat_abs first.x ≤ 40000000) × (nat_abs first.z ≤ 40000000) }
+    requires few { (row ≤ 32) × (n ≤ 32) }
+    requires room { length out.old.items + n ≤ vec_capacity out.old }
+    ensures listed { out.new.items ≡ out.old.items
+        ++ row_of chunk_at first.x (first.z +ℤ pos row) n }
+    ensures capacity { vec_capacity out.new ≡ vec_capacity out.old }
+{
+    for i in 0..n {
+        out.push_reserved(beside(first, i, row));
+    }
+}
+
+/// Adds all chunks of a square, row by row.
+fn list_whole(out: &mut Vec<ChunkPos>, first: ChunkPos, side: u32)
+    requires near { (nat_abs first.x ≤ 40000000) × (nat_abs first.z ≤ 40000000) }
+    requires few { side ≤ 32 }
+    requires room { length out.old.items + side * side ≤ vec_capacity out.old }
+    ensures listed { out.new.items ≡ out.old.items ++ rows_of chunk_at first.x first.z side side }
+    ensures capacity { vec_capacity out.new ≡ vec_capacity out.old }
+{
+    for row in 0..side {
+        list_whole_row(out, first, row, side);
+    }
+}
+
 /// How many chunks are in a row of a section.
 fn side_of(shift: u8) -> u32
     requires { shift ≤ 5 }
@@ -87,6 +114,14 @@ fn side_of(shift: u8) -> u32
     ensures few { result ≤ 32 }
 {
     1 << shift
+}
+
+/// How many chunks are in a section.
+fn area_of(shift: u8) -> u64
+    requires { shift ≤ 5 }
+    ensures { result ≡ 2 ^ shift * 2 ^ shift }
+{
+    1 << (2 * shift)
 }
 
 /// How far the chunk coordinates of a section are shifted.
@@ -111,6 +146,12 @@ pub fn list_section(holds: &Numbers, out: &mut Vec<ChunkPos>, grid: &Grid, s: Se
     ensures capacity { vec_capacity out.new ≡ vec_capacity out.old }
 {
     let shift = shift_of(grid);
-    let all = out.len() + n as usize;
-    list_square(holds, out, first_chunk(s, shift), side_of(shift), all);
+    let side = side_of(shift);
+    let first = first_chunk(s, shift);
+    if n == area_of(shift) {
+        list_whole(out, first, side);
+    } else {
+        let all = out.len() + n as usize;
+        list_square(holds, out, first, side, all);
+    }
 }

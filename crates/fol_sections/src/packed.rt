@@ -1,10 +1,14 @@
 //! What a page keeps of a section, in four bytes.
 
-ghost use Rattle.std.specs.Prelude.{◌≡◌, ◌+◌, ◌<◌, ◌^◌, not, None, Some, is_some};
+ghost use Rattle.std.specs.Prelude.{◌≡◌, ◌+◌, ◌<◌, ◌≤◌, ◌^◌, not, IsTrue, None, Some, is_some};
 ghost use Rattle.std.specs.Option.{unwrap_or};
 ghost use Rattle.fol_sections.specs.Pages.{no_counts};
+ghost use Rattle.fol_sections.specs.Turns.{fall, rise, turned};
+ghost use Rattle.fol_sections.specs.Wanted.{is_wanted};
 
 use crate::pages::Counts;
+use crate::squares::Wanted;
+use crate::turns::{Turn, turned};
 use std::marker::Model;
 
 /// What stands in place of the loaded chunks of a section that is not present. A section has at most 1,024.
@@ -76,5 +80,45 @@ impl PackedCounts {
         ensures { result ≡ not (is_some self.now) }
     {
         self.loaded == ABSENT
+    }
+
+    /// How many sections with a loaded chunk are near the section; 0 where it is not present.
+    pub fn near(&self) -> u16
+        ensures { result ≡ (unwrap_or self.now no_counts).near }
+    {
+        self.near
+    }
+
+    /// Whether the section is looked for.
+    pub fn is_wanted(&self, wanted: Wanted) -> bool
+        ensures { result ≡ is_wanted wanted self.now }
+    {
+        match wanted {
+            Wanted::Missing => self.is_absent(),
+            Wanted::Dead => self.near == 0 && !self.is_absent(),
+        }
+    }
+
+    /// Counts a turn near the section, which is present.
+    pub fn turn(&mut self, turn: Turn)
+        requires here { IsTrue (is_some self.old) }
+        requires low { fall turn 1 ≤ (unwrap_or self.old no_counts).near }
+        requires few { (unwrap_or self.old no_counts).near + 1 < 2 ^ 16 }
+        ensures { self.new ≡ Some (turned turn (unwrap_or self.old no_counts)) }
+    {
+        self.near = turned(self.near, turn);
+    }
+
+    /// Changes the number of loaded chunks of the section, which is present, by one, and gives the number after.
+    pub fn count(&mut self, turn: Turn) -> u16
+        requires here { IsTrue (is_some self.old) }
+        requires low { fall turn 1 ≤ (unwrap_or self.old no_counts).loaded }
+        requires few { (unwrap_or self.old no_counts).loaded + 2 < 2 ^ 16 }
+        ensures after { result + fall turn 1 ≡ (unwrap_or self.old no_counts).loaded + rise turn 1 }
+        ensures counted { self.new
+            ≡ Some (record { loaded = result; near = (unwrap_or self.old no_counts).near }) }
+    {
+        self.loaded = turned(self.loaded, turn);
+        self.loaded
     }
 }

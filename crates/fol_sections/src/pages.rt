@@ -8,8 +8,12 @@ ghost use Rattle.fol_model.specs.declared.places.SectionPos.{SectionPos};
 ghost use Rattle.fol_model.specs.Geometry.{is_among, same_section};
 ghost use Rattle.fol_sections.specs.Pages.{AllUsed, HasSection, IsOnPage, counts_at, has_page, is_here, chunks_at, chunks_on, counts_on, near_at, near_on, no_counts, page_of as page};
 ghost use Rattle.fol_sections.specs.Places.{is_same};
+ghost use Rattle.fol_sections.specs.Turns.{fall, rise, turned};
+ghost use Rattle.fol_sections.specs.Wanted.{is_wanted};
 
 use crate::packed::PackedCounts;
+use crate::squares::Wanted;
+use crate::turns::Turn;
 use fol_model::SectionPos;
 use fol_pages::{page_of, place_of};
 use std::collections::HashMap;
@@ -40,6 +44,62 @@ impl Page {
         self.sections[place].counts()
     }
 
+    /// How many sections with a loaded chunk are near the section at a place; 0 where it is not present.
+    pub fn near(&self, place: usize) -> u16
+        requires { place < 32 }
+        ensures { result ≡ (unwrap_or (slice_index_or self.now.sections place None) no_counts).near }
+    {
+        self.sections[place].near()
+    }
+
+    /// Whether the section at a place is looked for.
+    pub fn is_wanted(&self, place: usize, wanted: Wanted) -> bool
+        requires { place < 32 }
+        ensures { result ≡ is_wanted wanted (slice_index_or self.now.sections place None) }
+    {
+        self.sections[place].is_wanted(wanted)
+    }
+
+    /// Counts a turn near the section at a place, which is present.
+    pub fn turn(&mut self, place: usize, turn: Turn)
+        requires place { place < 32 }
+        requires here { IsTrue (is_some (slice_index_or self.old.sections place None)) }
+        requires low { fall turn 1
+            ≤ (unwrap_or (slice_index_or self.old.sections place None) no_counts).near }
+        requires few { (unwrap_or (slice_index_or self.old.sections place None) no_counts).near + 1
+            < 2 ^ 16 }
+        ensures turned { self.new ≡ record {
+          sections = slice_set self.old.sections place
+              (Some (turned turn (unwrap_or (slice_index_or self.old.sections place None) no_counts)));
+        } }
+        ensures whole { length self.old.sections ≡ 32 }
+    {
+        self.sections[place].turn(turn);
+    }
+
+    /// Changes the number of loaded chunks of the section at a place, which is present, by one, and gives the number after.
+    pub fn count(&mut self, place: usize, turn: Turn) -> u16
+        requires place { place < 32 }
+        requires here { IsTrue (is_some (slice_index_or self.old.sections place None)) }
+        requires low { fall turn 1
+            ≤ (unwrap_or (slice_index_or self.old.sections place None) no_counts).loaded }
+        requires few { (unwrap_or (slice_index_or self.old.sections place None) no_counts).loaded + 2
+            < 2 ^ 16 }
+        ensures after { result + fall turn 1
+            ≡ (unwrap_or (slice_index_or self.old.sections place None) no_counts).loaded
+            + rise turn 1 }
+        ensures counted { self.new ≡ record {
+          sections = slice_set self.old.sections place
+              (Some (record {
+                loaded = result;
+                near = (unwrap_or (slice_index_or self.old.sections place None) no_counts).near;
+              }));
+        } }
+        ensures whole { length self.old.sections ≡ 32 }
+    {
+        self.sections[place].count(turn)
+    }
+
     /// Makes the section at a place present, with these numbers.
     pub fn keep(&mut self, place: usize, counts: Counts)
         requires place { place < 32 }
@@ -68,10 +128,7 @@ pub fn empty_page() -> Page
 pub fn near_in(page: &Page, s: SectionPos) -> u32
     ensures { result ≡ near_on page.now s }
 {
-    match page.kept(place_of(s)) {
-        Some(counts) => counts.near as u32,
-        None => 0,
-    }
+    page.near(place_of(s)) as u32
 }
 
 /// How many loaded chunks a section of the page holds; 0 where it is not present.
@@ -124,21 +181,6 @@ pub fn near(pages: &Pages, s: SectionPos) -> u32
     }
 }
 
-/// Changes what is kept of a section whose page is there.
-fn write(pages: &mut Pages, s: SectionPos, counts: Counts)
-    requires there { IsTrue (has_page pages.old.entries (page s.x) s.z) }
-    requires few { counts.loaded + 1 < 2 ^ 16 }
-    ensures put { (q : SectionPos) → counts_at pages.new.entries q
-        ≡ cond (same_section s q) (Some counts) (counts_at pages.old.entries q) }
-    ensures pages { (x z : ℤ) → has_page pages.new.entries x z ≡ has_page pages.old.entries x z }
-    ensures room { spare pages.new ≡ spare pages.old }
-{
-    match pages.get_mut(&page_of(s)) {
-        Some(page) => page.keep(place_of(s), counts),
-        None => {}
-    }
-}
-
 /// Makes sections of a page present, with no loaded chunk near them.
 fn mark_on(page: &mut Page, part: &[SectionPos])
     ensures { (q : SectionPos) → All (IsOnPage q) part.now → counts_on page.new q
@@ -181,16 +223,22 @@ pub fn put_stretch(pages: &mut Pages, first: SectionPos, part: &[SectionPos])
     }
 }
 
-/// Changes the numbers of a present section.
-pub fn change(pages: &mut Pages, s: SectionPos, counts: Counts)
+/// Changes the number of loaded chunks of a present section by one, and gives the number after.
+pub fn count(pages: &mut Pages, s: SectionPos, turn: Turn) -> u16
     requires here { IsTrue (is_here pages.old.entries s) }
-    requires few { counts.loaded + 1 < 2 ^ 16 }
-    ensures put { (q : SectionPos) → counts_at pages.new.entries q
-        ≡ cond (same_section s q) (Some counts) (counts_at pages.old.entries q) }
+    requires low { fall turn 1 ≤ chunks_at pages.old.entries s }
+    requires high { chunks_at pages.old.entries s ≤ 1024 }
+    ensures after { result + fall turn 1 ≡ chunks_at pages.old.entries s + rise turn 1 }
+    ensures put { (q : SectionPos) → counts_at pages.new.entries q ≡ cond (same_section s q)
+        (Some (record { loaded = result; near = near_at pages.old.entries s }))
+        (counts_at pages.old.entries q) }
     ensures room { spare pages.new ≡ spare pages.old }
     ensures used { AllUsed pages.old.entries → AllUsed pages.new.entries }
 {
-    write(pages, s, counts);
+    match pages.get_mut(&page_of(s)) {
+        Some(page) => page.count(place_of(s), turn),
+        None => 0,
+    }
 }
 
 /// Whether a page has no present section.

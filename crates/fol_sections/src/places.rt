@@ -1,6 +1,7 @@
 //! Numbers by place: how many holds each chunk has.
 
-ghost use Rattle.std.specs.Prelude.{◌≡◌, ℤ, ◌+◌, ◌<◌, ◌≤◌, ◌&&◌, cond, Some, None, is_some, IsTrue, if◌then◌else◌};
+ghost use Rattle.std.specs.Prelude.{◌≡◌, ℤ, ◌+◌, ◌<◌, ◌≤◌, ◌-◌, ◌^◌, ◌&&◌, cond, Some, None, is_some, true, false, nat_lt, if◌then◌else◌};
+ghost use Rattle.std.specs.Option.{unwrap_or};
 ghost use Rattle.std.specs.Ordering.{int_eq};
 ghost use Rattle.std.specs.HashMap.{hash_map_len, spare};
 ghost use Rattle.fol_sections.specs.Places.{number_at, is_same};
@@ -33,17 +34,68 @@ pub fn put(numbers: &mut Numbers, x: i32, z: i32, n: u64)
     let _ = numbers.insert((x, z), n);
 }
 
-/// Changes the number at a place that has one.
-pub fn change(numbers: &mut Numbers, x: i32, z: i32, n: u64)
-    requires there { IsTrue (is_some (number_at numbers.old.entries x z)) }
+/// Adds one to the number at a place, which is 0 where it has none, and gives the number before.
+pub fn raise(numbers: &mut Numbers, x: i32, z: i32) -> u64
+    requires room { 0 < spare numbers.old }
+    requires few { unwrap_or (number_at numbers.old.entries x z) 0 < 2 ^ 62 }
+    ensures before { result ≡ unwrap_or (number_at numbers.old.entries x z) 0 }
     ensures put { (a b : ℤ) → number_at numbers.new.entries a b
-        ≡ cond (is_same x z a b) (Some n) (number_at numbers.old.entries a b) }
-    ensures len { hash_map_len numbers.new ≡ hash_map_len numbers.old }
+        ≡ cond (is_same x z a b) (Some (unwrap_or (number_at numbers.old.entries x z) 0 + 1))
+        (number_at numbers.old.entries a b) }
+    ensures room { spare numbers.old ≤ spare numbers.new + 1 }
+{
+    match numbers.get_mut(&(x, z)) {
+        Some(number) => {
+            let before = *number;
+            *number = before + 1;
+            before
+        }
+        None => {
+            let _ = numbers.insert((x, z), 1);
+            0
+        }
+    }
+}
+
+/// Adds one to the number at a place where that is more than 0, and says whether it is.
+pub fn raise_again(numbers: &mut Numbers, x: i32, z: i32) -> bool
+    requires few { unwrap_or (number_at numbers.old.entries x z) 0 < 2 ^ 62 }
+    ensures some { result ≡ nat_lt 0 (unwrap_or (number_at numbers.old.entries x z) 0) }
+    ensures more { result ≡ true → (a b : ℤ) → number_at numbers.new.entries a b
+        ≡ cond (is_same x z a b) (Some (unwrap_or (number_at numbers.old.entries x z) 0 + 1))
+        (number_at numbers.old.entries a b) }
+    ensures stays { result ≡ false → numbers.new.entries ≡ numbers.old.entries }
     ensures room { spare numbers.new ≡ spare numbers.old }
 {
     match numbers.get_mut(&(x, z)) {
-        Some(number) => *number = n,
-        None => {}
+        Some(number) => {
+            let is_held = *number > 0;
+            if is_held {
+                *number += 1;
+            }
+            is_held
+        }
+        None => false,
+    }
+}
+
+/// Takes one off the number at a place where that is more than 1, and gives the number before: 0 where it has none.
+pub fn lower(numbers: &mut Numbers, x: i32, z: i32) -> u64
+    ensures before { result ≡ unwrap_or (number_at numbers.old.entries x z) 0 }
+    ensures less { 1 < result → (a b : ℤ) → number_at numbers.new.entries a b
+        ≡ cond (is_same x z a b) (Some (result - 1)) (number_at numbers.old.entries a b) }
+    ensures stays { result ≤ 1 → numbers.new.entries ≡ numbers.old.entries }
+    ensures room { spare numbers.new ≡ spare numbers.old }
+{
+    match numbers.get_mut(&(x, z)) {
+        Some(number) => {
+            let before = *number;
+            if before > 1 {
+                *number = before - 1;
+            }
+            before
+        }
+        None => 0,
     }
 }
 

@@ -12,9 +12,9 @@ ghost use Rattle.fol_sections.specs.Rows.{row_of, section_at};
 ghost use Rattle.fol_sections.specs.Turns.{fall, rise};
 ghost use Rattle.fol_sections.specs.Wanted.{is_wanted};
 
-use crate::pages::{Counts, Page, Pages};
+use crate::pages::{Page, Pages};
 use crate::squares::{Wanted, is_wanted};
-use crate::turns::{Turn, turned};
+use crate::turns::Turn;
 use fol_model::SectionPos;
 use fol_pages::{page_of, place_of};
 
@@ -42,7 +42,7 @@ fn find_on(page: &Page, found: &mut Vec<SectionPos>, s: SectionPos, len: u32, wa
 {
     let place = place_of(s);
     for i in 0..len {
-        if is_wanted(page.kept(place + i as usize), wanted) {
+        if page.is_wanted(place + i as usize, wanted) {
             found.push_reserved(behind(s, i));
         }
     }
@@ -97,16 +97,9 @@ fn turn_on(page: &mut Page, s: SectionPos, len: u32, turn: Turn)
         ≡ near_on page.old q + rise turn (count_by (same_section q) (row_of section_at s.x s.z len)) }
     ensures kept { KeepsOthers page.old page.new }
 {
+    let place = place_of(s);
     for i in 0..len {
-        let at = place_of(s) + i as usize;
-        match page.kept(at) {
-            Some(counts) => {
-                let near = turned(counts.near, turn);
-                let loaded = counts.loaded;
-                page.keep(at, Counts { loaded, near });
-            }
-            None => {}
-        }
+        page.turn(place + i as usize, turn);
     }
 }
 

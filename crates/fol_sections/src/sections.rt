@@ -1,6 +1,6 @@
 //! A table of holds and present sections.
 
-ghost use Rattle.std.specs.Prelude.{◌≡◌, ℤ, ◌+◌, ◌-◌, ◌*◌, ◌<◌, ◌≤◌, ◌^◌, not, ◌&&◌, ◌||◌, false, None, IsTrue, IfOk, OnOk, [], ◌++◌, length, nat_eq, nat_lt, cond, Some, nat_abs, sum_by, flat_map, if◌then◌else◌};
+ghost use Rattle.std.specs.Prelude.{◌≡◌, ℤ, ◌+◌, ◌-◌, ◌*◌, ◌<◌, ◌≤◌, ◌^◌, not, ◌&&◌, ◌||◌, false, None, IsTrue, IfOk, OnOk, true, [], ◌++◌, length, nat_eq, nat_lt, cond, Some, nat_abs, sum_by, flat_map, if◌then◌else◌};
 ghost use Rattle.std.specs.List.{All, IsDistinct, count_by, filter};
 ghost use Rattle.std.specs.Vec.{vec_capacity};
 ghost use Rattle.std.specs.HashMap.{spare as room_of};
@@ -14,11 +14,11 @@ ghost use Rattle.fol_model.specs.GridState.{at_chunk};
 
 use crate::drops::drop_list;
 use crate::listings::list_all;
-use crate::pages::{self, Counts, Pages, is_present, loaded, near, put_stretch};
+use crate::pages::{self, Pages, is_present, loaded, near, put_stretch};
 use crate::places::{self, Numbers, number};
 use crate::squares::{Wanted, find_missing, find_square};
 use crate::stretches::{count_list, split_list};
-use crate::turns::{Turn, turn_square, turned};
+use crate::turns::{Turn, turn_square};
 use crate::{Added, Removed};
 use fol_model::{ChunkPos, Grid, MOST_SECTIONS, SectionPos, section_of};
 use fol_pages::{NEAR_PAGES, stretch_len};
@@ -213,7 +213,8 @@ impl Sections {
     /// The answer is `Full` exactly where the present sections and the missing ones that the chunk needs are more than 16,384;
     /// then nothing changes. Else the missing ones are present now, and one spare is used. Takes no memory.
     ///
-    /// If another chunk of the section is loaded, or this one, no other section is looked up. Else all within the create radius are.
+    /// If the chunk has a hold, no section is looked up; if another chunk of its section has, its section alone is. Else all within the create
+    /// radius are.
     pub fn add(&mut self, c: ChunkPos) -> Added
         requires spare { 1 ≤ self.old.spare }
         requires in_range { IsTrue (is_chunk c) }
@@ -224,9 +225,13 @@ impl Sections {
         ensures room { is_full_for self.old c ≡ false → Adds self.old self.new c }
         ensures grid { self.new.grid ≡ self.old.grid }
     {
+        self.filled.clear();
+        if hold_again(&mut self.holds, c) {
+            self.spare -= 1;
+            return Added::Counted;
+        }
         let home = section_of(&self.grid, c);
         let radius = create_radius(&self.grid);
-        self.filled.clear();
         find_missing(&self.pages, &mut self.filled, home, radius);
         let present = self.count;
         let wanted = self.filled.len() as u32;
@@ -334,7 +339,7 @@ fn keep_present(list: &mut Vec<SectionPos>, pages: &Pages, missing: usize)
 {
     if missing == list.len() {
         list.clear();
-    } else {
+    } else if missing > 0 {
         list.retain(|s| is_present(pages, *s));
     }
 }
@@ -353,7 +358,7 @@ fn answer_for(count: u64) -> Removed
     }
 }
 
-/// Makes the missing sections present that a chunk of the section `home` needs, and adds a hold on the chunk.
+/// Makes the missing sections present that a chunk of the section `home` needs, and adds the first hold on the chunk.
 fn take_hold(
     holds: &mut Numbers,
     pages: &mut Pages,
@@ -362,7 +367,7 @@ fn take_hold(
     radius: u8,
     c: ChunkPos,
 )
-    requires hold { (1 ≤ room_of holds.old) × (count_at holds.old.entries c < 2 ^ 62) }
+    requires hold { 1 ≤ room_of holds.old }
     requires room { 34 ≤ room_of pages.old }
     requires pages { InNear missing.now }
     requires near { (nat_abs home.x ≤ 1000008) × (nat_abs home.z ≤ 1000008) }
@@ -374,23 +379,21 @@ fn take_hold(
     requires chunks_high { chunks_at pages.old.entries home ≤ 1024 }
     requires near_high { (s : SectionPos) → near_at pages.old.entries s ≤ 289 }
     ensures counts { (q : ChunkPos) → count_at holds.new.entries q
-        ≡ at_chunk (count_at holds.old.entries) c (count_at holds.old.entries c + 1) q }
+        ≡ at_chunk (count_at holds.old.entries) c 1 q }
     ensures here { (s : SectionPos) → is_here pages.new.entries s
         ≡ (is_here pages.old.entries s || is_among missing.now s) }
     ensures chunks { (s : SectionPos) → chunks_at pages.new.entries s
-        ≡ cond (same_section home s && not (nat_lt 0 (count_at holds.old.entries c))) 1 0
-        + chunks_at pages.old.entries s }
+        ≡ cond (same_section home s) 1 0 + chunks_at pages.old.entries s }
     ensures near { (s : SectionPos) → near_at pages.new.entries s
-        ≡ near_at pages.old.entries s + cond (not (nat_lt 0 (count_at holds.old.entries c))
-        && (nat_eq (chunks_at pages.old.entries home) 0 && is_within home radius s)) 1 0 }
+        ≡ near_at pages.old.entries s + cond (nat_eq (chunks_at pages.old.entries home) 0
+        && is_within home radius s) 1 0 }
     ensures rooms { (room_of holds.old ≤ room_of holds.new + 1)
         × (room_of pages.old ≤ room_of pages.new + 34) }
     ensures used { AllUsed pages.old.entries → AllUsed pages.new.entries }
 {
     fill(pages, missing);
-    if count_hold(holds, c) == 0 {
-        add_chunk(pages, home, radius);
-    }
+    hold_first(holds, c);
+    add_chunk(pages, home, radius);
 }
 
 /// How far the margin reaches round a loaded chunk's section.
@@ -426,9 +429,29 @@ pub fn count_hold(holds: &mut Numbers, c: ChunkPos) -> u64
         ≡ at_chunk (count_at holds.old.entries) c (count_at holds.old.entries c + 1) q }
     ensures room { room_of holds.old ≤ room_of holds.new + 1 }
 {
-    let count = number(holds, c.x, c.z).unwrap_or(0);
-    places::put(holds, c.x, c.z, count + 1);
-    count
+    places::raise(holds, c.x, c.z)
+}
+
+/// Adds a hold on a chunk that has one already; else nothing changes. Says whether it has. Takes no memory.
+fn hold_again(holds: &mut Numbers, c: ChunkPos) -> bool
+    requires few { count_at holds.old.entries c < 2 ^ 62 }
+    ensures again { result ≡ nat_lt 0 (count_at holds.old.entries c) }
+    ensures counts { result ≡ true → (q : ChunkPos) → count_at holds.new.entries q
+        ≡ at_chunk (count_at holds.old.entries) c (count_at holds.old.entries c + 1) q }
+    ensures stays { result ≡ false → holds.new.entries ≡ holds.old.entries }
+    ensures room { room_of holds.new ≡ room_of holds.old }
+{
+    places::raise_again(holds, c.x, c.z)
+}
+
+/// Adds the first hold on a chunk.
+fn hold_first(holds: &mut Numbers, c: ChunkPos)
+    requires room { 1 ≤ room_of holds.old }
+    ensures counts { (q : ChunkPos) → count_at holds.new.entries q
+        ≡ at_chunk (count_at holds.old.entries) c 1 q }
+    ensures room { room_of holds.old ≤ room_of holds.new + 1 }
+{
+    places::put(holds, c.x, c.z, 1);
 }
 
 /// Removes a hold on a chunk in a table of such counts, and gives the count before; a count of 0 stays. Takes no memory.
@@ -438,10 +461,8 @@ pub fn drop_hold(holds: &mut Numbers, c: ChunkPos) -> u64
         ≡ at_chunk (count_at holds.old.entries) c (count_at holds.old.entries c - 1) q }
     ensures room { room_of holds.old ≤ room_of holds.new }
 {
-    let count = number(holds, c.x, c.z).unwrap_or(0);
-    if count > 1 {
-        places::change(holds, c.x, c.z, count - 1);
-    } else {
+    let count = places::lower(holds, c.x, c.z);
+    if count == 1 {
         places::take_out(holds, c.x, c.z);
     }
     count
@@ -461,15 +482,7 @@ fn count_chunk(pages: &mut Pages, home: SectionPos, turn: Turn) -> u16
     ensures room { room_of pages.new ≡ room_of pages.old }
     ensures used { AllUsed pages.old.entries → AllUsed pages.new.entries }
 {
-    match pages::find(pages, home) {
-        Some(counts) => {
-            let loaded = turned(counts.loaded, turn);
-            let near = counts.near;
-            pages::change(pages, home, Counts { loaded, near });
-            loaded
-        }
-        None => 0,
-    }
+    pages::count(pages, home, turn)
 }
 
 /// Counts a loaded chunk more of a section round which all are present.

@@ -18,8 +18,8 @@ loop-i-init c = record {
   room = omega arith;
 }
 
-pub kept-requires : goal.kept-requires
-kept-requires c = let f = run_few c.args.s c.args.len c.requires.run c.loop-i.i c.loop-i-test.true in omega (arith, f, c.place_of-place.ensures.value)
+pub is_wanted-requires : goal.is_wanted-requires
+is_wanted-requires c = let f = run_few c.args.s c.args.len c.requires.run c.loop-i.i c.loop-i-test.true in omega (arith, f, c.place_of-place.ensures.value)
 
 pub push_reserved-requires : goal.push_reserved-requires
 push_reserved-requires c = omega (arith, c.loop-i.invariant.few, c.loop-i.invariant.room, c.requires.room, c.loop-i-test.true)
@@ -29,8 +29,8 @@ loop-i-preserved c =
     let place : SectionPos = section_at (c.args.s.x +ℤ pos c.loop-i.i) c.args.s.z in
     let test = λ (q : SectionPos). is_wanted c.args.wanted (counts_on c.args.page.now q) in
     let at = run_place c.args.s c.args.len c.requires.run c.loop-i.i c.loop-i-test.true in
-    let here : counts_on c.args.page.now place ≡ c.kept.result
-    = ap (λ n. slice_index_or c.args.page.now.sections n None) (at ∙ ap (λ n. n + c.loop-i.i) (sym c.place_of-place.ensures.value)) ∙ sym c.kept.ensures.value in
+    let here : counts_on c.args.page.now place ≡ slice_index_or c.args.page.now.sections (c.place_of-place.result + c.loop-i.i) None
+    = ap (λ n. slice_index_or c.args.page.now.sections n None) (at ∙ ap (λ n. n + c.loop-i.i) (sym c.place_of-place.ensures.value)) in
     elim c.if-is_wanted.branch [
       | then-is_wanted w ↦
           let yes : is_wanted c.args.wanted (counts_on c.args.page.now place) ≡ true = ap (is_wanted c.args.wanted) here ∙ sym w.if-is_wanted.ensures in

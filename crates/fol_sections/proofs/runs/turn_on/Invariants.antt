@@ -9,7 +9,7 @@ use Rattle.fol_sections.proofs.runs.turn_on.Given as goal
 
 abbrev pub invariant-loop-i : goal.invariant-loop-i
 invariant-loop-i l = record {
-  near : (q : SectionPos) → IsOnPage l.s q → near_on l.page q + fall l.turn (count_by (same_section q) (row_of section_at l.s.x l.s.z l.i))
-      ≡ near_on l.initial.page q + rise l.turn (count_by (same_section q) (row_of section_at l.s.x l.s.z l.i));
+  near : (q : SectionPos) → IsOnPage l.fn.s q → near_on l.page q + fall l.turn (count_by (same_section q) (row_of section_at l.fn.s.x l.fn.s.z l.i))
+      ≡ near_on l.initial.page q + rise l.turn (count_by (same_section q) (row_of section_at l.fn.s.x l.fn.s.z l.i));
   kept : KeepsOthers l.initial.page l.page;
 }

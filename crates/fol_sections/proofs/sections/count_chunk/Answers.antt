@@ -1,37 +1,28 @@
-use Rattle.std.proofs.Common.{refl, sym, ◌∙◌, ap, arith, cond}
-use Rattle.std.specs.Prelude.{is_some}
-use Rattle.std.proofs.lemmas.Bool.{true≢false}
+use Rattle.std.proofs.Common.{refl, sym, ◌∙◌, ap, cond}
+use Rattle.std.specs.Option.{unwrap_or}
 use Rattle.fol_laws.proofs.SamePlaces.{same_section-self}
-use Rattle.fol_sections.specs.Pages.{chunks_at, is_here}
-use Rattle.fol_sections.proofs.NumberSteps.{chunks-are, chunks-put, here-put}
-use Rattle.fol_sections.proofs.TurnSteps.{chunks-turned, near-kept, rise_few}
+use Rattle.fol_sections.specs.Pages.{chunks_at, counts_at, is_here, near_at, no_counts}
+use Rattle.fol_sections.specs.declared.pages.Counts.{Counts}
+use Rattle.fol_sections.proofs.NumberSteps.{chunks-put, here-put}
+use Rattle.fol_sections.proofs.PageRuns.{some_is}
+use Rattle.fol_sections.proofs.TurnSteps.{chunks-turned, near-kept}
 use Rattle.fol_sections.proofs.sections.count_chunk.Goals as goal
 
-pub turned-loaded-requires-clause-low : goal.turned-loaded-requires-clause-low
-turned-loaded-requires-clause-low c = omega (arith, c.requires.low, chunks-are c.args.pages.now.entries c.args.home c.in-Some.counts (sym c.find.ensures ∙ c.in-Some.is))
+pub returns-clause-after : goal.returns-clause-after
+returns-clause-after c =
+    sym (chunks-put c.args.pages.now.entries _ c.args.home _ c.count.ensures.put c.args.home ∙ ap (λ b. cond b c.count.result (chunks_at c.args.pages.now.entries c.args.home)) (same_section-self c.args.home))
 
-pub turned-loaded-requires-clause-few : goal.turned-loaded-requires-clause-few
-turned-loaded-requires-clause-few c = omega (arith, c.requires.high, chunks-are c.args.pages.now.entries c.args.home c.in-Some.counts (sym c.find.ensures ∙ c.in-Some.is))
+pub returns-clause-chunks : goal.returns-clause-chunks
+unfolding is_here chunks_at
+returns-clause-chunks c =
+    let was : Counts = unwrap_or (counts_at c.args.pages.now.entries c.args.home) no_counts in
+    chunks-turned c.args.pages.now.entries _ c.args.home was _ c.args.turn (some_is (counts_at c.args.pages.now.entries c.args.home) c.requires.here) c.count.ensures.put c.count.ensures.after
 
-pub change-requires : goal.change-requires
-change-requires c = record {
-  here = c.requires.here;
-  few = omega (arith, c.requires.high, c.turned-loaded.ensures, rise_few c.args.turn 1, chunks-are c.args.pages.now.entries c.args.home c.in-Some.counts (sym c.find.ensures ∙ c.in-Some.is));
-}
+pub returns-clause-here : goal.returns-clause-here
+returns-clause-here c = here-put c.args.pages.now.entries _ c.args.home _ c.count.ensures.put c.requires.here
 
-pub returns-in-Some-clause-after : goal.returns-in-Some-clause-after
-returns-in-Some-clause-after c =
-    sym (chunks-put c.args.pages.now.entries _ c.args.home _ c.change.ensures.put c.args.home ∙ ap (λ b. cond b c.turned-loaded.result (chunks_at c.args.pages.now.entries c.args.home)) (same_section-self c.args.home))
-
-pub returns-in-Some-clause-chunks : goal.returns-in-Some-clause-chunks
-returns-in-Some-clause-chunks c = chunks-turned c.args.pages.now.entries _ c.args.home c.in-Some.counts _ c.args.turn (sym c.find.ensures ∙ c.in-Some.is) c.change.ensures.put c.turned-loaded.ensures
-
-pub returns-in-Some-clause-here : goal.returns-in-Some-clause-here
-returns-in-Some-clause-here c = here-put c.args.pages.now.entries _ c.args.home _ c.change.ensures.put c.requires.here
-
-pub returns-in-Some-clause-near : goal.returns-in-Some-clause-near
-returns-in-Some-clause-near c = near-kept c.args.pages.now.entries _ c.args.home c.in-Some.counts _ c.args.turn (sym c.find.ensures ∙ c.in-Some.is) c.change.ensures.put refl
-
-pub returns-in-None : goal.returns-in-None
-unfolding is_here
-returns-in-None c = absurd (true≢false (sym c.requires.here ∙ ap is_some (sym c.find.ensures ∙ c.in-None.is)))
+pub returns-clause-near : goal.returns-clause-near
+unfolding is_here near_at
+returns-clause-near c =
+    let was : Counts = unwrap_or (counts_at c.args.pages.now.entries c.args.home) no_counts in
+    near-kept c.args.pages.now.entries _ c.args.home was _ c.args.turn (some_is (counts_at c.args.pages.now.entries c.args.home) c.requires.here) c.count.ensures.put refl

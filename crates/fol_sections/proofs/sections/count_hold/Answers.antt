@@ -1,31 +1,28 @@
-use Rattle.std.proofs.Common.{◌≡◌, ◌+◌, ◌∙◌, ap, rules, arith}
-use Rattle.std.specs.Option.{unwrap_or}
+use Rattle.std.proofs.Common.{rules}
 use Rattle.std.proofs.lemmas.Int.{to_z-of_z}
 use mir.Val.{SFits}
 use mir.Syntax.{w32}
-use Rattle.fol_model.specs.GridState.{at_chunk}
 use Rattle.fol_sections.specs.Places.{count_at}
 use Rattle.fol_sections.proofs.NumberSteps.{count-put}
 use Rattle.fol_sections.proofs.sections.count_hold.Goals as goal
 
-pub overflow_add-count : goal.overflow_add-count
+pub raise-requires : goal.raise-requires
 unfolding count_at
-overflow_add-count c =
+raise-requires c =
     let fx : SFits w32 c.args.c.x = search rules in
     let fz : SFits w32 c.args.c.z = search rules in
-    let e : c.unwrap_or-count.result ≡ count_at c.args.holds.now.entries c.args.c = c.unwrap_or-count.ensures ∙ ap (λ o. unwrap_or o 0) (simp to_z-of_z at c.number.ensures) in
-    omega (arith, e, c.requires.few)
+    record { room = c.requires.room; few = rw (to_z-of_z w32 c.args.c.x fx, to_z-of_z w32 c.args.c.z fz) c.requires.few }
 
 pub returns-clause-before : goal.returns-clause-before
 unfolding count_at
 returns-clause-before c =
     let fx : SFits w32 c.args.c.x = search rules in
     let fz : SFits w32 c.args.c.z = search rules in
-    c.unwrap_or-count.ensures ∙ ap (λ o. unwrap_or o 0) (simp to_z-of_z at c.number.ensures)
+    simp to_z-of_z at c.raise.ensures.before
 
 pub returns-clause-counts : goal.returns-clause-counts
+unfolding count_at
 returns-clause-counts c = λ q.
     let fx : SFits w32 c.args.c.x = search rules in
     let fz : SFits w32 c.args.c.z = search rules in
-    let e : c.unwrap_or-count.result ≡ count_at c.args.holds.now.entries c.args.c = unfold count_at in (c.unwrap_or-count.ensures ∙ ap (λ o. unwrap_or o 0) (simp to_z-of_z at c.number.ensures)) in
-    count-put _ _ c.args.c _ (simp to_z-of_z at c.put.ensures.put) q ∙ ap (λ n. at_chunk (count_at c.args.holds.now.entries) c.args.c (n + 1) q) e
+    count-put _ _ c.args.c _ (simp to_z-of_z at c.raise.ensures.put) q

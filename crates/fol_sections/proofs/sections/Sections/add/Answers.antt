@@ -1,12 +1,15 @@
-use Rattle.std.proofs.Common.{◌≡◌, ℕ, ◌+◌, ◌≤◌, ◌%◌, refl, sym, ◌∙◌, ap, arith, Bool, true, false, ◌||◌, length}
-use Rattle.std.specs.Prelude.{nat_lt}
+use Rattle.std.proofs.Common.{◌≡◌, ℕ, ◌+◌, ◌≤◌, ◌%◌, refl, sym, ◌∙◌, ap, arith, Bool, true, false, ◌&&◌, ◌||◌, length}
+use Rattle.std.specs.Prelude.{nat_eq, nat_lt}
 use Rattle.std.proofs.Math.Path.{fun_ext}
 use Rattle.std.proofs.lemmas.Bool.{true≢false, lt-ltb, le-ltb}
 use Rattle.fol_model.specs.declared.places.ChunkPos.{ChunkPos}
 use Rattle.fol_model.specs.declared.places.SectionPos.{SectionPos}
+use Rattle.fol_model.specs.Geometry.{is_within, same_section, section_of}
 use Rattle.fol_model.specs.GridState.{at_chunk}
+use Rattle.fol_sections.specs.Pages.{chunks_at, near_at}
 use Rattle.fol_sections.specs.Table.{is_missing}
 use Rattle.fol_sections.proofs.AddTable.{home_near, added_full, added_counted, added_filled, full-is, here_around, limits_more, missing_absent, missing_pages, missing_rows, missing_length, here-more, presence-more}
+use Rattle.fol_sections.proofs.AgainTable.{again_adds, again_counted, again_kept, again_room, first_chunks, first_counts, first_near}
 use Rattle.fol_sections.proofs.Bounds.{chunks_few}
 use Rattle.fol_sections.proofs.KeptSteps.{kept_add}
 use Rattle.fol_sections.proofs.Margins.{near_few}
@@ -14,6 +17,42 @@ use Rattle.fol_sections.proofs.NumberSteps.{filled_around}
 use Rattle.fol_sections.proofs.Tables.{table, table-holds, table-presence, table_same}
 use Rattle.fol_sections.proofs.sections.Sections.add.Goals as goal
 use Rattle.fol_sections.proofs.sections.Sections.add.Goals.{then-wanted-eq0, else-wanted-eq0}
+
+pub hold_again-requires : goal.hold_again-requires
+hold_again-requires c =
+    let few = rw (← c.self.view_is) at c.requires.few in
+    let is = ap (λ (f : ChunkPos → ℕ). f c.args.c) (table-holds c.self.inside.grid c.self.inside.holds.entries c.self.inside.pages.entries c.self.inside.filled.items c.self.inside.spare) in
+    omega (arith, few, is)
+
+pub invariant_of-self : goal.invariant_of-self
+invariant_of-self c =
+    let held = sym c.hold_again.ensures.again ∙ c.if-hold_again.true in
+    let spare = rw (← c.self.view_is) at c.requires.spare in (
+      again_kept _ _ _ _ c.self.inside.filled.items c.self.inside.spare c.self.invariant.0 c.args.c held _ (c.hold_again.ensures.counts c.if-hold_again.true),
+      record {
+        holds = omega (arith, c.hold_again.ensures.room, c.self.invariant.1.holds);
+        pages = omega (arith, c.self.invariant.1.pages, spare);
+        filled = omega (arith, c.clear.ensures.capacity, c.self.invariant.1.filled);
+        fits = omega (arith, c.self.invariant.1.fits);
+      },
+    )
+
+pub returns-then-hold_again-clause-answer : goal.returns-then-hold_again-clause-answer
+returns-then-hold_again-clause-answer c =
+    let held = sym c.hold_again.ensures.again ∙ c.if-hold_again.true in
+    rw (← c.self.view_is) (again_counted _ _ _ c.self.inside.count c.self.inside.filled.items c.self.inside.spare c.self.invariant.0 c.args.c held)
+
+pub returns-then-hold_again-clause-full : goal.returns-then-hold_again-clause-full
+returns-then-hold_again-clause-full c = λ yes.
+    let held = sym c.hold_again.ensures.again ∙ c.if-hold_again.true in
+    let was = rw (← c.self.view_is) at yes in
+    absurd (true≢false (sym was ∙ again_room _ _ _ c.self.inside.count c.self.inside.filled.items c.self.inside.spare c.self.invariant.0 c.args.c held))
+
+pub returns-then-hold_again-clause-room : goal.returns-then-hold_again-clause-room
+returns-then-hold_again-clause-room c = λ _.
+    let held = sym c.hold_again.ensures.again ∙ c.if-hold_again.true in
+    let spare = rw (← c.self.view_is) at c.requires.spare in
+    rw (← c.self.view_is, c.clear.ensures.items) (again_adds _ _ _ c.self.inside.count c.self.inside.filled.items c.self.inside.spare c.self.invariant.0 c.args.c held _ (c.hold_again.ensures.counts c.if-hold_again.true) _ (omega (arith, spare)))
 
 pub find_missing-requires-clause-near : goal.find_missing-requires-clause-near
 find_missing-requires-clause-near c = rw c.section_of-home.ensures (home_near _ _ _ c.self.inside.count c.self.inside.filled.items c.self.inside.spare c.self.invariant.0 c.args.c c.requires.in_range)
@@ -28,7 +67,7 @@ returns-then-present-wanted-clause-answer c =
 
 pub returns-then-present-wanted-clause-full : goal.returns-then-present-wanted-clause-full
 returns-then-present-wanted-clause-full c = λ _.
-    rw (← c.self.view_is) (table_same _ _ _ _ _ (λ a b. refl) (λ a b. refl) _ c.self.invariant.0 _ _ _ _, c.clear-then-present-wanted.ensures.items, refl)
+    rw (← c.self.view_is, c.hold_again.ensures.stays c.if-hold_again.false) (table_same _ _ _ _ _ (λ a b. refl) (λ a b. refl) _ c.self.invariant.0 _ _ _ _, c.clear-then-present-wanted.ensures.items, refl)
 
 pub returns-then-present-wanted-clause-room : goal.returns-then-present-wanted-clause-room
 returns-then-present-wanted-clause-room c = λ no.
@@ -39,11 +78,7 @@ returns-then-present-wanted-clause-room c = λ no.
     absurd (true≢false (sym yes ∙ sym is ∙ was))
 
 pub take_hold-requires-clause-hold : goal.take_hold-requires-clause-hold
-take_hold-requires-clause-hold c =
-    let few = rw (← c.self.view_is) at c.requires.few in
-    let spare = rw (← c.self.view_is) at c.requires.spare in
-    let is = ap (λ (f : ChunkPos → ℕ). f c.args.c) (table-holds c.self.inside.grid c.self.inside.holds.entries c.self.inside.pages.entries c.self.inside.filled.items c.self.inside.spare) in
-    (omega (arith, spare, c.self.invariant.1.holds), omega (arith, few, is))
+take_hold-requires-clause-hold c = let spare = rw (← c.self.view_is) at c.requires.spare in omega (arith, spare, c.hold_again.ensures.room, c.self.invariant.1.holds)
 
 pub take_hold-requires-clause-room : goal.take_hold-requires-clause-room
 take_hold-requires-clause-room c = let spare = rw (← c.self.view_is) at c.requires.spare in omega (arith, spare, c.self.invariant.1.pages)
@@ -76,15 +111,21 @@ pub invariant_of-self-2 : goal.invariant_of-self-2
 invariant_of-self-2 c =
     let found = rw (c.section_of-home.ensures, c.create_radius-radius.ensures) at c.find_missing.ensures.found in
     let here = rw c.deref.ensures.value at c.take_hold.ensures.here in
+    let stays = c.hold_again.ensures.stays c.if-hold_again.false in
+    let new = sym c.hold_again.ensures.again ∙ c.if-hold_again.false in
+    let counts = first_counts _ _ c.args.c new (rw stays at c.take_hold.ensures.counts) in
     let chunks = rw c.section_of-home.ensures at c.take_hold.ensures.chunks in
     let near = rw (c.section_of-home.ensures, c.create_radius-radius.ensures) at c.take_hold.ensures.near in
     let count = missing_length _ _ _ c.self.inside.count c.self.inside.filled.items c.self.inside.spare c.self.invariant.0 c.args.c c.requires.in_range _ found in
     let more = here-more _ _ _ c.self.inside.count c.self.inside.filled.items c.self.inside.spare c.self.invariant.0 c.args.c c.requires.in_range _ found in
+    let home = section_of c.self.inside.grid c.args.c in
     let spare = rw (← c.self.view_is) at c.requires.spare in (
-      kept_add _ _ _ _ _ _ _ c.args.c c.self.invariant.0 c.requires.in_range c.take_hold.ensures.counts (λ s. here s ∙ more s) chunks near
+      kept_add _ _ _ _ _ _ _ c.args.c c.self.invariant.0 c.requires.in_range counts (λ s. here s ∙ more s)
+          (λ s. chunks s ∙ first_chunks (same_section home s) _ (chunks_at c.self.inside.pages.entries s) new)
+          (λ s. near s ∙ first_near (near_at c.self.inside.pages.entries s) _ (nat_eq (chunks_at c.self.inside.pages.entries home) 0 && is_within home c.self.inside.grid.create s) new)
           (omega (arith, count, c.len-wanted.ensures, c.find_missing.ensures.few)) (omega (arith, c.if-present-wanted.false)) c.take_hold.ensures.used,
       record {
-        holds = let rooms = c.take_hold.ensures.rooms in omega (arith, rooms.0, c.self.invariant.1.holds);
+        holds = let rooms = c.take_hold.ensures.rooms in omega (arith, rooms.0, c.hold_again.ensures.room, c.self.invariant.1.holds);
         pages = let rooms = c.take_hold.ensures.rooms in omega (arith, rooms.1, c.self.invariant.1.pages, spare);
         filled = omega (arith, c.find_missing.ensures.room, c.clear.ensures.capacity, c.self.invariant.1.filled);
         fits = omega (arith, c.self.invariant.1.fits);
@@ -113,13 +154,15 @@ pub returns-clause-room : goal.returns-clause-room
 returns-clause-room c = λ _.
     let found = rw (c.section_of-home.ensures, c.create_radius-radius.ensures) at c.find_missing.ensures.found in
     let here = rw c.deref.ensures.value at c.take_hold.ensures.here in
+    let new = sym c.hold_again.ensures.again ∙ c.if-hold_again.false in
+    let counts = first_counts _ _ c.args.c new (rw (c.hold_again.ensures.stays c.if-hold_again.false) at c.take_hold.ensures.counts) in
     let limits = c.self.invariant.0.section_limits in
     let holds = table-holds c.self.inside.grid c.self.inside.holds.entries c.self.inside.pages.entries c.self.inside.filled.items c.self.inside.spare in
     let presence = table-presence c.self.inside.grid c.self.inside.holds.entries c.self.inside.pages.entries c.self.inside.filled.items c.self.inside.spare limits in
     let more = presence-more _ _ _ c.self.inside.count c.self.inside.filled.items c.self.inside.spare c.self.invariant.0 c.args.c c.requires.in_range _ found in
     let spare = rw (← c.self.view_is) at c.requires.spare in
     rw (← c.self.view_is) (record {
-      holds = table-holds _ _ _ _ _ ∙ fun_ext c.take_hold.ensures.counts ∙ ap (λ (f : ChunkPos → ℕ). at_chunk f c.args.c (f c.args.c + 1)) (sym holds);
+      holds = table-holds _ _ _ _ _ ∙ fun_ext counts ∙ ap (λ (f : ChunkPos → ℕ). at_chunk f c.args.c (f c.args.c + 1)) (sym holds);
       presence = table-presence _ _ _ _ _ (λ s h. limits_more _ _ _ c.self.inside.count c.self.inside.filled.items c.self.inside.spare c.self.invariant.0 c.args.c c.requires.in_range _ found s (sym (here s) ∙ h)) ∙ fun_ext (λ s. here s ∙ more s ∙ ap (λ (f : SectionPos → Bool). f s || is_missing (table c.self.inside.grid c.self.inside.holds.entries c.self.inside.pages.entries c.self.inside.filled.items c.self.inside.spare) c.args.c s) (sym presence));
       filled = missing_rows _ _ _ c.self.inside.count c.self.inside.filled.items c.self.inside.spare c.self.invariant.0 c.args.c c.requires.in_range _ found;
       spare = omega (arith, spare);
