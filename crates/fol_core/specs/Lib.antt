@@ -12,6 +12,7 @@ pub mod Begun
 pub mod CatchingUp
 pub mod Room
 pub mod Released
+pub mod Parts
 pub mod Undone
 pub mod Posts
 pub mod Underway
