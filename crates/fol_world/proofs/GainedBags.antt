@@ -74,7 +74,7 @@ module _ (g : GridState) (c : ChunkPos) (rules : Rules g) (ok : IsGrid g.grid) (
       (is : (r : ℕ) → r ≢ t → (k r).listed ≡ true → g.state r ≢ Dead → KeepsUp (k r) (filter (is_chunk_of g r) all_chunks))
       (none_noted : (r : ℕ) → r ≢ t → is_near_calm g c r ≡ true → (k r).since ≡ [])
       (own : (k t).listed ≡ true → (k t).chunks ≡ filter (is_chunk_of g t) all_chunks)
-      (u : UnitedInto t drawn k h) (order : IsInOrder (h t)) (answer : AddAnswer) where
+      (u : UnitedInto t drawn k h) (order : IsInOrder (h t)) where
     abbrev base : ℕ → Bag
     base = joined_bags (into t drawn) k
 
@@ -230,12 +230,12 @@ module _ (g : GridState) (c : ChunkPos) (rules : Rules g) (ok : IsGrid g.grid) (
       | inr d ↦ widens_other d p
     ]
 
-    grown_settles : IsKnown base home → CanSettle (is_loaded g c) answer ext c home base h
+    grown_settles : IsKnown base home → CanSettle (is_loaded g c) Changed ext c home base h
     grown_settles known = record {
       known = λ p. let a = alike home in let x = known p in rw (a.here, a.taken) x;
       others = λ r e. elim e [ inl l ↦ absurd (true≢false (sym l ∙ fresh)) | inr away ↦ gathered_others r away ];
       own = alike home;
-      near = λ e a p. gains p;
+      near = λ e. gains;
     }
 
   -- ---- all of it, where f is before the change
@@ -256,20 +256,20 @@ module _ (g : GridState) (c : ChunkPos) (rules : Rules g) (ok : IsGrid g.grid) (
         })
 
     full : is_full g c ≡ true → Goal g nothing (Full (present_count g) (wanted g c))
-    full e = still g (Full (present_count g) (wanted g c)) (λ x p. absurd (true≢false (sym x)))
+    full e = still g (Full (present_count g) (wanted g c)) (λ p w. is (g.owner (section_of g.grid c)) w (rules.owner_lives (section_of g.grid c) p))
 
     alone : Goal (counted g c) nothing Counted
-    alone = still (counted g c) Counted (λ x p. widens_alone g c f limits is (rules.owner_lives (section_of g.grid c) p))
+    alone = still (counted g c) Counted (λ p. widens_alone g c f limits is (rules.owner_lives (section_of g.grid c) p))
 
     grown_old : nat_eq (wanted g c) 0 ≡ false → is_near_calm g c t ≡ true → Goal ext (record { created = []; dead = drawn; merges = into t drawn; parts = [] }) Changed
     grown_old grows m known h j =
         let u = united_into t drawn f h (home_calm t m) (none_noted t m) (parts.t_not_drawn g c rules ok limits) (parts.drawn_apart g c rules ok limits) j in
         grown_settles grows f h (λ r d. is r) (λ r d. none_noted r)
         (λ w. exact (f t).since (f t).chunks (is_chunk_of g t) (is t w (near_lives g c rules ok limits t (and_parts (is_near g c t) (not (is_ticking (g.state t))) m).0)) (none_noted t m))
-        u (joins_order (into t drawn) f h order j t (u.here ∙ here t m)) Changed known
+        u (joins_order (into t drawn) f h order j t (u.here ∙ here t m)) known
 
     grown_new : nat_eq (wanted g c) 0 ≡ false → t ≡ g.next → Goal ext (record { created = g.next ∷ []; dead = drawn; merges = into t drawn; parts = [] }) Changed
-    grown_new grows e known h j = grown_settles grows k h old old_none (λ w. own) u (joins_order (into t drawn) k h (opened_order 0 0 (g.next ∷ []) f order) j t (u.here ∙ ap (λ (b : Bag). b.here) at)) Changed known
+    grown_new grows e known h j = grown_settles grows k h old old_none (λ w. own) u (joins_order (into t drawn) k h (opened_order 0 0 (g.next ∷ []) f order) j t (u.here ∙ ap (λ (b : Bag). b.here) at)) known
       where
         k : ℕ → Bag
         k = at_id f g.next (new_bag 0 0)

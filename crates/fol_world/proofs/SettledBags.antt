@@ -164,6 +164,21 @@ id_none n e = elim (cases_Bool (nat_lt 0 n)) [
 pub none_all : (g : GridState) (n : ℕ) (f : ℕ → Bag) → some_id n ≡ None → Settle g (unsettled_at n f) f
 none_all g n f e r = let l = id_none n e in rw l (gathered_self g r (f r))
 
+-- a bag that is listed for the chunks of its region, if for any, may stay
+pub stays_all : (g : GridState) (n : ℕ) (f : ℕ → Bag) → (0 < n → (f n).listed ≡ true → KeepsUp (f n) (filter (is_chunk_of g n) all_chunks)) → Settle g (unsettled_at n f) f
+stays_all g n f is r = elim (cases_Bool (nat_lt 0 n)) [
+  | inr l ↦ rw l (gathered_self g r (f r))
+  | inl l ↦ elim (cases_eq n r) [
+    | inl e ↦ let P : ℕ → Type 0 = λ m. Gathered g m (unsettled_at n f m) (f m) in subst P e (mine l)
+    | inr d ↦ let b : nat_eq n r ≡ false = ne_eqb n r d in rw (l, b) (gathered_self g r (f r))
+  ]
+]
+  where
+    mine : nat_lt 0 n ≡ true → Gathered g n (unsettled_at n f n) (f n)
+    mine l =
+        let b : nat_eq n n ≡ true = eq-eqb n n refl in
+        rw (l, b) (record { here = refl; taken = refl; counter = refl; owes = refl; listed = λ w. inr (is (ltb-true 0 n l) w); since = λ x. refl; out = λ x. refl })
+
 module _ (g : GridState) (n id : ℕ) (c : ChunkPos) (f : ℕ → Bag) (e : some_id n ≡ Some id) where
   pub known_some : IsKnown f n → ((f id).here || (f id).taken) ≡ true
   known_some h = let x = id_of n id e in let P : ℕ → Type 0 = λ m. ((f m).here || (f m).taken) ≡ true in subst P x.0 (h x.1)

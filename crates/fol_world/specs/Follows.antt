@@ -31,7 +31,7 @@ use Rattle.fol_store.specs.Bag.{Bag}
 use Rattle.fol_bags.specs.Clear.{HasNoTask}
 use Rattle.fol_store.specs.Stock.{Stock, bag_of, flat_of, jobs_of, next_of}
 use Rattle.fol_world.specs.declared.tables.Tables.{Tables}
-use Rattle.fol_world.specs.Bags.{Alike, AreInOrder, CanJoin, Follow, Joins, joined_bags, opened_bags, unsettled_at}
+use Rattle.fol_world.specs.Bags.{Alike, AreInOrder, CanJoin, Follow, Joins, KeepsUp, joined_bags, opened_bags, unsettled_at}
 use Rattle.fol_world.specs.Begun.{Gathered}
 use Rattle.fol_world.specs.Agenda.{Covers, HaveBags, TopOwes}
 use Rattle.fol_world.specs.Same.{SameThings}
@@ -62,9 +62,14 @@ is_added Counted = true
 is_added Changed = true
 is_added (Full present wanted) = false
 
--- where the hold was added, the region r that has the chunk c then has a bag that is listed for the others, if for any
+-- the bag of region r is listed for its chunks, if for any, or, where the chunk c came to them, for the others
+abbrev pub WidensWhere : Bool → GridState → ChunkPos → ℕ → Bag → Type 0
+WidensWhere true g c r b = Widens g c r b
+WidensWhere false g c r b = b.listed ≡ true → KeepsUp b (filter (is_chunk_of g r) all_chunks)
+
+-- the region r, if it is one, has the chunk c more where the hold was added, and its bag can follow
 abbrev pub CanGain : AddAnswer → GridState → ChunkPos → ℕ → Bag → Type 0
-CanGain a g c r b = is_added a ≡ true → 0 < r → Widens g c r b
+CanGain a g c r b = 0 < r → WidensWhere (is_added a) g c r b
 
 -- the region r of a chunk c that is held once has a bag that is listed for its chunks, if for any
 abbrev pub CanLose : GridState → ChunkPos → ℕ → (ℕ → Bag) → Type 0

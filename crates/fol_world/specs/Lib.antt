@@ -7,6 +7,7 @@ pub mod Same
 pub mod Begun
 pub mod CatchingUp
 pub mod Released
+pub mod Parts
 pub mod Posts
 pub mod Underway
 pub mod Returned

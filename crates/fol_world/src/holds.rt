@@ -179,7 +179,7 @@ fn gain_chunk(regions: &Regions, store: &mut Store, s: SectionPos, c: ChunkPos, 
         AddAnswer::Full {
             present: _,
             wanted: _,
-        } => unsettle_owner(regions, store, s),
+        } => {}
     }
 }
 
@@ -199,21 +199,6 @@ fn gain_owner(regions: &Regions, store: &mut Store, s: SectionPos, c: ChunkPos)
     match regions.owner(s) {
         Some(id) => store.gain(id, c),
         None => {}
-    }
-}
-
-/// The region of the section, if there is one, has other chunks.
-fn unsettle_owner(regions: &Regions, store: &mut Store, s: SectionPos)
-    requires { IsKnown (bag_of store.old) ((grid_state regions.now).owner s) }
-    ensures bags { bag_of store.new ≡ unsettled_at ((grid_state regions.now).owner s)
-        (bag_of store.old) }
-    ensures things { SameThings store.old store.new }
-    ensures next { next_of store.new ≡ next_of store.old }
-    ensures spare { store.new.spare ≡ store.old.spare }
-    ensures slots { store.new.slots ≡ store.old.slots }
-{
-    if let Some(id) = regions.owner(s) {
-        store.unsettle(id);
     }
 }
 

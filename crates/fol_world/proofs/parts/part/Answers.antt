@@ -20,8 +20,8 @@ share_out-requires-clause-fresh c =
     subst (AreFresh c.args.region c.args.parts.now) (sym e)
     (are_fresh (next_of c.args.store.now) c.args.parts.now c.args.region f c.requires.here c.requires.follow (here_below c.args.store.now c.args.region c.requires.here))
 
-pub returns-in-Some-clause-bags : goal.returns-in-Some-clause-bags
-returns-in-Some-clause-bags c =
+pub returns-clause-bags : goal.returns-clause-bags
+returns-clause-bags c =
     let f = bag_of c.args.store.now in
     let g = grid_state c.args.regions.now in
     let e = opened f (bag_of c.open_parts.new.store) c.args.region c.args.parts.now c.tick-tick.result c.owed-owed.result c.open_parts.ensures.bags c.tick-tick.ensures.value c.owed-owed.ensures in
