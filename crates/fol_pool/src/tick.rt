@@ -8,6 +8,7 @@ use crate::patience::Patience;
 use fol_core::Tick;
 use fol_io::Gate;
 use fol_live::{Live, LiveBegin, LiveHost, Next, Renewal, Seat};
+use fol_model::Wish;
 use fol_tick::run_tick;
 use std::alloc::{AllocError, Global};
 use std::sync::Wait;
@@ -95,7 +96,8 @@ fn pass_over<R: Wait, G: Gate + Sync>(
 }
 
 /// Runs and ends a tick that was begun, and then each one that is begun in the turn of an End, until there is no next one. It gives no
-/// reason where the gate does not watch and nothing happened in the last tick: the next ones may be like it, and are passed over then.
+/// reason where the gate does not watch and nothing seems to happen in the tick that would be next: it and those behind it are passed
+/// over then.
 fn run_on<R: Wait, G: Gate + Sync>(
     rt: &R,
     alloc: Global,
@@ -113,7 +115,7 @@ fn run_on<R: Wait, G: Gate + Sync>(
     let mut seat = seat;
     let mut tick = tick;
     for _turn in rt.forever() {
-        let is_quiet = !gate.watches() && is_quiet(&tick);
+        let is_quiet = is_quiet(&tick);
         gate.passed(tick.worker, tick.region);
         let (back, ran) = run(rt, alloc, live, seat, &mut tick);
         seat = back;
@@ -125,7 +127,7 @@ fn run_on<R: Wait, G: Gate + Sync>(
             let rest = end(rt, alloc, live, &mut seat, tick, Some(Rest::Left));
             return (seat, rest);
         }
-        if is_quiet {
+        if !gate.watches() && is_next_quiet(&tick, is_quiet) {
             let rest = end(rt, alloc, live, &mut seat, tick, None);
             return (seat, rest);
         }
@@ -139,6 +141,24 @@ fn run_on<R: Wait, G: Gate + Sync>(
 /// Whether nothing happens in a tick of which nothing has run: no task is due, and no entity has a speed.
 fn is_quiet(tick: &Tick) -> bool {
     tick.due.is_empty() && tick.body.chunks.is_still()
+}
+
+/// Whether nothing seems to happen in the tick behind one that has run. It is of the same region where that owes one: then no task may be
+/// due in it, of those that wait and those that this tick asked for, and no entity may have a speed. Of the ticks of other regions
+/// nothing is known here, and the next one is taken to be like this one.
+fn is_next_quiet(tick: &Tick, is_quiet: bool) -> bool {
+    if tick.body.owed == 0 {
+        return is_quiet;
+    }
+    let next = tick.body.tick.saturating_add(2);
+    tick.body.chunks.is_still()
+        && tick.body.queues.count_due(next) == 0
+        && !asks_for_next(tick.log.wishes.as_slice())
+}
+
+/// Whether one of the wishes is to run in the tick behind the one that made it.
+fn asks_for_next(wishes: &[Wish]) -> bool {
+    wishes.iter().any(|wish| wish.delay <= 1)
 }
 
 /// Ends a tick that has run, and begins the next one in its place. Where there is none, it tells why, and the world was stopped if memory
