@@ -115,7 +115,7 @@ fn run_on<R: Wait, G: Gate + Sync>(
     let mut seat = seat;
     let mut tick = tick;
     for _turn in rt.forever() {
-        let is_quiet = is_quiet(&tick);
+        let was_quiet = is_quiet(&tick);
         gate.passed(tick.worker, tick.region);
         let (back, ran) = run(rt, alloc, live, seat, &mut tick);
         seat = back;
@@ -127,7 +127,8 @@ fn run_on<R: Wait, G: Gate + Sync>(
             let rest = end(rt, alloc, live, &mut seat, tick, Some(Rest::Left));
             return (seat, rest);
         }
-        if !gate.watches() && is_next_quiet(&tick, is_quiet) {
+        let is_quiet = !gate.watches() && is_next_quiet(&tick, was_quiet);
+        if is_quiet {
             let rest = end(rt, alloc, live, &mut seat, tick, None);
             return (seat, rest);
         }
@@ -146,9 +147,9 @@ fn is_quiet(tick: &Tick) -> bool {
 /// Whether nothing seems to happen in the tick behind one that has run. It is of the same region where that owes one: then no task may be
 /// due in it, of those that wait and those that this tick asked for, and no entity may have a speed. Of the ticks of other regions
 /// nothing is known here, and the next one is taken to be like this one.
-fn is_next_quiet(tick: &Tick, is_quiet: bool) -> bool {
+fn is_next_quiet(tick: &Tick, was_quiet: bool) -> bool {
     if tick.body.owed == 0 {
-        return is_quiet;
+        return was_quiet;
     }
     let next = tick.body.tick.saturating_add(2);
     tick.body.chunks.is_still()
