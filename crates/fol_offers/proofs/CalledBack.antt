@@ -1,12 +1,14 @@
 -- Several regions are called back, one after another.
-use Rattle.std.proofs.Common.{◌≡◌, ◌≢◌, ℕ, ◌<◌, List, [], ◌∷◌, ◌++◌, sym, refl, ap, ◌∙◌, Bool, true, false, not, ◌&&◌, ◌||◌, nat_eq, true≢false, inl, inr, arith, append_assoc, cond, ◌+◌}
+use Rattle.std.proofs.Common.{◌≡◌, ◌≢◌, ℕ, ◌<◌, List, [], ◌∷◌, ◌++◌, sym, refl, ap, ◌∙◌, Bool, true, false, not, ◌&&◌, ◌||◌, nat_eq, true≢false, inl, inr, arith, append_assoc, cond, ◌+◌, take}
+use Rattle.std.specs.Prelude.{IsOk, Result}
+use Rattle.std.proofs.Math.Seq.{take-length}
 use Rattle.std.specs.List.{AllByRecursion, filter, list_any}
 use Rattle.std.proofs.Math.Path.{fun_ext}
-use Rattle.std.proofs.lemmas.Bool.{and_parts, cases_Bool, eq-eqb, eqb-true, false_from_ne_true, ne_eqb, or_left, or_right}
-use Rattle.std.proofs.lemmas.Bool.Decides.{eqb_tells}
+use Rattle.std.proofs.lemmas.Bool.{cases_Bool, eq-eqb, eqb-true, ne_eqb, or_left, or_right}
 use Rattle.std.proofs.lemmas.List.{append-nil}
 use Rattle.std.proofs.lemmas.Map.Views.{any-filter_same}
 use Rattle.fol_model.specs.declared.places.ChunkPos.{ChunkPos}
+use Rattle.fol_model.specs.declared.tasks.Wish.{Wish}
 use Rattle.fol_model.specs.declared.events.Entry.{Entry}
 use Rattle.fol_model.specs.declared.events.Event.TheVariants.{Begin}
 use Rattle.fol_model.specs.QueuedTask.{begun}
@@ -14,20 +16,23 @@ use Rattle.fol_model.specs.Begin.{begin}
 use Rattle.fol_model.specs.Add.{is_full, is_near, wanted}
 use Rattle.fol_model.specs.Counting.{count_below}
 use Rattle.fol_model.specs.ActionStep.{at_id}
+use Rattle.fol_model.specs.OpenTick.{NoEnd}
 use Rattle.fol_model.specs.Universe.{numbers_below}
 use Rattle.fol_model.specs.World.{World, start}
 use Rattle.fol_model.specs.Run.{after, after_all, world}
 use Rattle.fol_laws.proofs.CountBelow.{count_less}
-use Rattle.fol_laws.proofs.FunctionsChanged.{at_here, at_other}
 use Rattle.fol_laws.proofs.LongerRuns.{world_both}
 use Rattle.fol_laws.proofs.NumberOrder.{in_numbers}
 use Rattle.fol_laws.proofs.SortedRows.{all_append}
 use Rattle.fol_laws.proofs.Tests.{same_answer}
-use Rattle.fol_core.specs.Ahead.{Learns, NonePrepared, PreparedAreReady, Withdraws, may_touch}
+use Rattle.fol_data.specs.declared.tick.Tick.{Tick}
+use Rattle.fol_core.specs.Ahead.{Learns, NonePrepared, PreparedAreReady, Spares, Withdraws, may_touch}
 use Rattle.fol_core.specs.Answers.{is_over}
 use Rattle.fol_core.specs.Meaning.{Meaning, is_prepared, world_of}
+use Rattle.fol_tick_laws.specs.OpenTicks.{IsOpen}
 use Rattle.fol_tick_laws.specs.Touching.{lists}
 use Rattle.fol_offers.proofs.Tying.{over_begun}
+use Rattle.fol_offers.specs.Ends.{ClearsWishes, wishes_may_touch}
 use Rattle.fol_offers.specs.Shown.{CallsBack, IsLearnt, Shown, every}
 
 -- ---- Begins that were learnt
@@ -55,6 +60,11 @@ module _ (m : Meaning) (f : ℕ → Bool) (by : ℕ) where
   learnt_may w (e ∷ es) c r all spared =
       let other : nat_eq all.0.region r ≡ false = ne_eqb _ _ (λ same. true≢false (sym all.0.chosen ∙ ap f same ∙ spared)) in
       learnt_may (after w e.event) es c r all.1 spared ∙ (ap (λ (x : Entry). may_touch (after w x.event) c r) all.0.is ∙ may_begun w all.0.worker all.0.region c r other)
+
+  learnt_no_end : (q : ℕ) (before es : List Entry) → NoEnd q before → AllByRecursion (IsLearnt m f by) es → NoEnd q (before ++ es)
+  learnt_no_end q [] [] none all = tt
+  learnt_no_end q [] (e ∷ es) none all = let is = all.0.is in (rw is refl, learnt_no_end q [] es tt all.1)
+  learnt_no_end q (x ∷ xs) es none all = (none.0, learnt_no_end q xs es none.1 all)
 
   learnt_as : (n : Meaning) (g : ℕ → Bool) → ((r : ℕ) → is_prepared m r ≡ true → f r ≡ true → (is_prepared n r ≡ true) × (g r ≡ true)) → (es : List Entry) → AllByRecursion (IsLearnt m f by) es
       → AllByRecursion (IsLearnt n g by) es
@@ -118,6 +128,33 @@ module _ (a b : Shown) (by : ℕ) (f : ℕ → Bool) (back : CallsBack a b by f)
   pub back_may : (c : ChunkPos) (r : ℕ) → is_prepared b.core r ≡ true → may_touch (world_of b.core) c r ≡ may_touch (world_of a.core) c r
   back_may c r marked = ap (λ (w : World). may_touch w c r) there ∙ learnt_may a.core f by (world_of a.core) back.learnt c r back.begins (back_spared r marked).1
 
+  -- so with them it is the same
+  pub back_or_may : (c : ChunkPos) (r : ℕ) → is_prepared a.core r ≡ true → (f r || may_touch (world_of b.core) c r) ≡ (f r || may_touch (world_of a.core) c r)
+  back_or_may c r marked = elim (cases_Bool (f r)) [
+    | inl y ↦ rw y refl
+    | inr n ↦ rw n (back_may c r (back.prepared r ∙ (let p = marked in rw (p, n) refl)))
+  ]
+
+  pub back_wishes : (xs : List Wish) (r : ℕ) → is_prepared b.core r ≡ true → wishes_may_touch (world_of b.core) xs r ≡ wishes_may_touch (world_of a.core) xs r
+  back_wishes [] r marked = refl
+  back_wishes (x ∷ xs) r marked = λ k. back_may x.chunk r marked k || back_wishes xs r marked k
+
+  -- an open tick is so still
+  pub back_open : (t : Tick) → IsOpen a.core t → IsOpen b.core t
+  back_open t is = record {
+    made = record {
+      before = is.made.before;
+      between = is.made.between;
+      since = is.made.since ++ back.learnt;
+      by = is.made.by;
+      begin = back.history ∙ (ap (λ (h : List Entry). h ++ back.learnt) is.made.begin ∙ append_assoc (is.made.before ++ is.made.between) ((record { by = is.made.by; event = Begin t.worker t.region }) ∷ is.made.since) back.learnt);
+      allowed = rw back.opening is.made.allowed;
+      calm = rw back.opening is.made.calm;
+      runs_on = learnt_no_end a.core f by t.region is.made.since back.learnt is.made.runs_on back.begins;
+    };
+    is = rw back.opening is.is;
+  }
+
   -- by another test of those that were prepared
   pub back_as : (g : ℕ → Bool) → ((r : ℕ) → is_prepared a.core r ≡ true → f r ≡ g r) → CallsBack a b by g
   back_as g same = record {
@@ -161,6 +198,24 @@ back_both a b c by f g p q = record {
       (learnt_as b.core g by a.core (λ r. f r || g r) (λ r marked called. ((back_spared a b by f p r marked).0, or_right (f r) (g r) called)) q.learnt q.begins);
   prepared = λ r. q.prepared r ∙ (ap (λ (x : Bool). x && not (g r)) (p.prepared r) ∙ both_of (is_prepared a.core r) (f r) (g r));
 }
+
+-- ---- what wishes may touch was called back
+
+module _ {A E : Type 0} (a b : Shown) (by : ℕ) (xs : List Wish) (r : Result A E) (did : ClearsWishes a b by xs r) where
+  abbrev touched : ℕ → Bool
+  touched = wishes_may_touch (world_of a.core) (take did.done xs)
+
+  -- none of it is prepared, if all of it was
+  pub cleared_spared : IsOk r → Spares b.core (wishes_may_touch (world_of b.core) xs)
+  cleared_spared ok q marked =
+      let whole : take did.done xs ≡ xs = ap (λ (n : ℕ). take n xs) (did.all ok) ∙ take-length xs in
+      back_wishes a b by touched did.clears xs q marked ∙ (ap (λ (ys : List Wish). wishes_may_touch (world_of a.core) ys q) (sym whole) ∙ (back_spared a b by touched did.clears q marked).1)
+
+  pub cleared_unmarked : (q : ℕ) → is_prepared a.core q ≡ false → is_prepared b.core q ≡ false
+  cleared_unmarked = back_unmarked a b by touched did.clears
+
+  pub cleared_open : (t : Tick) → IsOpen a.core t → IsOpen b.core t
+  cleared_open = back_open a b by touched did.clears
 
 -- ---- one region
 

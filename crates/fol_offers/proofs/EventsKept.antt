@@ -73,31 +73,31 @@ module _ (m n : Meaning) (s : Keeper Offer) (xs : List ℕ) (by : ℕ) (t : Tied
   same did = tied_stays m n s xs record { opening = did.opening; history = did.history; prepared = did.prepared } t
 
   pub tied_loads : (c : ChunkPos) (r : Result Loaded AllocError) → Spares m (load_touches (world_of m).grid c) → IfOk r (λ a. LoadRecords m n by c a) → OnErr r (Stays m n) → Tied n s xs
-  tied_loads c (Ok loads.Counted) spares did none = tied_event m n s xs by (Load by c loads.Counted) t did (λ q z. (spares q z, refl)) (λ q. refl) (λ over. t.calm (sym (ap is_over (one_more m n _ did.opening did.history) ∙ over_loaded (world_of m) c) ∙ over))
-  tied_loads c (Ok (loads.Full present wanted)) spares did none = tied_event m n s xs by (Load by c (loads.Full present wanted)) t did (λ q z. (spares q z, refl)) (λ q. refl) (λ over. t.calm (sym (ap is_over (one_more m n _ did.opening did.history) ∙ over_loaded (world_of m) c) ∙ over))
+  tied_loads c (Ok loads.Counted) spares did none = tied_event m n s xs by (Load by c loads.Counted) t did (λ q z. (spares q z, refl)) (λ q. (refl, refl)) (λ over. t.calm (sym (ap is_over (one_more m n _ did.opening did.history) ∙ over_loaded (world_of m) c) ∙ over))
+  tied_loads c (Ok (loads.Full present wanted)) spares did none = tied_event m n s xs by (Load by c (loads.Full present wanted)) t did (λ q z. (spares q z, refl)) (λ q. (refl, refl)) (λ over. t.calm (sym (ap is_over (one_more m n _ did.opening did.history) ∙ over_loaded (world_of m) c) ∙ over))
   tied_loads c (Ok loads.Over) spares did none = same did
   tied_loads c (Err e) spares did none = tied_stays m n s xs none t
 
   pub tied_unloads : (c : ChunkPos) (r : Result Unloaded AllocError) → Spares m (unload_touches (world_of m) c) → IfOk r (λ a. UnloadRecords m n by c a) → OnErr r (Stays m n) → Tied n s xs
-  tied_unloads c (Ok unloads.Lowered) spares did none = tied_event m n s xs by (Unload by c unloads.Lowered) t did (λ q z. (spares q z, refl)) (λ q. refl) (λ over. t.calm (sym (ap is_over (one_more m n _ did.opening did.history) ∙ over_unloaded (world_of m) c) ∙ over))
-  tied_unloads c (Ok unloads.NoTicket) spares did none = tied_event m n s xs by (Unload by c unloads.NoTicket) t did (λ q z. (spares q z, refl)) (λ q. refl) (λ over. t.calm (sym (ap is_over (one_more m n _ did.opening did.history) ∙ over_unloaded (world_of m) c) ∙ over))
+  tied_unloads c (Ok unloads.Lowered) spares did none = tied_event m n s xs by (Unload by c unloads.Lowered) t did (λ q z. (spares q z, refl)) (λ q. (refl, refl)) (λ over. t.calm (sym (ap is_over (one_more m n _ did.opening did.history) ∙ over_unloaded (world_of m) c) ∙ over))
+  tied_unloads c (Ok unloads.NoTicket) spares did none = tied_event m n s xs by (Unload by c unloads.NoTicket) t did (λ q z. (spares q z, refl)) (λ q. (refl, refl)) (λ over. t.calm (sym (ap is_over (one_more m n _ did.opening did.history) ∙ over_unloaded (world_of m) c) ∙ over))
   tied_unloads c (Ok unloads.Over) spares did none = same did
   tied_unloads c (Err e) spares did none = tied_stays m n s xs none t
 
   pub tied_posts : (c : ChunkPos) (d : ℕ) (x : Action) (r : Result Posting Action) → Spares m (post_touches (world_of m).grid c) → IfOk r (λ a. PostRecords m n by c d x a) → OnErr r (Stays m n) → Tied n s xs
-  tied_posts c d x (Ok (postings.Posted k)) spares did none = tied_event m n s xs by (Post by c d x (accepts.Posted k)) t did (λ q z. (spares q z, refl)) (λ q. refl) (λ over. t.calm (sym (ap is_over (one_more m n _ did.opening did.history) ∙ over_posted (world_of m) c d x) ∙ over))
-  tied_posts c d x (Ok (postings.Full present wanted)) spares did none = tied_event m n s xs by (Post by c d x (accepts.Full present wanted)) t did (λ q z. (spares q z, refl)) (λ q. refl) (λ over. t.calm (sym (ap is_over (one_more m n _ did.opening did.history) ∙ over_posted (world_of m) c d x) ∙ over))
+  tied_posts c d x (Ok (postings.Posted k)) spares did none = tied_event m n s xs by (Post by c d x (accepts.Posted k)) t did (λ q z. (spares q z, refl)) (λ q. (refl, refl)) (λ over. t.calm (sym (ap is_over (one_more m n _ did.opening did.history) ∙ over_posted (world_of m) c d x) ∙ over))
+  tied_posts c d x (Ok (postings.Full present wanted)) spares did none = tied_event m n s xs by (Post by c d x (accepts.Full present wanted)) t did (λ q z. (spares q z, refl)) (λ q. (refl, refl)) (λ over. t.calm (sym (ap is_over (one_more m n _ did.opening did.history) ∙ over_posted (world_of m) c d x) ∙ over))
   tied_posts c d x (Ok (postings.Over back)) spares did none = same did
   tied_posts c d x (Err back) spares did none = tied_stays m n s xs none t
 
   pub tied_phases : (k : ℕ) (r : Result Phase AllocError) → IfOk r (λ a. PhaseRecords m n by k a) → OnErr r (Stays m n) → Tied n s xs
-  tied_phases k (Ok phases.Opened) did none = tied_event m n s xs by (PhaseOpen k) t did (λ q z. (refl, refl)) (λ q. refl) (λ over. t.calm (sym (ap is_over (one_more m n _ did.opening did.history)) ∙ over))
+  tied_phases k (Ok phases.Opened) did none = tied_event m n s xs by (PhaseOpen k) t did (λ q z. (refl, refl)) (λ q. (refl, refl)) (λ over. t.calm (sym (ap is_over (one_more m n _ did.opening did.history)) ∙ over))
   tied_phases k (Ok phases.InPhase) did none = same did
   tied_phases k (Ok phases.Over) did none = same did
   tied_phases k (Err e) did none = tied_stays m n s xs none t
 
   pub tied_closes : (r : Result Close AllocError) → IfOk r (λ a. CloseRecords m n by a) → OnErr r (Stays m n) → Tied n s xs
-  tied_closes (Ok closes.Closed) did none = tied_event m n s xs by PhaseClose t did (λ q z. (refl, refl)) (λ q. refl) (λ over. t.calm (sym (ap is_over (one_more m n _ did.opening did.history)) ∙ over))
+  tied_closes (Ok closes.Closed) did none = tied_event m n s xs by PhaseClose t did (λ q z. (refl, refl)) (λ q. (refl, refl)) (λ over. t.calm (sym (ap is_over (one_more m n _ did.opening did.history)) ∙ over))
   tied_closes (Ok (closes.NotYet q)) did none = same did
   tied_closes (Ok closes.NoPhase) did none = same did
   tied_closes (Ok closes.Over) did none = same did
@@ -105,7 +105,7 @@ module _ (m n : Meaning) (s : Keeper Offer) (xs : List ℕ) (by : ℕ) (t : Tied
 
   -- no region owes a tick where a history is finished
   pub tied_finishes : (r : Result finish.Finish AllocError) → Run m.opening m.history → IfOk r (λ a. a ≡ finish_result (world_of m)) → IfOk r (λ a. FinishRecords m n by a) → OnErr r (Stays m n) → Tied n s xs
-  tied_finishes (Ok finishes.Finished) run told did none = tied_event m n s xs by Finish t did (λ q z. (refl, refl)) (λ q. refl)
+  tied_finishes (Ok finishes.Finished) run told did none = tied_event m n s xs by Finish t did (λ q z. (refl, refl)) (λ q. (refl, refl))
       (λ over. none_outside m s xs t run (no_phase (is_over (world_of m)) (world_of m).in_phase told))
     where
       no_phase : (o p : Bool) → finishes.Finished ≡ (if o then finishes.Over else (if p then finishes.InPhase else finishes.Finished)) → p ≡ false
@@ -118,4 +118,4 @@ module _ (m n : Meaning) (s : Keeper Offer) (xs : List ℕ) (by : ℕ) (t : Tied
 
   pub tied_stops : (b : Bool) → NonePrepared m → StopRecords m n by b → Tied n s xs
   tied_stops true none did = same did
-  tied_stops false none did = tied_event m n s xs by (Stop by) t did (λ q z. absurd (true≢false (sym z ∙ none q))) (λ q. refl) (λ over. none)
+  tied_stops false none did = tied_event m n s xs by (Stop by) t did (λ q z. absurd (true≢false (sym z ∙ none q))) (λ q. (refl, refl)) (λ over. none)

@@ -1,5 +1,5 @@
 -- What is offered may be run.
-use Rattle.std.proofs.Common.{ℕ, List, [], length}
+use Rattle.std.proofs.Common.{ℕ, [], length}
 use Rattle.std.proofs.lemmas.List.{append-nil}
 use Rattle.fol_model.specs.declared.events.Event.TheVariants.{Begin}
 use Rattle.fol_model.specs.QueuedTask.{begun}

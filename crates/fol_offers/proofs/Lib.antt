@@ -4,5 +4,7 @@ pub mod Facts
 pub mod FitTicks
 pub mod FreeSlots
 pub mod Matching
+pub mod MetTicks
 pub mod Passing
 pub mod Tying
+pub mod Wishes

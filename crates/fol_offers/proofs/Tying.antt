@@ -1,7 +1,7 @@
 -- How core and slots stay tied.
 use Rattle.std.proofs.Common.{◌≡◌, ◌≢◌, ℕ, ◌<◌, ◌≤◌, List, [], ◌∷◌, ◌++◌, length, set, get_or, replicate, sym, refl, ap, ◌∙◌, subst, Option, Some, None, Bool, true, false, arith, length-set, get_or-set_other, get_or-set_same, ◌⊎◌, inl, inr, zero, suc, true≢false}
 use Rattle.std.proofs.lemmas.List.{append-nil, length-replicate, set-get_or}
-use Rattle.std.proofs.lemmas.Bool.{ne_eqb}
+use Rattle.std.proofs.lemmas.Bool.{eqb-true, ne_eqb}
 use Rattle.std.proofs.lemmas.Bool.Decides.{eqb_tells}
 use mathlib.Core.Logic.{dite}
 use native.Mathlib.Decide.{ℕ_discrete}
@@ -11,12 +11,14 @@ use Rattle.fol_data.specs.declared.tick.Tick.{Tick}
 use Rattle.fol_model.specs.declared.events.Entry.{Entry}
 use Rattle.fol_model.specs.declared.events.Event.{Event}
 use Rattle.fol_model.specs.declared.events.Event.TheVariants.{Begin}
-use Rattle.fol_model.specs.OpenTick.{is_end}
+use Rattle.fol_model.specs.declared.regions.State.TheVariants.{Ticking}
+use Rattle.fol_model.specs.OpenTick.{is_begin, is_end}
 use Rattle.fol_laws.specs.LateBegin.{is_stop, touches}
 use Rattle.fol_model.specs.QueuedTask.{begun}
 use Rattle.fol_model.specs.World.{World, start}
 use Rattle.fol_model.specs.Run.{Allowed, after, world}
 use Rattle.fol_laws.proofs.LongerRuns.{world_more}
+use Rattle.fol_laws.proofs.TickedBefore.{ticked_before}
 use Rattle.fol_core.specs.Answers.{is_over}
 use Rattle.fol_laws.proofs.FunctionsChanged.{at_here, at_other}
 use Rattle.fol_core.specs.Ahead.{Learns, Prepares, NonePrepared, Withdraws}
@@ -31,6 +33,7 @@ use Rattle.fol_slots.specs.Hands as hands
 use Rattle.fol_slots.proofs.Callers.{as_many, place_here, place_else, new_as_many, body_new}
 use Rattle.fol_offers.specs.declared.offer.Offer.{Offer}
 use Rattle.fol_offers.specs.Places.{region_at}
+use Rattle.fol_offers.specs.Starts.{NoneTicks}
 use Rattle.fol_offers.specs.Tied.{InUse, Runs, Tied, Waits, nothing, of_tick}
 use Rattle.fol_offers.proofs.Facts.{no_worker}
 use Rattle.fol_offers.proofs.FreeSlots.{none_at}
@@ -57,11 +60,19 @@ same_over m n opening history = ap is_over (same_world m n opening history)
 stays_over : (m n : Meaning) → Stays m n → is_over (world_of n) ≡ is_over (world_of m)
 stays_over m n same = same_over m n same.opening same.history
 
+ticked_same : (m n : Meaning) (r : ℕ) → n.opening ≡ m.opening → n.history ≡ m.history → (world_of n).grid.state r ≡ Ticking → (world_of m).grid.state r ≡ Ticking
+ticked_same m n r opening history e = ap (λ (w : World). w.grid.state r) (sym (same_world m n opening history)) ∙ e
+
 -- the world after one entry more
 pub one_more : (m n : Meaning) (e : Entry) → n.opening ≡ m.opening → n.history ≡ m.history ++ e ∷ [] → world_of n ≡ after (world_of m) e.event
 one_more m n e opening history = (λ k. world (opening k) (history k)) ∙ world_more (start m.opening) m.history e
 
--- nor with a Begin
+-- what ticks then ticked before, and the entry is no End of it, or it is its Begin
+pub ticked_more : (m n : Meaning) (e : Entry) (r : ℕ) → n.opening ≡ m.opening → n.history ≡ m.history ++ e ∷ [] → (world_of n).grid.state r ≡ Ticking
+    → (((world_of m).grid.state r ≡ Ticking) × (is_end r e.event ≡ false)) ⊎ (is_begin r e.event ≡ true)
+ticked_more m n e r opening history ticks = ticked_before r (world_of m) e.event (ap (λ (w : World). w.grid.state r) (sym (one_more m n e opening history)) ∙ ticks)
+
+-- whether the history is over does not change with a Begin
 pub over_begun : (w : World) (k r : ℕ) → is_over (after w (Begin k r)) ≡ is_over w
 unfolding begun
 over_begun w k r = refl
@@ -70,9 +81,9 @@ begun_over : (m n : Meaning) (by k r : ℕ) → n.opening ≡ m.opening → n.hi
 begun_over m n by k r opening history = ap is_over (one_more m n (record { by = by; event = Begin k r }) opening history) ∙ over_begun (world_of m) k r
 
 -- nothing is offered yet
-pub tied_first : (m : Meaning) (s : Keeper Offer) (n : ℕ) → IsGrid m.opening.grid → NonePrepared m → s.slots.slots ≡ n → length s.places ≡ n → n < 65536
+pub tied_first : (m : Meaning) (s : Keeper Offer) (n : ℕ) → IsGrid m.opening.grid → NonePrepared m → NoneTicks (world_of m) → s.slots.slots ≡ n → length s.places ≡ n → n < 65536
     → ((i : ℕ) → i < n → (place_at s i).kept ≡ Some nothing) → Tied m s (replicate n 0)
-tied_first m s n grid none slots places few empty = let long : length {A = ℕ} (replicate n 0) ≡ n = length-replicate n 0 in record {
+tied_first m s n grid none idle slots places few empty = let long : length {A = ℕ} (replicate n 0) ≡ n = length-replicate n 0 in record {
   grid = grid;
   calm = λ _. none;
   places = places ∙ sym long;
@@ -82,12 +93,13 @@ tied_first m s n grid none slots places few empty = let long : length {A = ℕ} 
   used = λ i low p. absurd (let z = none_at n i in omega arith);
   apart = λ i j l k p e. absurd (let z = none_at n i in omega arith);
   prepared = λ r e. absurd (true≢false (sym e ∙ none r));
+  ticking = λ r e. absurd (idle r e);
 }
 
 -- in the slots of new seats, with bodies of which none has a tick
-pub tied_start : (m : Meaning) (z : TableId) (bodies : List Offer) (n : ℕ) → IsGrid m.opening.grid → NonePrepared m → z.slots ≡ n → length bodies ≡ n → n < 65536
+pub tied_start : (m : Meaning) (z : TableId) (bodies : List Offer) (n : ℕ) → IsGrid m.opening.grid → NonePrepared m → NoneTicks (world_of m) → z.slots ≡ n → length bodies ≡ n → n < 65536
     → All (λ b. b ≡ nothing) bodies → Tied m (new_keeper z bodies) (replicate n 0)
-tied_start m z bodies n grid none slots count few all = tied_first m (new_keeper z bodies) n grid none slots (new_as_many z bodies ∙ count) few
+tied_start m z bodies n grid none idle slots count few all = tied_first m (new_keeper z bodies) n grid none idle slots (new_as_many z bodies ∙ count) few
     (λ i low. let b : Offer = get_or bodies i nothing in
     let is : b ≡ nothing = all i nothing (rw count low) in
     ap (λ (p : Place Offer). p.kept) (body_new z bodies i nothing (get_at bodies i nothing (rw count low) is)))
@@ -109,7 +121,15 @@ tied_stays m n s xs same t = record {
   used = λ i low p. in_use_passes m n (region_at xs i) (place_at s i) (passes_same m n (region_at xs i) same.opening same.history (ap (λ (f : ℕ → Bool). f (region_at xs i)) same.prepared)) (t.used i low p);
   apart = t.apart;
   prepared = λ r e. t.prepared r (ap (λ (f : ℕ → Bool). f r) (sym same.prepared) ∙ e);
+  ticking = λ r e. t.ticking r (ticked_same m n r same.opening same.history e);
 }
+
+-- a region that ticks is not prepared
+ticking_unprepared : (m : Meaning) (s : Keeper Offer) (xs : List ℕ) (r : ℕ) → Tied m s xs → (world_of m).grid.state r ≡ Ticking → is_prepared m r ≡ false
+ticking_unprepared m s xs r t e =
+    let z = t.ticking r e in
+    let u = t.used z.0 z.3 (subst (λ (x : ℕ). 0 < x) (sym z.4) z.2) in
+    ap (is_prepared m) (sym z.4) ∙ (u.runs z.1 z.5).unprepared
 
 -- what the keeper knows of slot i is another thing, and the region of the slot may be
 module _ (m n : Meaning) (s : Keeper Offer) (xs : List ℕ) (t : Tied m s xs) (i q : ℕ) (p : Place Offer) (inside : i < length xs) where
@@ -130,8 +150,10 @@ module _ (m n : Meaning) (s : Keeper Offer) (xs : List ℕ) (t : Tied m s xs) (i
       → ((j : ℕ) → j < length xs → j ≢ i → 0 < region_at xs j → Passes m n (region_at xs j))
       → (0 < q → (j : ℕ) → j < length xs → j ≢ i → region_at xs j ≢ q)
       → ((r : ℕ) → is_prepared n r ≡ true → (r ≡ q) ⊎ ((is_prepared m r ≡ true) × (r ≢ region_at xs i)))
-      → (0 < q ⊎ ((r : ℕ) → is_prepared n r ≡ true → r ≢ q)) → Tied n (knowing s i p) (set xs i q)
-  tied_changes opening calm empty own others alone marked some = record {
+      → (0 < q ⊎ ((r : ℕ) → is_prepared n r ≡ true → r ≢ q))
+      → ((r : ℕ) → (world_of n).grid.state r ≡ Ticking → ((r ≡ q) × (0 < q) × (k : ℕ) × (p.found ≡ Some k)) ⊎ (((world_of m).grid.state r ≡ Ticking) × (r ≢ region_at xs i)))
+      → Tied n (knowing s i p) (set xs i q)
+  tied_changes opening calm empty own others alone marked some ticks = record {
     grid = rw opening t.grid;
     calm = calm;
     places = as_many s i p ∙ t.places ∙ sym long;
@@ -167,6 +189,12 @@ module _ (m n : Meaning) (s : Keeper Offer) (xs : List ℕ) (t : Tied m s xs) (i
       | inr was ↦ let z = t.prepared r was.0 in
           let ne : z.0 ≢ i = λ same. was.1 (sym z.3 ∙ ap (region_at xs) same) in
           (z.0, z.1, subst (λ (l : ℕ). z.0 < l) (sym long) z.2, else z.0 ne ∙ z.3)
+    ];
+    ticking = λ r e. elim (ticks r e) [
+      | inl is ↦ (i, is.2, subst (λ (x : ℕ). 0 < x) (sym is.0) is.1, subst (λ (l : ℕ). i < l) (sym long) inside, here ∙ sym is.0, ap (λ (x : Place Offer). x.found) place ∙ is.3)
+      | inr was ↦ let z = t.ticking r was.0 in
+          let ne : z.0 ≢ i = λ same. was.1 (sym z.4 ∙ ap (region_at xs) same) in
+          (z.0, z.1, z.2, subst (λ (l : ℕ). z.0 < l) (sym long) z.3, else z.0 ne ∙ z.4, ap (λ (x : Place Offer). x.found) (place_else s i z.0 p ne) ∙ z.5)
     ];
   }
 
@@ -228,11 +256,14 @@ module _ (m n : Meaning) (s : Keeper Offer) (xs : List ℕ) (t : Tied m s xs) (i
         | inr y ↦ let was : is_prepared m q ≡ true = sym (at_other (is_prepared m) r true q (λ z. y.1 (sym z))) ∙ (ap (λ (f : ℕ → Bool). f q) (sym did.prepared) ∙ e) in
             let pos = (t.prepared q was).1 in inr (was, λ z. let same : q ≡ 0 = z ∙ unused in omega (arith, same, pos))
       ])
-      (inl some))
+      (inl some)
+      (λ q e. let was = ticked_same m n q did.opening did.history e in
+      let pos = (t.ticking q was).2 in
+      inr (was, λ z. let same : q ≡ 0 = z ∙ unused in omega (arith, same, pos))))
 
   -- the tick of a region came back out of its slot
-  pub tied_withdraws : (kept : Option Offer) → region_at xs i ≡ r → Withdraws m n r → Tied n (keeping (keeping s i kept) i (Some nothing)) (set xs i 0)
-  tied_withdraws kept own did =
+  pub tied_withdraws : (kept : Option Offer) → region_at xs i ≡ r → is_prepared m r ≡ true → Withdraws m n r → Tied n (keeping (keeping s i kept) i (Some nothing)) (set xs i 0)
+  tied_withdraws kept own marked did =
       let p : Place Offer = hands.place (Some nothing) (place_at s i).offered None in
       let apart : (j : ℕ) → j < length xs → j ≢ i → region_at xs j ≢ r = λ j low ne e. ne (sym (t.apart i j inside low (subst (λ (x : ℕ). 0 < x) (sym own) some) (own ∙ sym e))) in
       subst (λ (k : Keeper Offer). Tied n k (set xs i 0)) (sym (emptied_after s i there kept (Some nothing))) (tied_changes m n s xs t i 0 p inside did.opening
@@ -242,7 +273,9 @@ module _ (m n : Meaning) (s : Keeper Offer) (xs : List ℕ) (t : Tied m s xs) (i
       (λ j low ne pos. others_pass did.opening did.history false did.prepared (region_at xs j) (apart j low ne))
       (λ z. absurd (omega (arith, z)))
       (λ q e. inr ((back did.prepared q e).0, λ z. (back did.prepared q e).1 (z ∙ own)))
-      (inr (λ q e z. let pos = (t.prepared q ((back did.prepared q e).0)).1 in omega (arith, z, pos))))
+      (inr (λ q e z. let pos = (t.prepared q ((back did.prepared q e).0)).1 in omega (arith, z, pos)))
+      (λ q e. let was = ticked_same m n q did.opening did.history e in
+      inr (was, λ z. true≢false (sym marked ∙ (ap (is_prepared m) (sym (z ∙ own)) ∙ ticking_unprepared m s xs q t was)))))
     where
       falls : is_prepared n ≡ at_id (is_prepared m) r false → (q : ℕ) → is_prepared m q ≡ false → is_prepared n q ≡ false
       falls prepared q none = elim (eqb_tells r q) [
@@ -288,7 +321,14 @@ module _ (m n : Meaning) (s : Keeper Offer) (xs : List ℕ) (t : Tied m s xs) (i
         | inl y ↦ inl (sym y.1)
         | inr y ↦ inr (sym (at_other (is_prepared m) r false q (λ x. y.1 (sym x))) ∙ (ap (λ (f : ℕ → Bool). f q) (sym did.prepared) ∙ z), λ x. y.1 (sym (x ∙ own)))
       ])
-      (inl some) in
+      (inl some)
+      (λ q z. elim (eqb_tells r q) [
+        | inl y ↦ inl (sym y.1, some, k, refl)
+        | inr y ↦ elim (ticked_more m n e q did.opening did.history z) [
+          | inl was ↦ inr (was.0, λ x. y.1 (sym (x ∙ own)))
+          | inr begins ↦ absurd (y.1 (eqb-true r q begins))
+        ]
+      ]) in
       subst (λ (ys : List ℕ). Tied n (knowing s i p) ys) (ap (set xs i) (sym own) ∙ set-get_or xs i 0) changed
 
 -- the body of a slot that was kept has the tick that waited there
@@ -311,9 +351,9 @@ came_back m s k xs i r b tick t inside own marked is body has =
 
 -- ---- events
 
--- an event that touches no prepared region and is no End; where a region is prepared, it is no Stop
+-- an event that touches no prepared region and is neither a Begin nor an End; where a region is prepared, it is no Stop
 pub tied_event : (m n : Meaning) (s : Keeper Offer) (xs : List ℕ) (by : ℕ) (event : Event) → Tied m s xs → Records m n by event
-    → ((q : ℕ) → is_prepared m q ≡ true → (touches (world_of m) q event ≡ false) × (is_stop event ≡ false)) → ((q : ℕ) → is_end q event ≡ false)
+    → ((q : ℕ) → is_prepared m q ≡ true → (touches (world_of m) q event ≡ false) × (is_stop event ≡ false)) → ((q : ℕ) → (is_begin q event ≡ false) × (is_end q event ≡ false))
     → (is_over (world_of n) ≡ true → NonePrepared m) → Tied n s xs
 tied_event m n s xs by event t did spares another calm = record {
   grid = rw did.opening t.grid;
@@ -323,8 +363,12 @@ tied_event m n s xs by event t did spares another calm = record {
   few = t.few;
   unused = t.unused;
   used = λ i low p. in_use_passes m n (region_at xs i) (place_at s i)
-      (passes_one m n (region_at xs i) (record { by = by; event = event }) did.opening did.history (ap (λ (f : ℕ → Bool). f (region_at xs i)) did.prepared) (spares (region_at xs i)) (another (region_at xs i)))
+      (passes_one m n (region_at xs i) (record { by = by; event = event }) did.opening did.history (ap (λ (f : ℕ → Bool). f (region_at xs i)) did.prepared) (spares (region_at xs i)) (another (region_at xs i)).1)
       (t.used i low p);
   apart = t.apart;
   prepared = λ r e. t.prepared r (ap (λ (f : ℕ → Bool). f r) (sym did.prepared) ∙ e);
+  ticking = λ r e. elim (ticked_more m n (record { by = by; event = event }) r did.opening did.history e) [
+    | inl was ↦ t.ticking r was.0
+    | inr begins ↦ absurd (true≢false (sym begins ∙ (another r).0))
+  ];
 }

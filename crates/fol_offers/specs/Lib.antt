@@ -1,3 +1,4 @@
+pub mod Ends
 pub mod Fit
 pub mod Places
 pub mod Shown

@@ -1,10 +1,16 @@
--- New slots.
-use Rattle.std.specs.Prelude.{ℕ, ◌≡◌, All, List, length, replicate}
+-- New slots, and a core that they may be tied to.
+use Rattle.std.specs.Prelude.{ℕ, ◌≡◌, ◌≢◌, All, List, length, replicate}
+use Rattle.fol_model.specs.declared.regions.State.TheVariants.{Ticking}
+use Rattle.fol_model.specs.World.{World}
 use Rattle.fol_slots.specs.declared.slots.SlotsAndSeats.{SlotsAndSeats}
 use Rattle.fol_slots.specs.Shown.{AreNew, new_keeper}
 use Rattle.fol_slots.specs.Table.{slots_id, slot_count}
 use Rattle.fol_offers.specs.declared.offer.Offer.{Offer}
 use Rattle.fol_offers.specs.Tied.{nothing}
+
+-- no region ticks
+abbrev pub NoneTicks : World → Type 0
+NoneTicks w = (r : ℕ) → w.grid.state r ≢ Ticking
 
 -- so many slots, all kept with nothing in them and none of them in use, and seats of so many workers
 pub record AreNewSlots (count workers : ℕ) (made : SlotsAndSeats Offer × List ℕ) : Type 0 where

@@ -2,6 +2,7 @@
 use Rattle.std.specs.Prelude.{ℕ, ◌≡◌, ◌<◌, ◌≤◌, true, false, List, ◌++◌, length, Some, None}
 use Rattle.fol_model.specs.declared.events.Entry.{Entry}
 use Rattle.fol_model.specs.declared.events.Event.TheVariants.{Begin}
+use Rattle.fol_model.specs.declared.regions.State.TheVariants.{Ticking}
 use Rattle.fol_model.specs.GridNumbers.{IsGrid}
 use Rattle.fol_model.specs.Run.{Allowed, world}
 use Rattle.fol_laws.specs.LateBegin.{NoneTouches}
@@ -49,7 +50,8 @@ pub record InUse (m : Meaning) (r : ℕ) (p : Place Offer) : Type 0 where
   pub waits : p.found ≡ None → Waits m r tick
   pub runs : (k : ℕ) → p.found ≡ Some k → Runs m r k tick
 
--- the slots in use are those of the regions in the list, all others are kept with nothing in them, and each prepared region has one
+-- the slots in use are those of the regions in the list, all others are kept with nothing in them, each prepared region has one, and each
+-- Ticking region has one in which the worker that has its tick was found
 pub record Tied (m : Meaning) (s : Keeper Offer) (regions : List ℕ) : Type 0 where
   pub grid : IsGrid m.opening.grid
   -- once the history is over, no region is prepared
@@ -61,3 +63,4 @@ pub record Tied (m : Meaning) (s : Keeper Offer) (regions : List ℕ) : Type 0 w
   pub used : (i : ℕ) → i < length regions → 0 < region_at regions i → InUse m (region_at regions i) (place_at s i)
   pub apart : (i j : ℕ) → i < length regions → j < length regions → 0 < region_at regions i → region_at regions i ≡ region_at regions j → i ≡ j
   pub prepared : (r : ℕ) → is_prepared m r ≡ true → (i : ℕ) × (0 < r) × (i < length regions) × (region_at regions i ≡ r)
+  pub ticking : (r : ℕ) → (world_of m).grid.state r ≡ Ticking → (i : ℕ) × (k : ℕ) × (0 < r) × (i < length regions) × (region_at regions i ≡ r) × ((place_at s i).found ≡ Some k)

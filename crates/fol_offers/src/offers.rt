@@ -8,7 +8,7 @@ ghost use Rattle.fol_core.specs.Ahead.{NonePrepared, Prepares};
 ghost use Rattle.fol_core.specs.Answers.{is_free, is_over};
 ghost use Rattle.fol_core.specs.Meaning.{Stays, is_prepared, world_of};
 ghost use Rattle.fol_offers.specs.Shown.{OffersNext};
-ghost use Rattle.fol_offers.specs.Starts.{AreNewSlots};
+ghost use Rattle.fol_offers.specs.Starts.{AreNewSlots, NoneTicks};
 ghost use Rattle.fol_offers.specs.Tied.{nothing};
 
 use crate::offer::Offer;
@@ -20,7 +20,7 @@ use std::alloc::{AllocError, Global};
 use std::marker::Model;
 
 /// A core, and the keeper's seat of the slots in which ticks of its regions are offered. The tick of each prepared region lies in a slot of
-/// its own, or a worker has claimed it there; so does the tick of each region whose Begin was learnt from its slot.
+/// its own, or a worker has claimed it there. A worker has claimed the tick of each region that ticks, whose Begin was learnt from its slot.
 #[derive(Drop)]
 pub struct Offers {
     pub(crate) core: Core,
@@ -48,7 +48,8 @@ impl Model for Offers {
 }
 
 impl Offers {
-    /// Slots of this core, of which nothing is offered yet: so many of them, and seats for so many workers. Fails only when out of memory.
+    /// Slots of this core, of which nothing is offered yet and in which no region ticks: so many of them, and seats for so many workers.
+    /// Fails only when out of memory.
     pub fn start(
         alloc: Global,
         core: Core,
@@ -57,6 +58,7 @@ impl Offers {
     ) -> Result<OffersAndSeats, AllocError>
         requires grid { IsGrid core.opening.grid }
         requires none { NonePrepared core }
+        requires idle { NoneTicks (world_of core) }
         requires count { (0 < count) × (count < 65536) }
         requires workers { workers ≤ 64 }
         ensures core { IfOk result (λ made. made.offers.core ≡ core) }

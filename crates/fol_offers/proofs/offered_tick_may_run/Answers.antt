@@ -1,4 +1,3 @@
-use Rattle.std.proofs.Common.{◌∙◌}
 use Rattle.fol_offers.proofs.FitTicks.{fit_may_run}
 use Rattle.fol_offers.proofs.offered_tick_may_run.Goals as goal
 

@@ -1,6 +1,5 @@
-use Rattle.std.proofs.Common.{rules, ◌≡◌, All, sym, subst, ap}
+use Rattle.std.proofs.Common.{rules}
 use Rattle.std.specs.List.Sorted.{IsStrictlySortedBy}
-use Rattle.fol_slots.specs.Shown.{AreNew}
 use Rattle.fol_slots.specs.Table.{slots_id}
 use Rattle.fol_slots.proofs.Callers.{new_free}
 use Rattle.fol_offers.proofs.tests.start.Goals as goal

@@ -45,7 +45,7 @@ invariant_of-self c =
     let at_end : c.body.new.seat ≡ keeping (keeping s i (place_at s i).offered) i (Some nothing) = c.body.ensures.seat ∙ ap (λ (x : Keeper Offer). keeping x i (Some nothing)) c.in-Kept.ensures.answer.1 in
     subst (λ (x : Keeper Offer). Tied n x c.clear.new.self) (sym at_end)
     (subst (λ (ys : List ℕ). Tied n (keeping (keeping s i (place_at s i).offered) i (Some nothing)) ys) (sym c.clear.ensures)
-    (tied_withdraws m n s xs c.self.invariant i c.args.region c.in-Some.ensures.some.0 (c.self.invariant.prepared c.args.region marked).1 (place_at s i).offered c.in-Some.ensures.some.1 did))
+    (tied_withdraws m n s xs c.self.invariant i c.args.region c.in-Some.ensures.some.0 (c.self.invariant.prepared c.args.region marked).1 (place_at s i).offered c.in-Some.ensures.some.1 marked did))
 
 pub invariant_of-self-in-Busy : goal.invariant_of-self-in-Busy
 invariant_of-self-in-Busy c =

@@ -1,4 +1,4 @@
-use Rattle.std.proofs.Common.{rules, sym, subst, inl, inr, refl}
+use Rattle.std.proofs.Common.{rules, sym, subst}
 use Rattle.fol_core.specs.Ahead.{may_touch}
 use Rattle.fol_core.specs.Meaning.{world_of}
 use Rattle.fol_offers.specs.Shown.{CallsBack, Shown}

@@ -1,4 +1,4 @@
-use Rattle.std.proofs.Common.{rules, ◌≡◌, ℕ, ◌<◌, ◌-◌, List, [], ◌∷◌, ◌++◌, length, ap, ◌∙◌, Some, length-set, arith}
+use Rattle.std.proofs.Common.{rules, ◌≡◌, ◌<◌, ◌-◌, [], ◌∷◌, ◌++◌, length, ap, ◌∙◌, Some, length-set, arith}
 use Rattle.std.specs.Prelude.{option_to_list, slice_get, vec_len}
 use Rattle.fol_offers.proofs.FreeSlots.{free_taken, last_at}
 use Rattle.fol_offers.proofs.Matching.{put_matched}
