@@ -2,7 +2,7 @@
 
 ghost use Rattle.std.specs.Prelude.{◌≡◌, ◌+◌, ◌≤◌, ◌<◌, ◌||◌, ◌&&◌, ◌++◌, [], not, true, false, length, filter, slice_index_or, IsTrue, MatchResult, IfOk, OnOk, OnErr};
 ghost use Rattle.std.specs.Vec.{vec_capacity};
-ghost use Rattle.std.specs.List.{insert, remove as without};
+ghost use Rattle.std.specs.List.{AllWithin, insert, remove as without};
 ghost use Rattle.std.specs.List.Sorted.{IsStrictlySortedBy, IsPartitionPoint};
 ghost use Rattle.std.specs.Ordering.{is_lt};
 ghost use Rattle.std.specs.declared.cmp.Ordering.TheVariants.{Less, Greater};
@@ -135,7 +135,19 @@ fn place_of(chunks: &[ChunkPos], c: ChunkPos) -> Result<usize, usize>
         × IsPartitionPoint (λ q. chunk_cmp q c ≡ Less) (λ q. chunk_cmp q c ≡ Greater) chunks.now
         i) }
 {
+    if is_behind(chunks, c) {
+        return Err(chunks.len());
+    }
     chunks.binary_search_by(|chunk| compare_chunks(*chunk, c))
+}
+
+/// Whether a chunk comes behind all those of a list, as mostly where chunks are loaded row by row.
+fn is_behind(chunks: &[ChunkPos], c: ChunkPos) -> bool
+    requires { IsStrictlySortedBy chunk_cmp chunks.now }
+    ensures { IsTrue result
+        → AllWithin (λ q. chunk_cmp q c ≡ Less) chunks.now 0 (length chunks.now) }
+{
+    chunks.is_empty() || compare_chunks(chunks[chunks.len() - 1], c).is_lt()
 }
 
 /// Takes a change back, if it waits.

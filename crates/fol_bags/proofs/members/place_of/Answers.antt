@@ -1,10 +1,13 @@
-use Rattle.std.proofs.Common.{rules}
+use Rattle.std.proofs.Common.{arith, rules}
 use Rattle.std.proofs.lemmas.Fn.{always_returns_same}
 use Rattle.fol_model.specs.declared.places.ChunkPos.{ChunkPos}
 use Rattle.fol_chunks.specs.Order.{chunk_cmp}
 use Rattle.fol_keyed.proofs.Places.{chunk_cmp_total, chunk_cmp_tells}
 use Rattle.fol_keyed.proofs.Sorted.{searched_by}
 use Rattle.fol_bags.proofs.members.place_of.Goals as goal
+
+pub returns-then-is_behind : goal.returns-then-is_behind
+returns-then-is_behind c = (omega arith, (c.is_behind.ensures c.if-is_behind.true, λ k d l m. absurd (omega arith)))
 
 pub returns : goal.returns
 returns c =
