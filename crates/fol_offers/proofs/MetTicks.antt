@@ -21,8 +21,8 @@ use Rattle.fol_laws.proofs.WholeRuns.{Good, good_run}
 use Rattle.fol_laws.proofs.WishLimits.{WishOk}
 use Rattle.fol_data.specs.declared.tick.Tick.{Tick}
 use Rattle.fol_core.specs.Ahead.{Learns, Spares, may_touch}
-use Rattle.fol_core.specs.Answers.{end_event, is_over}
-use Rattle.fol_world.specs.AtEnd.{AtEnd}
+use Rattle.fol_core.specs.Answers.{is_over}
+use Rattle.fol_world.specs.AtEnd.{AtEnd, end_event}
 use Rattle.fol_world.specs.Hands.{since}
 use Rattle.fol_core.specs.Meaning.{Meaning, Records, is_prepared, world_of}
 use Rattle.fol_core.specs.Ticks.{IsOut}

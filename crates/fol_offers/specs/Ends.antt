@@ -8,7 +8,7 @@ use Rattle.fol_data.specs.declared.tick.Tick.{Tick}
 use Rattle.fol_tick.specs.Calls.{HostCall}
 use Rattle.fol_tick.specs.Runs.{Finishes}
 use Rattle.fol_core.specs.Ahead.{Learns, may_touch}
-use Rattle.fol_core.specs.Answers.{end_event}
+use Rattle.fol_world.specs.AtEnd.{end_event}
 use Rattle.fol_core.specs.Meaning.{Records, Stays, is_prepared, world_of}
 use Rattle.fol_core.specs.Ticks.{SameTick}
 use Rattle.fol_slots.specs.Shown.{Worker}

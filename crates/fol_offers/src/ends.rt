@@ -6,7 +6,7 @@ ghost use Rattle.fol_data.specs.declared.tick.Tick.{Tick};
 ghost use Rattle.fol_slots.specs.Shown.{freed};
 ghost use Rattle.fol_slots.specs.Table.{slots_id};
 ghost use Rattle.fol_core.specs.Ahead.{Spares};
-ghost use Rattle.fol_core.specs.Answers.{end_event};
+ghost use Rattle.fol_world.specs.AtEnd.{end_event};
 ghost use Rattle.fol_core.specs.Meaning.{Records, Stays, is_prepared, world_of};
 ghost use Rattle.fol_core.specs.Ticks.{SameTick};
 ghost use Rattle.fol_tick_laws.specs.OpenTicks.{IsOpen};
