@@ -1,18 +1,12 @@
-//! Two regions are offered, and a worker claims one. Then a chunk between them is loaded, or the worker's tick asks for a task there.
+//! Two regions are offered: a worker claims one, and then a chunk between them is loaded.
 
 ghost use Rattle.std.specs.Prelude.{◌≡◌, ◌<◌, None, All};
 ghost use Rattle.fol_slots.specs.Table.{slots_id, slot_count};
-ghost use Rattle.fol_offers.specs.Ends.{GivesBack};
 
 use crate::{Offer, Offers, OffersAndSeats};
-use fol_core::{Close, Core, Finish, Phase, Posting};
-use fol_data::Tick;
-use fol_model::{
-    Accept, Action, BlockPos, ChunkPos, EventRef, Grid, Loaded, Nested, Opening, PackedEntry,
-    Sequence,
-};
+use fol_core::{Close, Core, Finish, Phase};
+use fol_model::{ChunkPos, EventRef, Grid, Loaded, Opening, PackedEntry, Sequence};
 use fol_slots::{Claim, Slots, WorkerSeat};
-use fol_tick::{ListHost, run_tick};
 use std::alloc::Global;
 use std::process::Abort;
 use std::test::Fail;
@@ -104,68 +98,6 @@ fn is_begin(entry: &PackedEntry, by: u32, region: u64) -> bool {
     }
 }
 
-/// Whether the entry is the End of worker 2 in this region, which accepted one wish under this number.
-fn is_end(entry: &PackedEntry, region: u64, number: u64) -> bool {
-    match entry.event() {
-        EventRef::End {
-            worker,
-            region: at,
-            accepts,
-            ..
-        } => {
-            worker == 2 && at == region && matches!(accepts, [Accept::Posted(n)] if *n == number)
-        }
-        _ => false,
-    }
-}
-
-/// The tick that the worker claims in slot 0, after all of its tasks ran.
-fn run(rt: &impl Abort, alloc: Global, slots: &Slots<Offer>, seat: &mut WorkerSeat<Offer>) -> Tick
-    requires own { seat.old.slots ≡ slots_id slots.now }
-    requires free { seat.old.slot ≡ None }
-    requires some { 0 < slot_count slots.now }
-    ensures own { seat.new.slots ≡ slots_id slots.now }
-    ensures gives { GivesBack seat.new result }
-{
-    match slots.try_claim(seat, 0) {
-        Claim::Claimed(offer) => {
-            let mut tick = offer.into_tick();
-            tick.worker = seat.number();
-            let mut host = ListHost::of(Vec::new(alloc));
-            match run_tick(alloc, &mut tick, &mut host) {
-                Ok(()) => tick,
-                Err(_) => panic!(rt; "memory"),
-            }
-        }
-        _ => panic!(rt; "a tick is claimed"),
-    }
-}
-
-/// Asks for a task on a chunk, which asks for another one between both regions.
-fn post(
-    rt: &impl Abort,
-    alloc: Global,
-    offers: &mut Offers,
-    slots: &Slots<Offer>,
-    c: ChunkPos,
-    number: u64,
-)
-    requires own { offers.old.slots ≡ slots_id slots.now }
-    ensures own { offers.new.slots ≡ offers.old.slots }
-{
-    assert!(rt; c.in_range());
-    let at = BlockPos { x: 48, y: 0, z: 0 };
-    let action = Action::Post {
-        chunk: BETWEEN,
-        delay: 1,
-        action: Nested::new(alloc, Action::Set { at, id: 1 }).expect(rt, "memory"),
-    };
-    match offers.post(slots, 0, c, 1, action) {
-        Ok(Posting::Posted(n)) => assert_eq!(rt; n, number),
-        _ => panic!(rt; "the task is posted"),
-    }
-}
-
 #[test]
 fn a_stop_calls_back_what_nobody_claimed(rt: HostRuntime) -> Result<(), Fail> {
     let alloc = rt.alloc();
@@ -212,60 +144,16 @@ fn the_tick_that_was_claimed_is_learnt(rt: HostRuntime) -> Result<(), Fail> {
 }
 
 #[test]
-fn a_worker_gives_back_a_tick_whose_begin_nobody_learnt(rt: HostRuntime) -> Result<(), Fail> {
+fn a_phase_in_which_nobody_ticks_is_closed(rt: HostRuntime) -> Result<(), Fail> {
     let alloc = rt.alloc();
     let OffersAndSeats {
         mut offers,
-        slots,
-        seats,
+        slots: _,
+        seats: _,
     } = start(&rt, alloc);
-    load(&rt, &mut offers, &slots, ORIGIN);
-    load(&rt, &mut offers, &slots, AWAY);
-    post(&rt, alloc, &mut offers, &slots, ORIGIN, 1);
-    post(&rt, alloc, &mut offers, &slots, AWAY, 2);
-    offer_both(&rt, alloc, &mut offers, &slots);
-    let mut seats = seats.into_vec();
-    let mut seat = seats.pop().expect(&rt, "two seats");
-    let mut tick = run(&rt, alloc, &slots, &mut seat);
-    let region = tick.region;
-    let (mut seat, answer) = offers.end(alloc, &slots, seat, &mut tick);
-    assert!(&rt; matches!(answer, Ok(7)));
-    // The wish draws the other region in, whose tick nobody had claimed. Both are one then, which owes what the other owed.
-    assert!(&rt; !offers.is_offered(1) && !offers.is_offered(2));
-    assert!(&rt; offers_one(&rt, alloc, &mut offers, &slots));
-    assert!(&rt; offers.is_offered(region));
-    let mut tick = run(&rt, alloc, &slots, &mut seat);
-    let (_, answer) = offers.end(alloc, &slots, seat, &mut tick);
-    assert!(&rt; matches!(answer, Ok(9)));
-    assert!(&rt; !offers_one(&rt, alloc, &mut offers, &slots));
-    let history = offers.history();
-    assert_eq!(&rt; history.len(), 9);
-    assert!(&rt; is_begin(&history[5], 2, region));
-    assert!(&rt; is_end(&history[6], region, 3));
-    assert!(&rt; is_begin(&history[7], 2, region));
-    assert!(&rt; is_end(&history[8], region, 4));
-    Ok(())
-}
-
-#[test]
-fn a_phase_is_closed_when_each_tick_came_back(rt: HostRuntime) -> Result<(), Fail> {
-    let alloc = rt.alloc();
-    let OffersAndSeats {
-        mut offers,
-        slots,
-        seats,
-    } = start(&rt, alloc);
-    load(&rt, &mut offers, &slots, ORIGIN);
     assert_eq!(&rt; offers.phase_ticks(), 0);
     assert!(&rt; matches!(offers.open_phase(0, 1), Ok(Phase::Opened)));
-    assert!(&rt; offers_one(&rt, alloc, &mut offers, &slots));
-    assert!(&rt; matches!(offers.close_phase(0), Ok(Close::NotYet(1))));
     assert!(&rt; matches!(offers.finish(0), Ok(Finish::InPhase)));
-    let mut seats = seats.into_vec();
-    let mut seat = seats.pop().expect(&rt, "two seats");
-    let mut tick = run(&rt, alloc, &slots, &mut seat);
-    let (_, answer) = offers.end(alloc, &slots, seat, &mut tick);
-    assert!(&rt; matches!(answer, Ok(4)));
     assert!(&rt; matches!(offers.close_phase(0), Ok(Close::Closed)));
     assert!(&rt; matches!(offers.finish(0), Ok(Finish::Finished)));
     Ok(())
