@@ -1,5 +1,5 @@
 -- Words one after another are the line of these words.
-use Rattle.std.proofs.Common.{◌≡◌, ℕ, refl, sym, ap, List, [], ◌++◌, ◌∷◌, codes, decimal, arith}
+use Rattle.std.proofs.Common.{◌≡◌, ℕ, refl, sym, ap, ◌∙◌, append_assoc, List, [], ◌++◌, ◌∷◌, codes, decimal, arith}
 use Rattle.std.proofs.lemmas.List.{append-nil}
 use Rattle.std.proofs.lemmas.List.Concat.{flat_map-append}
 use Rattle.std.proofs.lemmas.Fmt.{decimal_digit}
@@ -29,3 +29,11 @@ joined_lines_of words (r ∷ rows) = let e = line_of_joined (words r) in let k =
 pub quiet_end : (worker region tick : ℕ) (ran : List Ran) (accepts : List Accept) → ran ≡ [] → accepts ≡ []
     → joined (end_words worker region tick ran accepts) ≡ joined (codes "end" ∷ decimal worker ∷ decimal region ∷ codes "tick" ∷ decimal tick ∷ codes "ran" ∷ codes "0" ∷ codes "accepted" ∷ codes "0" ∷ [])
 quiet_end worker region tick ran accepts none none' = let zero : decimal 0 ≡ 48 ∷ [] = decimal_digit 0 (omega arith) in rw (none, none', zero) refl
+
+-- a line that was put behind a page, as the same line behind what lies before the page
+pub behind_page : (out page new line other : List ℕ) → new ≡ page ++ line ++ 10 ∷ [] → other ≡ line → out ++ new ≡ out ++ page ++ other ++ 10 ∷ []
+behind_page out page new line other e k =
+    ap (λ t. out ++ t) e
+    ∙ sym (append_assoc out (page ++ line) (10 ∷ []))
+    ∙ ap (λ t. t ++ 10 ∷ []) (sym (append_assoc out page line))
+    ∙ ap (λ l. ((out ++ page) ++ l) ++ 10 ∷ []) (sym k)

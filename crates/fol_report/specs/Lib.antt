@@ -1,4 +1,5 @@
 pub mod JsonData
+pub mod Pages
 pub mod Spaced
 pub mod Tallies
 pub mod Tails

@@ -84,7 +84,7 @@ fn put_quiet_end(out: &mut String, worker: u32, region: u64, tick: u64) -> Resul
 
 /// Puts the line of an end.
 #[tactic(auto, using(crate::proofs::Joined::spaced_append))]
-fn put_end(
+pub fn put_end(
     out: &mut String,
     worker: u32,
     region: u64,
@@ -166,7 +166,7 @@ fn put_post(
 }
 
 /// Puts the line of an event without its end.
-fn put_event(out: &mut String, event: EventRef) -> Result<(), AllocError>
+pub fn put_event(out: &mut String, event: EventRef) -> Result<(), AllocError>
     ensures { IfOk result (λ _. string_bytes out.new
         ≡ string_bytes out.old ++ joined (event_words (event_seen event.entry))) }
 {

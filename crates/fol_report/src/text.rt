@@ -3,6 +3,7 @@
 ghost use Rattle.std.specs.Prelude.{◌≡◌, IfOk};
 ghost use Rattle.fol_model.specs.Report.{report_text};
 
+use crate::history::put_history;
 use crate::lines::put_part;
 use fol_model::Closing;
 use std::alloc::{AllocError, Global};
@@ -13,7 +14,7 @@ pub fn report(alloc: Global, closing: &Closing) -> Result<Vec<u8>, AllocError>
 {
     let mut out = String::new(alloc);
     out.push_str("report 1\n")?;
-    put_part(&mut out, "events", closing.history.as_slice())?;
+    put_history(&mut out, closing.history.as_slice())?;
     put_part(&mut out, "regions", closing.regions.as_slice())?;
     put_part(&mut out, "owners", closing.owners.as_slice())?;
     put_part(&mut out, "tasks", closing.tasks.as_slice())?;
