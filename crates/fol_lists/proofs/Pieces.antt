@@ -78,7 +78,7 @@ pub length_at : {T : Type 0} (cells : List T) (spans : List Span) (n : ℕ) (d :
 length_at cells spans n d l fit = ap length (piece_at cells spans n l d) ∙ length_piece cells (get_or spans n d) (fit n d l)
 
 module _ {T : Type 0} (lists : List (List T)) (n : ℕ) (l : n < length lists) where
-  total-set : (xs : List T) → sum_by length (slice_set lists n xs) + length (get_or lists n []) ≡ sum_by length lists + length xs
+  pub total-set : (xs : List T) → sum_by length (slice_set lists n xs) + length (get_or lists n []) ≡ sum_by length lists + length xs
   total-set xs = sum_by-set length lists n xs [] l
 
   pub total_grown : (xs : List T) → sum_by length (slice_set lists n (get_or lists n [] ++ xs)) ≡ sum_by length lists + length xs

@@ -3,6 +3,7 @@
 ghost use Rattle.std.specs.Prelude.{◌≡◌, ℕ, ◌+◌, ◌-◌, ◌*◌, ◌<◌, ◌≤◌, ◌^◌, List, [], ◌++◌, length, slice_set, sum_by, take, vec_len};
 ghost use Rattle.std.specs.List.{All, slice_range, slice_index_or};
 ghost use Rattle.std.specs.Vec.{vec_capacity};
+ghost use Rattle.fol_lists.specs.Numbered.{shifted};
 ghost use Rattle.fol_lists.specs.Spans.{AreSpans, HasRoom, IsLast, IsSpan, IsTop, piece_of, pieces_of};
 
 use crate::spans::Span;
@@ -112,7 +113,7 @@ fn make_last<T: Copy>(cells: &mut Vec<T>, spans: &mut [Span], n: usize)
 }
 
 /// Makes a list the last one, with room for so many more elements behind it. It stays where it is if it is the last already.
-fn open<T: Copy>(
+pub fn open<T: Copy>(
     cells: &mut Vec<T>,
     spare: &mut Vec<T>,
     spans: &mut [Span],
@@ -177,6 +178,40 @@ pub fn grow<T: Copy>(
     open(cells, spare, spans, top, last, room, n, xs.len());
     let _ = cells.extend_from_slice(xs);
     spans[n].to = cells.len();
+}
+
+/// Moves elements up by so many places and one more, and puts another into the place before them.
+fn shift<T: Copy>(cells: &mut [T], start: usize, end: usize, by: usize, x: T)
+    requires rising { start ≤ end }
+    requires within { end + by < length cells.old }
+    ensures { cells.new ≡ shifted cells.old start end by x }
+{
+    cells.copy_within(start..end, start + by + 1);
+    cells[start + by] = x;
+}
+
+/// The same within the last list, which ends where all elements end.
+pub fn shift_last<T: Copy>(
+    cells: &mut [T],
+    spans: &[Span],
+    n: usize,
+    start: usize,
+    end: usize,
+    by: usize,
+    x: T,
+)
+    requires fit { All (IsSpan (length cells.old)) spans.now }
+    requires number { n < length spans.now }
+    requires last { IsLast spans.now n }
+    requires end { (d : Span) → (slice_index_or spans.now n d).to ≡ length cells.old }
+    requires rising { start ≤ end }
+    requires within { end + by < length (slice_index_or (pieces_of cells.old spans.now) n []) }
+    ensures shifted { pieces_of cells.new spans.now ≡ slice_set (pieces_of cells.old spans.now) n
+        (shifted (slice_index_or (pieces_of cells.old spans.now) n []) start end by x) }
+    ensures len { length cells.new ≡ length cells.old }
+{
+    let from = spans[n].from;
+    shift(cells, from + start, from + end, by, x);
 }
 
 /// Leaves a list its first elements. What lies behind the last list is given back.

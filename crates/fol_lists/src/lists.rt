@@ -1,9 +1,9 @@
 //! Lists by number.
 
 ghost use Rattle.std.specs.Prelude.{◌≡◌, ◌+◌, ◌<◌, ◌≤◌, ◌^◌, IfOk, OnOk, OnErr, [], ◌++◌, length, replicate, take};
-ghost use Rattle.fol_lists.specs.Numbered.{Numbered, list_at, total, with_list, with_numbers};
+ghost use Rattle.fol_lists.specs.Numbered.{Numbered, list_at, shifted, total, with_list, with_numbers};
 
-use crate::cells::{cut, grow};
+use crate::cells::{cut, grow, open, shift_last};
 use crate::spans::Span;
 use std::alloc::{AllocError, Global};
 use std::marker::Model;
@@ -137,6 +137,30 @@ impl<T: Copy> Lists<T> {
     {
         self.truncate(n, len);
         self.extend(n, xs);
+    }
+
+    /// Moves the elements of a list from `start` up to `end` up by `by` places and one more, and puts an element into the place
+    /// before them. The list stays as long: what stood where these stand now is gone. Takes no memory.
+    pub fn shift_in(&mut self, n: usize, start: usize, end: usize, by: usize, x: T)
+        requires number { n < length self.old.lists }
+        requires rising { start ≤ end }
+        requires within { end + by < length (list_at self.old n) }
+        ensures { self.new ≡ with_list self.old n (shifted (list_at self.old n) start end by x) }
+    {
+        let top = self.top.max(n + 1);
+        open(
+            &mut self.cells,
+            &mut self.spare,
+            &mut self.spans,
+            top,
+            self.last,
+            self.room,
+            n,
+            0,
+        );
+        self.last = n;
+        self.top = top;
+        shift_last(&mut self.cells, &self.spans, n, start, end, by, x);
     }
 
     /// Makes room for so many elements together. The lists stay either way.

@@ -4,14 +4,14 @@ use Rattle.std.specs.Prelude.{◌≢◌, ℤ, filter, nat_eq, nat_lt}
 use Rattle.std.specs.List.{list_any}
 use Rattle.std.proofs.Math.Bool.{or-false, or-true}
 use Rattle.std.proofs.Math.Path.{fun_ext}
-use Rattle.std.proofs.lemmas.Bool.{cases_Bool, cases_eq, true≢false, eq-eqb, eqb-true, ne_eqb, lt-ltb, le-ltb, ltb-true}
+use Rattle.std.proofs.lemmas.Bool.{cases_Bool, cases_eq, true≢false, false_from_ne_true, eq-eqb, eqb-true, ne_eqb, lt-ltb, le-ltb, ltb-true}
 use Rattle.std.proofs.lemmas.List.{length-set, get_or-set_same, get_or-set_other}
 use Rattle.std.proofs.lemmas.List.Sums.{length-filter}
 use Rattle.fol_lists.specs.Numbered.{list_at, total, with_list}
 use Rattle.fol_model.specs.declared.places.SectionPos.{SectionPos}
 use Rattle.fol_model.specs.Geometry.{is_section, is_among}
 use Rattle.fol_model.specs.Universe.{all_sections, count_sections, numbers_below}
-use Rattle.fol_region_tables.specs.Rows.{united}
+use Rattle.fol_region_tables.specs.Rows.{united, AreApart}
 use Rattle.fol_region_tables.specs.Slots.{SlotTable, slot_of}
 use Rattle.fol_region_tables.specs.Owners.{owner_in}
 use Rattle.fol_region_tables.specs.declared.pages.OwnerPage.{OwnerPage}
@@ -24,6 +24,13 @@ use Rattle.fol_region_tables.proofs.Totals.{total_two}
 -- the sections of a region
 pub among_rows : (b : Book) → IsBook b → (r : ℕ) → 0 < r → (s : SectionPos) → is_among (rows_of b r) s ≡ nat_eq (owner_of b s) r
 among_rows b is r p s = ap (λ xs. is_among xs s) (is.rows r p) ∙ chosen (λ q. nat_eq (owner_of b q) r) (λ q h. is.limits q (omega (arith, p, eqb-true (owner_of b q) r h))) s
+
+-- sections that no region has, and those of another region, are none of a region's
+pub apart_given : (b : Book) → IsBook b → (t : ℕ) → 0 < t → (xs : List SectionPos) → ((s : SectionPos) → is_among xs s ≡ true → owner_of b s ≡ 0) → AreApart (rows_of b t) xs
+apart_given b is t p xs absent = λ s h. false_from_ne_true (is_among xs s) (λ k. omega (arith, p, eqb-true (owner_of b s) t (sym (among_rows b is t p s) ∙ h), absent s k))
+
+pub apart_rows : (b : Book) → IsBook b → (t u : ℕ) → 0 < t → 0 < u → u ≢ t → AreApart (rows_of b t) (rows_of b u)
+apart_rows b is t u p q other = λ s h. false_from_ne_true (is_among (rows_of b u) s) (λ k. other (sym (eqb-true (owner_of b s) u (sym (among_rows b is u q s) ∙ k)) ∙ eqb-true (owner_of b s) t (sym (among_rows b is t p s) ∙ h)))
 
 module _ (b : Book) (is : IsBook b) (u t : ℕ) (lu : is_live b u ≡ true) (lt : is_live b t ≡ true) (apart : u ≢ t) (none : (k : ℕ) → waits_of b u k ≡ false) (nobody : (a : ℕ) → waits_of b a u ≡ false)
     (owned : List ((ℤ × ℤ) × OwnerPage)) (free : ℕ) (set : (q : SectionPos) → owner_in owned q ≡ cond (is_among (rows_of b u) q) t (owner_of b q))

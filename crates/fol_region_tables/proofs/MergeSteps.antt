@@ -1,21 +1,23 @@
--- Two lists in order, merged.
-use Rattle.std.proofs.Common.{◌≡◌, ℕ, zero, suc, ◌+◌, ◌≤◌, ◌<◌, refl, sym, ◌∙◌, ap, arith, subst, Bool, true, false, ◌||◌, List, [], ◌∷◌, ◌++◌, length, take, drop, get_or, append_assoc, inl, inr, length-append, length-drop, length-take-le, ◌⊎◌}
-use Rattle.std.specs.List.{AllByRecursion}
+-- Sections in order, put among others in order.
+use Rattle.std.proofs.Common.{◌≡◌, ℕ, zero, suc, ◌+◌, ◌-◌, ◌≤◌, ◌<◌, refl, sym, ◌∙◌, ap, arith, subst, Bool, true, false, ◌||◌, List, [], ◌∷◌, ◌++◌, length, take, drop, get_or, append_assoc, inl, inr, length-drop, length-take-le}
+use Rattle.std.specs.List.{AllByRecursion, slice_range}
 use Rattle.std.specs.List.Sorted.{IsStrictlySortedBy}
+use Rattle.std.specs.declared.cmp.Ordering.{Ordering}
 use Rattle.std.specs.declared.cmp.Ordering.TheVariants.{Less, Equal, Greater}
 use Rattle.std.specs.Ordering.{ordering_reverse}
 use Rattle.std.proofs.Math.Bool.{or-false}
-use Rattle.std.proofs.lemmas.List.{append-nil, get_or_default, get_or-drop, take-append-drop, take_more, drop_more, drop_all}
+use Rattle.std.proofs.lemmas.List.{append-nil, drop-take, drop_all, drop_at, get_or-drop, get_or_append_left, get_or_default, take-append-drop, take-append-le, take-take, take_all, take_more}
 use Rattle.std.proofs.lemmas.List.Folds.{list_any-append}
-use Rattle.std.proofs.lemmas.Bool.{cases_lt, or_cases}
+use Rattle.std.proofs.lemmas.Bool.{cases_lt, false≢true, or_cases}
 use Rattle.std.proofs.lemmas.Map.Keys.{Less-from_sorted}
 use Rattle.fol_model.specs.declared.places.SectionPos.{SectionPos}
 use Rattle.fol_model.specs.Geometry.{same_section, is_among}
 use Rattle.fol_model.specs.Universe.{section_cmp}
+use Rattle.fol_lists.specs.Numbered.{shifted}
 use Rattle.fol_laws.proofs.SectionOrder.{sections_tell, section_rows_are}
 use Rattle.fol_laws.proofs.SortedRows.{all_append}
-use Rattle.fol_region_tables.specs.Rows.{IsRow, united}
-use Rattle.fol_region_tables.proofs.Among.{among_more, same_section-swap}
+use Rattle.fol_region_tables.specs.Rows.{united, AreApart, IsRow}
+use Rattle.fol_region_tables.proofs.Among.{among_at}
 
 abbrev pub Sorted : List SectionPos → Type 0
 Sorted xs = IsStrictlySortedBy section_cmp xs
@@ -23,24 +25,6 @@ Sorted xs = IsStrictlySortedBy section_cmp xs
 all_after : (x y : SectionPos) (ys : List SectionPos) → section_cmp x y ≡ Less → AllByRecursion (λ b. section_cmp y b ≡ Less) ys → AllByRecursion (λ b. section_cmp x b ≡ Less) ys
 all_after x y [] l h = tt
 all_after x y (b ∷ ys) l h = (sections_tell.order.trans x y b l h.0, all_after x y ys l h.1)
-
-all_between : (P : SectionPos → Type 0) (out : List SectionPos) (x y : SectionPos) (xs ys : List SectionPos) → AllByRecursion P (out ++ x ∷ xs) → AllByRecursion P (out ++ y ∷ ys) → AllByRecursion P (out ++ x ∷ y ∷ ys)
-all_between P [] x y xs ys a b = (a.0, b)
-all_between P (o ∷ out) x y xs ys a b = (a.0, all_between P out x y xs ys a.1 b.1)
-
--- an element that is before the next one
-between : (out : List SectionPos) (x y : SectionPos) (xs ys : List SectionPos) → section_cmp x y ≡ Less → Sorted (out ++ x ∷ xs) → Sorted (out ++ y ∷ ys) → Sorted (out ++ x ∷ y ∷ ys)
-unfolding IsStrictlySortedBy
-between [] x y xs ys l a b = ((l, all_after x y ys l b.0), b)
-between (o ∷ out) x y xs ys l a b = (all_between (λ b. section_cmp o b ≡ Less) out x y xs ys a.0 b.0, between out x y xs ys l a.1 b.1)
-
-pub record Merged (out xs ys : List SectionPos) (i j : ℕ) : Type 0 where
-  pub first : Sorted (out ++ drop i xs)
-  pub second : Sorted (out ++ drop j ys)
-  pub members : (s : SectionPos) → is_among out s ≡ (is_among (take i xs) s || is_among (take j ys) s)
-  pub few : length out ≤ i + j
-  pub i_in : i ≤ length xs
-  pub j_in : j ≤ length ys
 
 all_first : (P : SectionPos → Type 0) (n : ℕ) (xs : List SectionPos) → AllByRecursion P xs → AllByRecursion P (take n xs)
 all_first P zero xs h = tt
@@ -58,23 +42,6 @@ front_sorted (x ∷ xs) (y ∷ ys) (suc n) d a b l before =
       all_append (λ s. section_cmp x s ≡ Less) (take n xs) (y ∷ ys) (all_first (λ s. section_cmp x s ≡ Less) n xs a.0) (less, all_after x y ys less b.0),
       front_sorted xs (y ∷ ys) n d a.1 b l (λ k h. before (suc k) (omega arith)),
     )
-
-pub front_none : (xs ys : List SectionPos) → Sorted ys → Sorted (take 0 xs ++ ys)
-front_none xs ys b = b
-
--- the front of the first list is merged
-pub merged_front : (xs ys out : List SectionPos) (n : ℕ) → out ≡ [] → IsRow xs → n ≤ length xs → Sorted (take n xs ++ ys) → Merged (take n xs ++ out) xs ys n 0
-merged_front xs ys out n none a l h = subst (λ (zs : List SectionPos). Merged zs xs ys n 0) (sym (ap (λ zs. take n xs ++ zs) none ∙ append-nil (take n xs))) (record {
-  first = subst Sorted (sym (take-append-drop n xs)) a.in_order;
-  second = h;
-  members = λ s. sym (or-false (is_among (take n xs) s));
-  few = omega (arith, length-take-le n xs l);
-  i_in = l;
-  j_in = omega arith;
-})
-
-pub regrouped : (a b c d : List SectionPos) → a ++ ((b ++ c) ++ d) ≡ ((a ++ b) ++ c) ++ d
-regrouped a b c d = simp append_assoc
 
 -- a search by halves: where the place in the middle is before a section
 pub before_more : (xs : List SectionPos) (s : SectionPos) (m k : ℕ) (e d : SectionPos) → Sorted xs → m < length xs → section_cmp (get_or xs m e) s ≡ Less → k < m + 1 → section_cmp (get_or xs k d) s ≡ Less
@@ -95,121 +62,141 @@ behind_more xs s m k e d sorted l n never u h =
       | inr v ↦ let at : m ≡ k = omega arith in never (ap (λ x. section_cmp x s) same ∙ ap (λ i. section_cmp (get_or xs i d) s) at ∙ h)
     ]
 
--- what is left of a list in order is in order
-pub sorted_drop : (n : ℕ) (xs : List SectionPos) → Sorted xs → Sorted (drop n xs)
+-- what stands behind in a list in order is in order
+sorted_behind : (out rest : List SectionPos) → Sorted (out ++ rest) → Sorted rest
 unfolding IsStrictlySortedBy
-sorted_drop zero xs h = h
-sorted_drop (suc n) [] h = h
-sorted_drop (suc n) (x ∷ xs) h = sorted_drop n xs h.1
+sorted_behind [] rest h = h
+sorted_behind (o ∷ out) rest h = sorted_behind out rest h.1
 
-shift : (out rest : List SectionPos) (x : SectionPos) → Sorted (out ++ x ∷ rest) → Sorted ((out ++ x ∷ []) ++ rest)
-shift out rest x h = subst Sorted (sym (append_assoc out (x ∷ []) rest)) h
+-- and what stands in front
+all_front : (P : SectionPos → Type 0) (xs ys : List SectionPos) → AllByRecursion P (xs ++ ys) → AllByRecursion P xs
+all_front P [] ys h = tt
+all_front P (x ∷ xs) ys h = (h.0, all_front P xs ys h.1)
 
-module _ (out xs ys : List SectionPos) (i j : ℕ) (d : SectionPos) (m : Merged out xs ys i j) where
-  among_push : (x s : SectionPos) → is_among (out ++ x ∷ []) s ≡ (is_among out s || same_section x s)
-  among_push x s = list_any-append (same_section s) out (x ∷ []) ∙ ap (λ b. is_among out s || b) (or-false (same_section s x) ∙ same_section-swap s x)
+pub sorted_front : (xs ys : List SectionPos) → Sorted (xs ++ ys) → Sorted xs
+unfolding IsStrictlySortedBy
+sorted_front [] ys h = tt
+sorted_front (x ∷ xs) ys h = (all_front (λ b. section_cmp x b ≡ Less) xs ys h.0, sorted_front xs ys h.1)
 
-  first_at : i < length xs → Sorted (out ++ get_or xs i d ∷ drop (i + 1) xs)
-  first_at l = subst (λ (zs : List SectionPos). Sorted (out ++ zs)) (drop_more xs i d l) m.first
+-- an element before the first one is before all
+before_all : (s : SectionPos) (xs : List SectionPos) (d : SectionPos) → Sorted xs → (0 < length xs → section_cmp s (get_or xs 0 d) ≡ Less) → Sorted (s ∷ xs)
+unfolding IsStrictlySortedBy
+before_all s [] d h l = (tt, tt)
+before_all s (x ∷ xs) d h l = let less : section_cmp s x ≡ Less = l (omega arith) in ((less, all_after s x xs less h.0), h)
 
-  second_at : j < length ys → Sorted (out ++ get_or ys j d ∷ drop (j + 1) ys)
-  second_at l = subst (λ (zs : List SectionPos). Sorted (out ++ zs)) (drop_more ys j d l) m.second
+-- the front `rest` of the list, the first new sections, so many of them, and behind these what was merged, together all sections
+pub record Merging (xs ys rest done : List SectionPos) (left : ℕ) : Type 0 where
+  pub first : Sorted (rest ++ done)
+  pub second : Sorted (take left ys ++ done)
+  pub apart : AreApart rest ys
+  pub members : (s : SectionPos) → ((is_among rest s || is_among (take left ys) s) || is_among done s) ≡ (is_among xs s || is_among ys s)
 
-  grown : (x : SectionPos) → length (out ++ x ∷ []) ≤ i + j + 1
-  grown x = omega (arith, length-append out (x ∷ []), m.few)
+pub merging_none : (xs ys rest done : List SectionPos) (left : ℕ) → rest ≡ xs → done ≡ [] → left ≡ length ys → Sorted xs → Sorted ys → AreApart xs ys → Merging xs ys rest done left
+merging_none xs ys rest done left e f g a b apart =
+    let all : take left ys ≡ ys = take_all left ys (omega (arith, g)) in
+    rw (e, f) (record {
+      first = subst Sorted (sym (append-nil xs)) a;
+      second = subst Sorted (sym (append-nil (take left ys) ∙ all)) b;
+      apart = apart;
+      members = λ s. or-false (is_among xs s || is_among (take left ys) s) ∙ ap (λ zs. is_among xs s || is_among zs s) all;
+    })
 
-  pub take_first : i < length xs → j < length ys → section_cmp (get_or xs i d) (get_or ys j d) ≡ Less → Merged (out ++ get_or xs i d ∷ []) xs ys (i + 1) j
-  take_first l k c = record {
-    first = shift out (drop (i + 1) xs) (get_or xs i d) (first_at l);
-    second = subst (λ (zs : List SectionPos). Sorted ((out ++ get_or xs i d ∷ []) ++ zs)) (sym (drop_more ys j d k))
-        (shift out (get_or ys j d ∷ drop (j + 1) ys) (get_or xs i d) (between out (get_or xs i d) (get_or ys j d) (drop (i + 1) xs) (drop (j + 1) ys) c (first_at l) (second_at k)));
-    members = λ s. among_push (get_or xs i d) s ∙ ap (λ b. b || same_section (get_or xs i d) s) (m.members s) ∙ swap (is_among (take i xs) s) (is_among (take j ys) s) (same_section (get_or xs i d) s)
-        ∙ ap (λ b. b || is_among (take j ys) s) (sym (among_more xs i d s l));
-    few = omega (arith, grown (get_or xs i d));
-    i_in = omega arith;
-    j_in = m.j_in;
+-- where no new section is left
+pub merged_all : (xs ys rest done : List SectionPos) → Merging xs ys rest done 0 → IsRow xs → IsRow ys → rest ++ done ≡ united xs ys
+unfolding united
+merged_all xs ys rest done m a b = (section_rows_are (λ s. is_among xs s || is_among ys s) (rest ++ done) m.first
+    (λ s. list_any-append (same_section s) rest done ∙ ap (λ b. b || is_among done s) (sym (or-false (is_among rest s))) ∙ m.members s)
+    (λ s k. elim (or_cases (is_among xs s) (is_among ys s) k) [ inl e ↦ a.limits s e | inr e ↦ b.limits s e ])).0
+
+-- the last new section goes in behind `at` ones
+module _ (xs ys rest done : List SectionPos) (left at : ℕ) (d : SectionPos) (m : Merging xs ys rest done (left + 1)) (sorted : Sorted ys) (l : left < length ys) (u : at ≤ length rest)
+    (before : (k : ℕ) (e : SectionPos) → k < at → section_cmp (get_or rest k e) (get_or ys left d) ≡ Less)
+    (behind : (k : ℕ) (e : SectionPos) → at ≤ k → k < length rest → section_cmp (get_or rest k e) (get_or ys left d) ≡ Less → ⊥) where
+  abbrev new : SectionPos
+  new = get_or ys left d
+
+  abbrev after : List SectionPos
+  after = drop at rest ++ done
+
+  last : take (left + 1) ys ≡ take left ys ++ new ∷ []
+  last = take_more ys left d l
+
+  parts : take at rest ++ after ≡ rest ++ done
+  parts = sym (append_assoc (take at rest) (drop at rest) done) ∙ ap (λ zs. zs ++ done) (take-append-drop at rest)
+
+  after_sorted : Sorted after
+  after_sorted = sorted_behind (take at rest) after (subst Sorted (sym parts) m.first)
+
+  second : Sorted (take left ys ++ new ∷ done)
+  second = subst Sorted (append_assoc (take left ys) (new ∷ []) done) (subst (λ (zs : List SectionPos). Sorted (zs ++ done)) last m.second)
+
+  -- the first one that it is not behind is behind it, since it is another one
+  less : at < length rest → section_cmp new (get_or rest at d) ≡ Less
+  less h = go (section_cmp (get_or rest at d) new) refl
+    where
+      there : is_among ys new ≡ true
+      there = among_at ys left d l
+
+      go : (o : Ordering) → section_cmp (get_or rest at d) new ≡ o → section_cmp new (get_or rest at d) ≡ Less
+      go Less e = absurd (behind at d (omega arith) h e)
+      go Equal e = let same = sections_tell.same (get_or rest at d) new e in absurd (false≢true (sym (m.apart (get_or rest at d) (among_at rest at d h)) ∙ ap (is_among ys) same ∙ there))
+      go Greater e = sections_tell.order.antisymm new (get_or rest at d) ∙ ap ordering_reverse e
+
+  before_after : Sorted (new ∷ after)
+  unfolding IsStrictlySortedBy
+  before_after = elim (cases_lt at (length rest)) [
+    | inl h ↦ before_all new after d after_sorted (λ _. ap (section_cmp new) (get_or_append_left (drop at rest) done d 0 (omega (arith, h, length-drop at rest)) ∙ get_or-drop at rest 0 d ∙ ap (λ k. get_or rest k d) (let e : at + 0 ≡ at = omega arith in e)) ∙ less h)
+    | inr h ↦ let none : drop at rest ≡ [] = drop_all at rest h in subst (λ (zs : List SectionPos). Sorted (new ∷ (zs ++ done))) (sym none) (sorted_behind (take left ys) (new ∷ done) second)
+  ]
+
+  whole : (s : SectionPos) → (is_among (take at rest) s || is_among (drop at rest) s) ≡ is_among rest s
+  whole s = sym (list_any-append (same_section s) (take at rest) (drop at rest)) ∙ ap (λ zs. is_among zs s) (take-append-drop at rest)
+
+  ends : (s : SectionPos) → (is_among (take left ys) s || same_section s new) ≡ is_among (take (left + 1) ys) s
+  ends s = ap (λ b. is_among (take left ys) s || b) (sym (or-false (same_section s new))) ∙ sym (list_any-append (same_section s) (take left ys) (new ∷ [])) ∙ ap (λ zs. is_among zs s) (sym last)
+
+  pub merging_more : Merging xs ys (take at rest) (new ∷ (drop at rest ++ done)) left
+  merging_more = record {
+    first = front_sorted rest (new ∷ after) at d (sorted_front rest done m.first) before_after (omega arith) (λ k h. before k d h);
+    second = front_sorted ys (new ∷ after) left d sorted before_after (omega arith) (λ k h. Less-from_sorted section_cmp ys k left d sorted h l);
+    apart = λ s h. m.apart s (sym (whole s) ∙ ap (λ b. b || is_among (drop at rest) s) h);
+    members = λ s. ap (λ b. (is_among (take at rest) s || is_among (take left ys) s) || (same_section s new || b)) (list_any-append (same_section s) (drop at rest) done)
+        ∙ five (is_among (take at rest) s) (is_among (take left ys) s) (same_section s new) (is_among (drop at rest) s) (is_among done s)
+        ∙ ap (λ b. (b || (is_among (take left ys) s || same_section s new)) || is_among done s) (whole s)
+        ∙ ap (λ b. (is_among rest s || b) || is_among done s) (ends s) ∙ m.members s;
   }
     where
-      swap : (a b e : Bool) → ((a || b) || e) ≡ ((a || e) || b)
-      swap true b e = refl
-      swap false true true = refl
-      swap false true false = refl
-      swap false false true = refl
-      swap false false false = refl
+      five : (a b e f g : Bool) → ((a || b) || (e || (f || g))) ≡ (((a || f) || (b || e)) || g)
+      five true b e f g = refl
+      five false true e true g = refl
+      five false true e false g = refl
+      five false false true true g = refl
+      five false false true false g = refl
+      five false false false true g = refl
+      five false false false false g = refl
 
-  pub take_second : i < length xs → j < length ys → section_cmp (get_or ys j d) (get_or xs i d) ≡ Less → Merged (out ++ get_or ys j d ∷ []) xs ys i (j + 1)
-  take_second l k c = record {
-    first = subst (λ (zs : List SectionPos). Sorted ((out ++ get_or ys j d ∷ []) ++ zs)) (sym (drop_more xs i d l))
-        (shift out (get_or xs i d ∷ drop (i + 1) xs) (get_or ys j d) (between out (get_or ys j d) (get_or xs i d) (drop (j + 1) ys) (drop (i + 1) xs) c (second_at k) (first_at l)));
-    second = shift out (drop (j + 1) ys) (get_or ys j d) (second_at k);
-    members = λ s. among_push (get_or ys j d) s ∙ ap (λ b. b || same_section (get_or ys j d) s) (m.members s) ∙ right (is_among (take i xs) s) (is_among (take j ys) s) (same_section (get_or ys j d) s)
-        ∙ ap (λ b. is_among (take i xs) s || b) (sym (among_more ys j d s k));
-    few = omega (arith, grown (get_or ys j d));
-    i_in = m.i_in;
-    j_in = omega arith;
-  }
-    where
-      right : (a b e : Bool) → ((a || b) || e) ≡ (a || (b || e))
-      right true b e = refl
-      right false b e = refl
+-- the row, whose front is not merged yet, and behind a gap what was merged, after a step
+pub merging_shifted : (xs ys row : List SectionPos) (start end left k : ℕ) (d : SectionPos) → left ≡ k + 1 → Merging xs ys (take end row) (drop (end + left) row) left → Sorted ys → left ≤ length ys → end + left ≤ length row → start ≤ length (take end row)
+    → ((n : ℕ) (e : SectionPos) → n < start → section_cmp (get_or (take end row) n e) (get_or ys k d) ≡ Less)
+    → ((n : ℕ) (e : SectionPos) → start ≤ n → n < length (take end row) → section_cmp (get_or (take end row) n e) (get_or ys k d) ≡ Less → ⊥)
+    → Merging xs ys (take start (shifted row start end k (get_or ys k d))) (drop (start + k) (shifted row start end k (get_or ys k d))) k
+merging_shifted xs ys row start end left k d one m sorted l fits u before behind =
+    let new = get_or ys k d in
+    let long : length (take end row) ≡ end = length-take-le end row (omega (arith, fits)) in
+    let first : length (take (start + k) row) ≡ start + k = length-take-le (start + k) row (omega (arith, fits, one, u, long)) in
+    let tail = new ∷ (slice_range row start end ++ drop (end + suc k) row) in
+    let front : take start (take end row) ≡ take start (shifted row start end k new) =
+    take-take start end row (omega (arith, u, long)) ∙ sym (take-append-le start (take (start + k) row) tail (omega (arith, first)) ∙ take-take start (start + k) row (omega arith)) in
+    let middle : drop start (take end row) ≡ slice_range row start end = ap (λ n. drop start (take n row)) (let e : end ≡ start + (end - start) = omega (arith, u, long) in e) ∙ drop-take start (end - start) row in
+    let last : end + left ≡ end + suc k = omega (arith, one) in
+    let back : new ∷ (drop start (take end row) ++ drop (end + left) row) ≡ drop (start + k) (shifted row start end k new) =
+    (λ i. new ∷ (middle i ++ drop (last i) row)) ∙ sym (drop_at (take (start + k) row) tail (start + k) first) in
+    subst (λ (zs : List SectionPos). Merging xs ys zs (drop (start + k) (shifted row start end k new)) k) front
+    (subst (λ (zs : List SectionPos). Merging xs ys (take start (take end row)) zs k) back
+    (merging_more xs ys (take end row) (drop (end + left) row) k start d (subst (Merging xs ys (take end row) (drop (end + left) row)) one m) sorted (omega (arith, l, one)) u before behind))
 
-  pub take_both : i < length xs → j < length ys → section_cmp (get_or xs i d) (get_or ys j d) ≡ Equal → Merged (out ++ get_or xs i d ∷ []) xs ys (i + 1) (j + 1)
-  take_both l k c =
-      let e : get_or xs i d ≡ get_or ys j d = sections_tell.same (get_or xs i d) (get_or ys j d) c in
-      record {
-        first = shift out (drop (i + 1) xs) (get_or xs i d) (first_at l);
-        second = shift out (drop (j + 1) ys) (get_or xs i d) (subst (λ (x : SectionPos). Sorted (out ++ x ∷ drop (j + 1) ys)) (sym e) (second_at k));
-        members = λ s. among_push (get_or xs i d) s ∙ ap (λ b. b || same_section (get_or xs i d) s) (m.members s) ∙ twice (is_among (take i xs) s) (is_among (take j ys) s) (same_section (get_or xs i d) s)
-            ∙ ap (λ b. (is_among (take i xs) s || same_section (get_or xs i d) s) || (is_among (take j ys) s || b)) (ap (λ (x : SectionPos). same_section x s) e)
-            ∙ ap (λ b. b || (is_among (take j ys) s || same_section (get_or ys j d) s)) (sym (among_more xs i d s l))
-            ∙ ap (λ b. is_among (take (i + 1) xs) s || b) (sym (among_more ys j d s k));
-        few = omega (arith, grown (get_or xs i d));
-        i_in = omega arith;
-        j_in = omega arith;
-      }
-    where
-      twice : (a b e : Bool) → ((a || b) || e) ≡ ((a || e) || (b || e))
-      twice true b e = refl
-      twice false true true = refl
-      twice false true false = refl
-      twice false false true = refl
-      twice false false false = refl
-
-  pub second_less : section_cmp (get_or xs i d) (get_or ys j d) ≡ Greater → section_cmp (get_or ys j d) (get_or xs i d) ≡ Less
-  second_less e = sections_tell.order.antisymm (get_or ys j d) (get_or xs i d) ∙ ap ordering_reverse e
-
-  -- where one list is used up, the rest of the other follows
-  pub merged_all : IsRow xs → IsRow ys → (length xs ≤ i) ⊎ (length ys ≤ j) → (out ++ drop i xs) ++ drop j ys ≡ united xs ys
-  unfolding united
-  merged_all a b h = (section_rows_are (λ s. is_among xs s || is_among ys s) ((out ++ drop i xs) ++ drop j ys) (in_order h)
-      (λ s. list_any-append (same_section s) (out ++ drop i xs) (drop j ys) ∙ ap (λ b. b || is_among (drop j ys) s) (list_any-append (same_section s) out (drop i xs)) ∙ ap (λ b. (b || is_among (drop i xs) s) || is_among (drop j ys) s) (m.members s)
-      ∙ four (is_among (take i xs) s) (is_among (take j ys) s) (is_among (drop i xs) s) (is_among (drop j ys) s)
-      ∙ ap (λ b. b || (is_among (take j ys) s || is_among (drop j ys) s)) (sym (list_any-append (same_section s) (take i xs) (drop i xs)) ∙ ap (λ zs. is_among zs s) (take-append-drop i xs))
-      ∙ ap (λ b. is_among xs s || b) (sym (list_any-append (same_section s) (take j ys) (drop j ys)) ∙ ap (λ zs. is_among zs s) (take-append-drop j ys)))
-      (λ s k. elim (or_cases (is_among xs s) (is_among ys s) k) [ inl e ↦ a.limits s e | inr e ↦ b.limits s e ])).0
-    where
-      in_order : (length xs ≤ i) ⊎ (length ys ≤ j) → Sorted ((out ++ drop i xs) ++ drop j ys)
-      in_order (inl l) = subst (λ (zs : List SectionPos). Sorted ((out ++ zs) ++ drop j ys)) (sym (drop_all i xs l)) (subst (λ (zs : List SectionPos). Sorted (zs ++ drop j ys)) (sym (append-nil out)) m.second)
-      in_order (inr l) = subst (λ (zs : List SectionPos). Sorted ((out ++ drop i xs) ++ zs)) (sym (drop_all j ys l)) (subst Sorted (sym (append-nil (out ++ drop i xs))) m.first)
-
-      four : (a b e f : Bool) → (((a || b) || e) || f) ≡ ((a || e) || (b || f))
-      four true b e f = refl
-      four false true true f = refl
-      four false true false f = refl
-      four false false true f = refl
-      four false false false f = refl
-
--- several of the first list, all before the next one of the second
-pub take_run : (out xs ys : List SectionPos) (i j : ℕ) (d : SectionPos) (run : ℕ) → Merged out xs ys i j → i + run ≤ length xs → j < length ys
-    → ((k : ℕ) → k < run → section_cmp (get_or xs (i + k) d) (get_or ys j d) ≡ Less) → Merged (out ++ take run (drop i xs)) xs ys (i + run) j
-take_run out xs ys i j d zero m l k less = let n : i + 0 ≡ i = omega arith in rw (append-nil out, n) m
-take_run out xs ys i j d (suc n) m l k less =
-    let before = take_run out xs ys i j d n m (omega (arith, l)) k (λ q h. less q (omega (arith, h))) in
-    let next = take_first (out ++ take n (drop i xs)) xs ys (i + n) j d before (omega (arith, l)) k (less n (omega arith)) in
-    let step : suc n ≡ n + 1 = omega arith in
-    let one : take (suc n) (drop i xs) ≡ take n (drop i xs) ++ get_or xs (i + n) d ∷ [] =
-    ap (λ q. take q (drop i xs)) step ∙ take_more (drop i xs) n d (omega (arith, l, length-drop i xs))
-    ∙ ap (λ (x : SectionPos). take n (drop i xs) ++ x ∷ []) (get_or-drop i xs n d) in
-    let items : (out ++ take n (drop i xs)) ++ get_or xs (i + n) d ∷ [] ≡ out ++ take (suc n) (drop i xs) = append_assoc out (take n (drop i xs)) (get_or xs (i + n) d ∷ []) ∙ ap (λ zs. out ++ zs) (sym one) in
-    let e : (i + n) + 1 ≡ i + suc n = omega arith in
-    subst (λ (zs : List SectionPos). Merged zs xs ys (i + suc n) j) items (subst (λ (q : ℕ). Merged ((out ++ take n (drop i xs)) ++ get_or xs (i + n) d ∷ []) xs ys q j) e next)
+pub merged_row : (xs ys row : List SectionPos) (end left : ℕ) → left ≤ 0 → Merging xs ys (take end row) (drop (end + left) row) left → IsRow xs → IsRow ys → row ≡ united xs ys
+merged_row xs ys row end left l m a b =
+    let none : left ≡ 0 = omega (arith, l) in
+    let all : end + left ≡ end = omega (arith, l) in
+    sym (take-append-drop end row) ∙ ap (λ n. take end row ++ drop n row) (sym all) ∙ merged_all xs ys (take end row) (drop (end + left) row) (subst (Merging xs ys (take end row) (drop (end + left) row)) none m) a b

@@ -1,5 +1,5 @@
 -- Lists of sections, each in order, by number.
-use Rattle.std.specs.Prelude.{◌≡◌, ℕ, ◌≤◌, true, ◌||◌, List, filter}
+use Rattle.std.specs.Prelude.{◌≡◌, ℕ, ◌≤◌, true, false, ◌||◌, List, filter}
 use Rattle.std.specs.List.Sorted.{IsStrictlySortedBy}
 use Rattle.fol_model.specs.declared.places.TheConstants.{MOST_SECTIONS}
 use Rattle.fol_model.specs.declared.places.SectionPos.{SectionPos}
@@ -15,8 +15,12 @@ pub record IsRow (xs : List SectionPos) : Type 0 where
   pub in_order : IsStrictlySortedBy section_cmp xs
   pub limits : (s : SectionPos) → is_among xs s ≡ true → is_section s ≡ true
 
+-- no section is among both
+abbrev pub AreApart : List SectionPos → List SectionPos → Type 0
+AreApart xs ys = (s : SectionPos) → is_among xs s ≡ true → is_among ys s ≡ false
+
 -- there is room for all present sections
-pub record AreRows (total room in_made : ℕ) : Type 0 where
+pub record AreRows (total room in_moved : ℕ) : Type 0 where
   pub fits : total ≤ MOST_SECTIONS
   pub most : room ≡ MOST_SECTIONS
-  pub made : MOST_SECTIONS ≤ in_made
+  pub moved : MOST_SECTIONS ≤ in_moved

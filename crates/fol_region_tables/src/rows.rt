@@ -9,7 +9,7 @@ ghost use Rattle.fol_lists.specs.Numbered.{list_at, total, with_list, with_numbe
 ghost use Rattle.fol_model.specs.declared.places.SectionPos.{SectionPos};
 ghost use Rattle.fol_model.specs.Geometry.{is_section};
 ghost use Rattle.fol_model.specs.Universe.{section_cmp};
-ghost use Rattle.fol_region_tables.specs.Rows.{united, IsRow};
+ghost use Rattle.fol_region_tables.specs.Rows.{united, AreApart, IsRow};
 
 use fol_lists::Lists;
 use fol_model::{MOST_SECTIONS, SectionPos};
@@ -21,8 +21,8 @@ use std::marker::Model;
 #[derive(Drop)]
 pub struct Rows {
     lists: Lists<SectionPos>,
-    /// Where the part of a list is made that takes the place of what lies behind the first sections.
-    made: Vec<SectionPos>,
+    /// Where the sections of a list wait that another list takes over.
+    moved: Vec<SectionPos>,
 }
 
 impl Model for Rows {
@@ -35,7 +35,7 @@ impl Model for Rows {
 
     ghost view = { λ s. s.lists };
 
-    ghost invariant = { λ s. AreRows (total s.lists) s.lists.room (vec_capacity s.made) };
+    ghost invariant = { λ s. AreRows (total s.lists) s.lists.room (vec_capacity s.moved) };
 }
 
 impl Rows {
@@ -48,7 +48,7 @@ impl Rows {
     {
         Ok(Rows {
             lists: Lists::new(alloc, numbers, MOST_SECTIONS)?,
-            made: Vec::with_capacity(alloc, MOST_SECTIONS)?,
+            moved: Vec::with_capacity(alloc, MOST_SECTIONS)?,
         })
     }
 
@@ -60,7 +60,7 @@ impl Rows {
         lists.reserve_numbers(numbers)?;
         Ok(Rows {
             lists,
-            made: Vec::with_capacity(alloc, MOST_SECTIONS)?,
+            moved: Vec::with_capacity(alloc, MOST_SECTIONS)?,
         })
     }
 
@@ -89,39 +89,49 @@ impl Rows {
         self.lists.put(n, sections);
     }
 
-    /// Adds the sections of a list in order.
+    /// Adds sections in order, none of which is in the list.
     pub fn unite(&mut self, n: usize, sections: &[SectionPos])
         requires number { n < length self.old.lists }
         requires row { IsRow (list_at self.old n) }
         requires sections { IsRow sections.now }
+        requires apart { AreApart (list_at self.old n) sections.now }
         requires room { total self.old + length sections.now ≤ MOST_SECTIONS }
         ensures { self.new ≡ with_list self.old n (united (list_at self.old n) sections.now) }
     {
-        self.made.clear();
-        let row = self.lists.get(n);
-        let kept = front(row, sections);
-        merge(row, sections, kept, &mut self.made);
-        self.lists.put_behind(n, kept, &self.made);
+        add(&mut self.lists, n, sections);
     }
 
-    /// Adds the sections of another list, which is empty from then on.
+    /// Adds the sections of another list, none of which is in this one. The other is empty from then on.
     pub fn join(&mut self, n: usize, other: usize)
         requires number { n < length self.old.lists }
         requires other { other < length self.old.lists }
-        requires apart { n ≢ other }
+        requires lists { n ≢ other }
         requires row { IsRow (list_at self.old n) }
         requires other_row { IsRow (list_at self.old other) }
+        requires apart { AreApart (list_at self.old n) (list_at self.old other) }
         ensures { self.new ≡ with_list (with_list self.old other []) n
             (united (list_at self.old n) (list_at self.old other)) }
     {
-        self.made.clear();
-        let row = self.lists.get(n);
-        let joined = self.lists.get(other);
-        let kept = front(row, joined);
-        merge(row, joined, kept, &mut self.made);
+        self.moved.clear();
+        let _ = self.moved.extend_from_slice(self.lists.get(other));
         self.lists.clear(other);
-        self.lists.put_behind(n, kept, &self.made);
+        add(&mut self.lists, n, &self.moved);
     }
+}
+
+/// Adds sections in order to a list in order, which has none of them.
+fn add(lists: &mut Lists<SectionPos>, n: usize, sections: &[SectionPos])
+    requires number { n < length lists.old.lists }
+    requires row { IsRow (list_at lists.old n) }
+    requires sections { IsRow sections.now }
+    requires apart { AreApart (list_at lists.old n) sections.now }
+    requires room { total lists.old + length sections.now ≤ lists.old.room }
+    ensures added { lists.new ≡ with_list lists.old n (united (list_at lists.old n) sections.now) }
+    ensures total { total lists.new ≡ total lists.old + length sections.now }
+{
+    let len = lists.get(n).len();
+    lists.extend(n, sections);
+    merge(lists, n, len, sections);
 }
 
 /// The order by `z`, and then by `x`.
@@ -131,7 +141,7 @@ fn compare(a: SectionPos, b: SectionPos) -> Ordering
     (a.z, a.x).cmp(&(b.z, b.x))
 }
 
-/// How many sections at the front of a list in order are before a section.
+/// How many sections at the front of a list in order are before a section. Most often all are, so the last one is looked at first.
 fn count_before(xs: &[SectionPos], s: SectionPos) -> usize
     requires { IsStrictlySortedBy section_cmp xs.now }
     ensures few { result ≤ length xs.now }
@@ -142,63 +152,36 @@ fn count_before(xs: &[SectionPos], s: SectionPos) -> usize
 {
     let mut low = 0;
     let mut high = xs.len();
+    let mut probe = high.saturating_sub(1);
     while low < high {
-        let middle = low + (high - low) / 2;
-        match compare(xs[middle], s) {
-            Ordering::Less => low = middle + 1,
-            _ => high = middle,
+        match compare(xs[probe], s) {
+            Ordering::Less => low = probe + 1,
+            _ => high = probe,
         }
+        probe = low + (high - low) / 2;
     }
     low
 }
 
-/// How many sections at the front of the first list are before all of the second; none where that has none.
-fn front(xs: &[SectionPos], ys: &[SectionPos]) -> usize
-    requires xs { IsStrictlySortedBy section_cmp xs.now }
-    requires ys { IsStrictlySortedBy section_cmp ys.now }
-    ensures few { result ≤ length xs.now }
-    ensures sorted { IsStrictlySortedBy section_cmp (take result xs.now ++ ys.now) }
+/// Merges sections in order into a list whose first `len` are in order too and are none of these, and which has as many places
+/// more. What comes behind the first new section moves once, and nothing before it.
+fn merge(lists: &mut Lists<SectionPos>, n: usize, len: usize, sections: &[SectionPos])
+    requires number { n < length lists.old.lists }
+    requires row { IsRow (take len (list_at lists.old n)) }
+    requires sections { IsRow sections.now }
+    requires apart { AreApart (take len (list_at lists.old n)) sections.now }
+    requires long { length (list_at lists.old n) ≡ len + length sections.now }
+    ensures united { lists.new ≡ with_list lists.old n
+        (united (take len (list_at lists.old n)) sections.now) }
+    ensures total { total lists.new ≡ total lists.old }
 {
-    if ys.is_empty() {
-        0
-    } else {
-        count_before(xs, ys[0])
+    let mut end = len;
+    let mut left = sections.len();
+    while 0 < left {
+        left -= 1;
+        let section = sections[left];
+        let at = count_before(&lists.get(n)[..end], section);
+        lists.shift_in(n, at, end, left, section);
+        end = at;
     }
-}
-
-/// Puts the sections of two lists, each in order, into an empty list with room for them, in order, but for the first ones of the
-/// first list, so many of them, all of which are before the second list.
-fn merge(xs: &[SectionPos], ys: &[SectionPos], kept: usize, out: &mut Vec<SectionPos>)
-    requires xs { IsRow xs.now }
-    requires ys { IsRow ys.now }
-    requires kept { kept ≤ length xs.now }
-    requires front { IsStrictlySortedBy section_cmp (take kept xs.now ++ ys.now) }
-    requires none { out.old.items ≡ [] }
-    requires room { length xs.now + length ys.now ≤ vec_capacity out.old }
-    ensures united { take kept xs.now ++ out.new.items ≡ united xs.now ys.now }
-    ensures few { kept + length out.new.items ≤ length xs.now + length ys.now }
-    ensures room { vec_capacity out.old ≤ vec_capacity out.new }
-{
-    let mut i = kept;
-    let mut j = 0;
-    while i < xs.len() && j < ys.len() {
-        match compare(xs[i], ys[j]) {
-            Ordering::Less => {
-                let run = count_before(&xs[i..], ys[j]);
-                let _ = out.extend_from_slice(&xs[i..i + run]);
-                i += run;
-            }
-            Ordering::Equal => {
-                let _ = out.push(xs[i]);
-                i += 1;
-                j += 1;
-            }
-            Ordering::Greater => {
-                let _ = out.push(ys[j]);
-                j += 1;
-            }
-        }
-    }
-    let _ = out.extend_from_slice(&xs[i..]);
-    let _ = out.extend_from_slice(&ys[j..]);
 }

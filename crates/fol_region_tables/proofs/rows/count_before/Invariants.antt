@@ -9,6 +9,8 @@ abbrev pub invariant-loop-low : goal.invariant-loop-low
 invariant-loop-low l = record {
   inside : l.low ≤ l.high;
   few : l.high ≤ length l.xs;
+  low_probe : l.low < l.high → l.low ≤ l.probe;
+  high_probe : l.low < l.high → l.probe < l.high;
   before : (k : ℕ) (d : SectionPos) → k < l.low → section_cmp (get_or l.xs k d) l.s ≡ Less;
   behind : (k : ℕ) (d : SectionPos) → l.high ≤ k → k < length l.xs → section_cmp (get_or l.xs k d) l.s ≢ Less;
 }

@@ -1,113 +1,55 @@
-use Rattle.std.proofs.Common.{◌+◌, ◌++◌, sym, ◌∙◌, ap, append_assoc, arith, subst, length, take, drop, length-append, length-drop, length-take-le, List, inl, inr, ◌≡◌, ◌<◌, ◌≤◌, ◌-◌, ℕ, get_or}
+use Rattle.std.proofs.Common.{◌≡◌, ◌-◌, ◌<◌, refl, ◌∙◌, sym, ap, arith, get_or, length, take}
 use Rattle.std.specs.Prelude.{pos}
-use Rattle.std.specs.declared.cmp.Ordering.TheVariants.{Less}
-use Rattle.std.proofs.lemmas.List.{get_or-drop, take_rest}
-use Rattle.fol_model.specs.Universe.{section_cmp}
+use Rattle.std.proofs.lemmas.List.{drop_all, length-set, length-take-le}
+use Rattle.fol_lists.specs.Numbered.{list_at, shifted, total, with_list}
+use Rattle.fol_lists.proofs.Shifted.{length_shifted}
 use Rattle.fol_model.specs.declared.places.SectionPos.{SectionPos}
-use Rattle.fol_region_tables.proofs.MergeSteps.{Merged, merged_front, regrouped, sorted_drop, take_run, take_second, take_both, second_less, merged_all}
+use Rattle.fol_region_tables.proofs.MergeSteps.{merged_row, merging_none, merging_shifted, sorted_front}
+use Rattle.fol_region_tables.proofs.Totals.{list_with, total_with, with_own, with_with}
 use Rattle.fol_region_tables.proofs.rows.merge.Goals as goal
-use Rattle.fol_region_tables.proofs.rows.merge.Goals.{then-loop-i-test+else-j-ys, else-loop-i-test}
 
 abbrev place : SectionPos
 place = record { x = pos 0; z = pos 0 }
 
-pub loop-i-init : goal.loop-i-init
-loop-i-init c = record {
-  merged = merged_front c.args.xs.now c.args.ys.now c.args.out.now.items c.args.kept c.requires.none c.requires.xs c.requires.kept c.requires.front;
-  room = omega arith;
+pub loop-left-init : goal.loop-left-init
+loop-left-init c = record {
+  lists = with_own c.args.lists.now c.args.n;
+  long = c.requires.long;
+  few = omega arith;
+  few_left = omega arith;
+  merging = merging_none _ _ _ _ _ refl (drop_all _ (list_at c.args.lists.now c.args.n) (omega (arith, c.requires.long))) refl c.requires.row.in_order c.requires.sections.in_order c.requires.apart;
 }
 
--- the run of the first list that is before the next one of the second
-pub count_before-run-requires : goal.count_before-run-requires
-count_before-run-requires c = let e = take_rest c.args.xs.now c.loop-i.i in rw e (sorted_drop c.loop-i.i c.args.xs.now c.requires.xs.in_order)
+pub count_before-at-requires : goal.count_before-at-requires
+count_before-at-requires c = rw c.get.ensures (sorted_front _ _ c.loop-left.invariant.merging.first)
 
-pub loop-i-preserved-in-Less : goal.loop-i-preserved-in-Less
-loop-i-preserved-in-Less c =
-    let xs = c.args.xs.now in
-    let front = take c.args.kept xs in
-    let i = c.loop-i.i in
-    let run = c.count_before-run.result in
-    let m = c.loop-i.invariant.merged in
-    let rest = take_rest xs i in
-    let few : i + run ≤ length xs = omega (arith, c.count_before-run.ensures.few, ap length rest, length-drop i xs, c.loop-i-test.true) in
-    let piece : take ((i + run) - i) (drop i xs) ≡ take run (drop i xs) = ap (λ k. take k (drop i xs)) (omega arith) in
-    let less : (k : ℕ) → k < run → section_cmp (get_or xs (i + k) place) (get_or c.args.ys.now c.loop-i.j place) ≡ Less
-    = λ k l. ap (λ (s : SectionPos). section_cmp s (get_or c.args.ys.now c.loop-i.j place)) (sym (ap (λ (zs : List SectionPos). get_or zs k place) rest ∙ get_or-drop i xs k place)) ∙ c.count_before-run.ensures.before k place l in
-    let ok = c.extend_from_slice.ensures.succeeds (omega (arith, m.few, length-append front c.loop-i.out.items, c.loop-i.invariant.room, c.requires.room, c.if-j-ys.true, few, ap length piece, length-take-le run (drop i xs) (omega (arith, few, length-drop i xs)))) in
-    let items = rw (ok, piece) at c.extend_from_slice.ensures.items in
+pub loop-left-preserved : goal.loop-left-preserved
+loop-left-preserved c =
+    let is = c.loop-left.invariant in
+    let row = list_at c.loop-left.lists c.args.n in
+    let end = c.loop-left.end in
+    let k = c.loop-left.left - 1 in
+    let new = get_or c.args.sections.now k place in
+    let start = c.count_before-at.result in
+    let few = rw c.get.ensures at c.count_before-at.ensures.few in
+    let before = rw c.get.ensures at c.count_before-at.ensures.before in
+    let behind = rw c.get.ensures at c.count_before-at.ensures.behind in
+    let long : length (take end row) ≡ end = length-take-le end row (omega (arith, is.long, is.few)) in
+    let next = shifted row start end k new in
+    let number : c.args.n < length c.loop-left.lists.lists = omega (arith, c.requires.number, ap (λ v. length v.lists) is.lists, length-set c.args.lists.now.lists c.args.n row) in
+    let listed : list_at c.shift_in.new.self c.args.n ≡ next = ap (λ v. list_at v c.args.n) c.shift_in.ensures ∙ list_with c.loop-left.lists c.args.n next number in
     record {
-      merged = subst (λ (zs : List SectionPos). Merged zs xs c.args.ys.now (i + run) c.loop-i.j) (append_assoc front c.loop-i.out.items _ ∙ ap (λ zs. front ++ zs) (sym items))
-          (take_run (front ++ c.loop-i.out.items) xs c.args.ys.now i c.loop-i.j place run m few c.if-j-ys.true less);
-      room = omega (arith, c.extend_from_slice.ensures.capacity, c.loop-i.invariant.room);
-    }
-
-pub loop-i-preserved-in-Equal : goal.loop-i-preserved-in-Equal
-loop-i-preserved-in-Equal c =
-    let m = c.loop-i.invariant.merged in
-    let ok = c.push.ensures.succeeds (omega (arith, m.few, length-append (take c.args.kept c.args.xs.now) c.loop-i.out.items, c.loop-i.invariant.room, c.requires.room, c.loop-i-test.true, c.if-j-ys.true)) in
-    let items = rw ok at c.push.ensures.items in
-    record {
-      merged = subst (λ (zs : List SectionPos). Merged zs c.args.xs.now c.args.ys.now (c.loop-i.i + 1) (c.loop-i.j + 1)) (append_assoc (take c.args.kept c.args.xs.now) c.loop-i.out.items _ ∙ ap (λ zs. take c.args.kept c.args.xs.now ++ zs) (sym items))
-          (take_both (take c.args.kept c.args.xs.now ++ c.loop-i.out.items) c.args.xs.now c.args.ys.now c.loop-i.i c.loop-i.j place m c.loop-i-test.true c.if-j-ys.true (sym c.compare.ensures ∙ c.in-Equal.is));
-      room = omega (arith, c.push.ensures.capacity, c.loop-i.invariant.room);
-    }
-
-pub loop-i-preserved : goal.loop-i-preserved
-loop-i-preserved c =
-    let m = c.loop-i.invariant.merged in
-    let ok = c.push-in-Greater.ensures.succeeds (omega (arith, m.few, length-append (take c.args.kept c.args.xs.now) c.loop-i.out.items, c.loop-i.invariant.room, c.requires.room, c.loop-i-test.true, c.if-j-ys.true)) in
-    let items = rw ok at c.push-in-Greater.ensures.items in
-    record {
-      merged = subst (λ (zs : List SectionPos). Merged zs c.args.xs.now c.args.ys.now c.loop-i.i (c.loop-i.j + 1)) (append_assoc (take c.args.kept c.args.xs.now) c.loop-i.out.items _ ∙ ap (λ zs. take c.args.kept c.args.xs.now ++ zs) (sym items))
-          (take_second (take c.args.kept c.args.xs.now ++ c.loop-i.out.items) c.args.xs.now c.args.ys.now c.loop-i.i c.loop-i.j place m c.loop-i-test.true c.if-j-ys.true
-          (second_less (take c.args.kept c.args.xs.now ++ c.loop-i.out.items) c.args.xs.now c.args.ys.now c.loop-i.i c.loop-i.j place m (sym c.compare.ensures ∙ c.in-Greater.is)));
-      room = omega (arith, c.push-in-Greater.ensures.capacity, c.loop-i.invariant.room);
+      lists = c.shift_in.ensures ∙ ap (λ v. with_list v c.args.n next) is.lists ∙ with_with c.args.lists.now c.args.n row next ∙ ap (with_list c.args.lists.now c.args.n) (sym listed);
+      long = ap length listed ∙ length_shifted row start end k new (omega (arith, few, long)) (omega (arith, is.long, is.few, is.few_left, c.loop-left-test.true)) ∙ is.long;
+      few = omega (arith, few, long, is.few);
+      few_left = omega (arith, is.few_left);
+      merging = rw listed (merging_shifted _ _ row start end c.loop-left.left k place (omega (arith, c.loop-left-test.true)) is.merging c.requires.sections.in_order is.few_left (omega (arith, is.long, is.few, is.few_left)) few before behind);
     }
 
 pub returns-clause-united : goal.returns-clause-united
-returns-clause-united c =
-    let m = c.loop-i.invariant.merged in
-    let xs = c.args.xs.now in
-    let ys = c.args.ys.now in
-    let front = take c.args.kept xs in
-    let out = c.loop-i.out.items in
-    let i = c.loop-i.i in
-    let j = c.loop-i.j in
-    let ok = c.extend_from_slice-2.ensures.succeeds (omega (arith, m.few, length-append front out, m.i_in, m.j_in, c.loop-i.invariant.room, c.requires.room, length-drop i xs, ap length (take_rest xs i))) in
-    let first = rw (ok, take_rest xs i) at c.extend_from_slice-2.ensures.items in
-    let ok2 = c.extend_from_slice-3.ensures.succeeds
-    (omega (arith, m.few, length-append front out, m.i_in, m.j_in, c.loop-i.invariant.room, c.requires.room, length-drop i xs, length-drop j ys, ap length (take_rest ys j), ap length first, length-append out (drop i xs), c.extend_from_slice-2.ensures.capacity)) in
-    let second = rw (ok2, take_rest ys j) at c.extend_from_slice-3.ensures.items in
-    ap (λ zs. front ++ zs) (second ∙ ap (λ zs. zs ++ drop j ys) first) ∙ regrouped front out (drop i xs) (drop j ys) ∙ merged_all (front ++ out) xs ys i j place m c.requires.xs c.requires.ys (elim c.loop-i-test.branch [
-      | then-loop-i-test+else-j-ys w ↦ inr w.if-j-ys.false
-      | else-loop-i-test w ↦ inl w.loop-i-test.false
-    ])
+returns-clause-united c = c.loop-left.invariant.lists ∙ ap (with_list c.args.lists.now c.args.n) (merged_row _ _ _ _ _ c.loop-left-test.false c.loop-left.invariant.merging c.requires.row c.requires.sections)
 
-pub returns-clause-few : goal.returns-clause-few
-returns-clause-few c =
-    let m = c.loop-i.invariant.merged in
-    let xs = c.args.xs.now in
-    let ys = c.args.ys.now in
-    let front = take c.args.kept xs in
-    let out = c.loop-i.out.items in
-    let i = c.loop-i.i in
-    let j = c.loop-i.j in
-    let ok = c.extend_from_slice-2.ensures.succeeds (omega (arith, m.few, length-append front out, m.i_in, m.j_in, c.loop-i.invariant.room, c.requires.room, length-drop i xs, ap length (take_rest xs i))) in
-    let first = rw (ok, take_rest xs i) at c.extend_from_slice-2.ensures.items in
-    let ok2 = c.extend_from_slice-3.ensures.succeeds
-    (omega (arith, m.few, length-append front out, m.i_in, m.j_in, c.loop-i.invariant.room, c.requires.room, length-drop i xs, length-drop j ys, ap length (take_rest ys j), ap length first, length-append out (drop i xs), c.extend_from_slice-2.ensures.capacity)) in
-    let second = rw (ok2, take_rest ys j) at c.extend_from_slice-3.ensures.items in
-    omega (
-      arith,
-      m.few,
-      length-append front out,
-      length-take-le c.args.kept xs c.requires.kept,
-      m.i_in,
-      m.j_in,
-      length-drop i xs,
-      length-drop j ys,
-      ap length first,
-      ap length second,
-      length-append out (drop i xs),
-      length-append c.extend_from_slice-2.new.self.items (drop j ys),
-    )
+pub returns-clause-total : goal.returns-clause-total
+returns-clause-total c =
+    let is = c.loop-left.invariant in
+    omega (arith, ap total is.lists, total_with c.args.lists.now c.args.n (list_at c.loop-left.lists c.args.n) c.requires.number, is.long, c.requires.long)

@@ -9,5 +9,5 @@ invariant_of-self c =
     record {
       fits = omega (arith, ap total c.clear.ensures, total_with c.self.inside.lists c.args.n [] number, c.self.invariant.fits);
       most = omega (arith, ap (λ v. v.room) c.clear.ensures, c.self.invariant.most);
-      made = c.self.invariant.made;
+      moved = c.self.invariant.moved;
     }

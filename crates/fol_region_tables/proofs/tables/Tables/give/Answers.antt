@@ -6,6 +6,7 @@ use Rattle.fol_region_tables.specs.Book.{Book, owner_of, rows_of}
 use Rattle.fol_region_tables.proofs.BookFacts.{live_slot}
 use Rattle.fol_region_tables.proofs.Chosen.{row_chosen}
 use Rattle.fol_region_tables.proofs.GiveSteps.{given_book, given_is}
+use Rattle.fol_region_tables.proofs.MergeBook.{apart_given}
 use Rattle.fol_region_tables.proofs.NewOwners.{some_new}
 use Rattle.fol_region_tables.proofs.tables.Tables.give.Goals as goal
 
@@ -25,6 +26,15 @@ unite-requires-clause-row c =
 
 pub unite-requires-clause-sections : goal.unite-requires-clause-sections
 unite-requires-clause-sections c = rw c.requires.row (row_chosen (is_among c.args.sections.now))
+
+pub unite-requires-clause-apart : goal.unite-requires-clause-apart
+unfolding rows_of owner_of
+unite-requires-clause-apart c =
+    let b : Book = record { owned = c.self.inside.owners.pages; free = c.self.inside.owners.free; slots = c.self.inside.slots; rows = c.self.inside.rows; ahead = c.self.inside.ahead; behind = c.self.inside.behind; next = c.self.inside.next } in
+    let live = rw (← c.self.view_is) at c.requires.region in
+    let absent = rw (← c.self.view_is) at c.requires.absent in
+    let e = ap (list_at b.rows) c.find-slot.ensures in
+    rw e (apart_given b c.self.invariant c.args.id (c.self.invariant.given c.args.id live).0 c.args.sections.now absent)
 
 pub invariant_of-self : goal.invariant_of-self
 unfolding rows_of owner_of

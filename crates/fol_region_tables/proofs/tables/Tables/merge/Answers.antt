@@ -36,11 +36,21 @@ join-requires-clause-number c =
     let lt = rw (← c.self.view_is) at (ap (λ (f : ℕ → Bool). f c.args.into) c.hand_on.ensures.live ∙ c.requires.into) in
     omega (arith, live_slot b c.args.into lt, c.find-to.ensures, c.self.invariant.row_numbers)
 
-pub join-requires-clause-apart : goal.join-requires-clause-apart
-join-requires-clause-apart c =
+pub join-requires-clause-lists : goal.join-requires-clause-lists
+join-requires-clause-lists c =
     let b : Book = record { owned = c.self.inside.owners.pages; free = c.self.inside.owners.free; slots = c.self.inside.slots; rows = c.self.inside.rows; ahead = c.self.inside.ahead; behind = c.self.inside.behind; next = c.self.inside.next } in
     let lt = rw (← c.self.view_is) at (ap (λ (f : ℕ → Bool). f c.args.into) c.hand_on.ensures.live ∙ c.requires.into) in
     λ e. c.requires.apart (sym (slot_tells b.slots c.args.into c.args.id (live_slot b c.args.into lt) (sym c.find-to.ensures ∙ e ∙ c.find-slot.ensures)))
+
+pub join-requires-clause-apart : goal.join-requires-clause-apart
+unfolding rows_of
+join-requires-clause-apart c =
+    let b : Book = record { owned = c.self.inside.owners.pages; free = c.self.inside.owners.free; slots = c.self.inside.slots; rows = c.self.inside.rows; ahead = c.self.inside.ahead; behind = c.self.inside.behind; next = c.self.inside.next } in
+    let lu = rw (← c.self.view_is) at (ap (λ (f : ℕ → Bool). f c.args.id) c.hand_on.ensures.live ∙ c.requires.region) in
+    let lt = rw (← c.self.view_is) at (ap (λ (f : ℕ → Bool). f c.args.into) c.hand_on.ensures.live ∙ c.requires.into) in
+    let here = ap (list_at b.rows) c.find-to.ensures in
+    let there = ap (list_at b.rows) c.find-slot.ensures in
+    rw (here, there) (book.apart_rows b c.self.invariant c.args.into c.args.id (c.self.invariant.given c.args.into lt).0 (c.self.invariant.given c.args.id lu).0 c.requires.apart)
 
 pub join-requires-clause-row : goal.join-requires-clause-row
 unfolding rows_of
