@@ -38,8 +38,7 @@ fn push_quiet_end(page: &mut Page, worker: u32, region: u64, tick: u64)
     page.push_number(region);
     page.push_word(b" tick ");
     page.push_number(tick);
-    page.push_word(b" ran 0 accepted 0");
-    page.push_word(b"\n");
+    page.push_word(b" ran 0 accepted 0\n");
 }
 
 /// Puts the line of an end, in a page if it is a quiet one.

@@ -12,6 +12,7 @@
 mod actions;
 mod answers;
 mod counts;
+mod digits;
 mod events;
 mod history;
 mod json_form;

@@ -4,7 +4,6 @@ use Rattle.fol_report.proofs.history.push_quiet_end.Goals as goal
 pub returns : goal.returns
 returns c =
     rw (
-      c.push_word-5.ensures,
       c.push_word-4.ensures,
       c.push_number-3.ensures.text,
       c.push_word-3.ensures,
