@@ -1,6 +1,6 @@
 -- Words one after another are the line of these words.
-use Rattle.std.proofs.Common.{◌≡◌, ℕ, refl, sym, ap, ◌∙◌, append_assoc, List, [], ◌++◌, ◌∷◌, codes, decimal, arith}
-use Rattle.std.proofs.lemmas.List.{append-nil}
+use Rattle.std.proofs.Common.{◌≡◌, ℕ, refl, sym, ap, append_assoc, List, [], ◌++◌, ◌∷◌, codes, decimal, length, arith}
+use Rattle.std.proofs.lemmas.List.{append-nil, nil_from_length}
 use Rattle.std.proofs.lemmas.List.Concat.{flat_map-append}
 use Rattle.std.proofs.lemmas.Fmt.{decimal_digit}
 use Rattle.fol_model.specs.LineWords.{Word, lines_of}
@@ -26,14 +26,15 @@ joined_lines_of words [] = refl
 joined_lines_of words (r ∷ rows) = let e = line_of_joined (words r) in let k = joined_lines_of words rows in rw (e, k) refl
 
 -- the line of an end, where no task ran and none was asked for
-pub quiet_end : (worker region tick : ℕ) (ran : List Ran) (accepts : List Accept) → ran ≡ [] → accepts ≡ []
-    → joined (end_words worker region tick ran accepts) ≡ joined (codes "end" ∷ decimal worker ∷ decimal region ∷ codes "tick" ∷ decimal tick ∷ codes "ran" ∷ codes "0" ∷ codes "accepted" ∷ codes "0" ∷ [])
-quiet_end worker region tick ran accepts none none' = let zero : decimal 0 ≡ 48 ∷ [] = decimal_digit 0 (omega arith) in rw (none, none', zero) refl
+pub quiet_end : (worker region tick : ℕ) → joined (end_words worker region tick [] [])
+    ≡ codes "end " ++ decimal worker ++ codes " " ++ decimal region ++ codes " tick " ++ decimal tick ++ codes " ran 0 accepted 0"
+quiet_end worker region tick = let zero : decimal 0 ≡ 48 ∷ [] = decimal_digit 0 (omega arith) in rw zero (simp append_assoc)
 
 -- a line that was put behind a page, as the same line behind what lies before the page
-pub behind_page : (out page new line other : List ℕ) → new ≡ page ++ line ++ 10 ∷ [] → other ≡ line → out ++ new ≡ out ++ page ++ other ++ 10 ∷ []
-behind_page out page new line other e k =
-    ap (λ t. out ++ t) e
-    ∙ sym (append_assoc out (page ++ line) (10 ∷ []))
-    ∙ ap (λ t. t ++ 10 ∷ []) (sym (append_assoc out page line))
-    ∙ ap (λ l. ((out ++ page) ++ l) ++ 10 ∷ []) (sym k)
+pub behind_page : (out page new ended line other : List ℕ) → ended ≡ new ++ 10 ∷ [] → new ≡ page ++ line → other ≡ line → out ++ ended ≡ out ++ page ++ other ++ 10 ∷ []
+behind_page out page new ended line other f e k = rw (f, e, k) (simp append_assoc)
+
+-- the same line as one of no task and no ask
+pub none_of : (worker region tick : ℕ) (ran : List Ran) (accepts : List Accept) → length ran ≡ 0 → length accepts ≡ 0
+    → joined (end_words worker region tick ran accepts) ≡ joined (end_words worker region tick [] [])
+none_of worker region tick ran accepts none none' = let e = nil_from_length ran none in let e' = nil_from_length accepts none' in rw (e, e') refl

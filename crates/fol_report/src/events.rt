@@ -1,29 +1,65 @@
 //! The line of an event. The seat that recorded it is not written.
 
-ghost use Rattle.std.specs.Prelude.{◌≡◌, [], ◌∷◌, ◌++◌, codes, decimal, flat_map, length, IfOk, string_bytes};
+ghost use Rattle.std.specs.Prelude.{◌≡◌, ◌+◌, ◌≤◌, [], ◌∷◌, ◌++◌, codes, decimal, flat_map, length, IfOk, string_bytes};
 ghost use Rattle.fol_model.specs.ReportWords.{accept_words, action_words, chunk_words, end_words, entry_words, event_words, loaded_words, ran_words, unloaded_words};
 ghost use Rattle.fol_report.specs.Spaced.{joined, spaced};
 ghost use Rattle.fol_model.specs.Packed.{event_seen};
+ghost use Rattle.fol_model.specs.declared.events.Event.TheVariants.{Begin};
 
 use crate::actions::put_action;
 use crate::answers::{put_accept, put_all_accepts, put_all_ran, put_loaded, put_unloaded};
 use crate::lines::Line;
+use crate::page::Page;
 use crate::tail::Tail;
 use crate::words::{push_chunk, put_number};
 use fol_model::{Accept, Action, ChunkPos, EventRef, Loaded, PackedEntry, Ran, Unloaded};
 use std::alloc::AllocError;
 
-/// Puts the line of a begin: one of the two most frequent lines.
+/// Puts the line of a begin, one of the two most frequent lines, in a page.
+pub fn push_begin(page: &mut Page, worker: u32, region: u64)
+    requires { length page.old + 127 ≤ 1024 }
+    ensures text { page.new ≡ page.old ++ joined (event_words (Begin worker region)) }
+    ensures len { length page.new ≤ length page.old + 127 }
+{
+    page.push_word(b"begin ");
+    page.push_number(worker as u64);
+    page.push_word(b" ");
+    page.push_number(region);
+}
+
+/// Puts the line of an end of a tick in which no task ran, and which asked for none, in a page: the other of the two most frequent lines.
+pub fn push_quiet_end(page: &mut Page, worker: u32, region: u64, tick: u64)
+    requires { length page.old + 127 ≤ 1024 }
+    ensures text { page.new ≡ page.old ++ joined (end_words worker region tick [] []) }
+    ensures len { length page.new ≤ length page.old + 127 }
+{
+    page.push_word(b"end ");
+    page.push_number(worker as u64);
+    page.push_word(b" ");
+    page.push_number(region);
+    page.push_word(b" tick ");
+    page.push_number(tick);
+    page.push_word(b" ran 0 accepted 0");
+}
+
+/// Puts the line of a begin.
 fn put_begin(out: &mut String, worker: u32, region: u64) -> Result<(), AllocError>
     ensures { IfOk result (λ _. string_bytes out.new
-        ≡ string_bytes out.old ++ joined (codes "begin" ∷ decimal worker ∷ decimal region ∷ [])) }
+        ≡ string_bytes out.old ++ joined (event_words (Begin worker region))) }
 {
-    let mut line = Tail::new();
-    line.push_number(region);
-    line.push_word(b" ");
-    line.push_short(worker);
-    line.push_word(b"begin ");
-    line.put(out)
+    let mut page = Page::new();
+    push_begin(&mut page, worker, region);
+    page.put(out)
+}
+
+/// Puts the line of a quiet end.
+fn put_quiet_end(out: &mut String, worker: u32, region: u64, tick: u64) -> Result<(), AllocError>
+    ensures { IfOk result (λ _. string_bytes out.new
+        ≡ string_bytes out.old ++ joined (end_words worker region tick [] [])) }
+{
+    let mut page = Page::new();
+    push_quiet_end(&mut page, worker, region, tick);
+    page.put(out)
 }
 
 /// Puts the tasks that ran, after their count.
@@ -55,24 +91,6 @@ fn put_ended(out: &mut String, worker: u32, region: u64, tick: u64) -> Result<()
         (codes "end" ∷ decimal worker ∷ decimal region ∷ codes "tick" ∷ decimal tick ∷ [])) }
 {
     let mut line = Tail::new();
-    line.push_number(tick);
-    line.push_word(b" tick ");
-    line.push_number(region);
-    line.push_word(b" ");
-    line.push_short(worker);
-    line.push_word(b"end ");
-    line.put(out)
-}
-
-/// Puts the line of an end of a tick in which no task ran, and which asked for none: the other of the two most frequent lines.
-fn put_quiet_end(out: &mut String, worker: u32, region: u64, tick: u64) -> Result<(), AllocError>
-    ensures { IfOk result (λ _. string_bytes out.new
-        ≡ string_bytes out.old ++ joined
-        (codes "end" ∷ decimal worker ∷ decimal region ∷ codes "tick" ∷ decimal tick
-        ∷ codes "ran" ∷ codes "0" ∷ codes "accepted" ∷ codes "0" ∷ [])) }
-{
-    let mut line = Tail::new();
-    line.push_word(b" ran 0 accepted 0");
     line.push_number(tick);
     line.push_word(b" tick ");
     line.push_number(region);

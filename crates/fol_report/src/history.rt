@@ -1,46 +1,16 @@
 //! The lines of a history: those of the begins and of the quiet ends, which are most of them, are made in a page.
 
-ghost use Rattle.std.specs.Prelude.{◌≡◌, ◌+◌, ◌≤◌, [], ◌∷◌, ◌++◌, codes, decimal, length, IfOk, string_bytes};
+ghost use Rattle.std.specs.Prelude.{◌≡◌, ◌+◌, ◌≤◌, [], ◌∷◌, ◌++◌, codes, length, IfOk, string_bytes};
 ghost use Rattle.fol_model.specs.LineWords.{part};
 ghost use Rattle.fol_model.specs.Packed.{event_seen};
 ghost use Rattle.fol_model.specs.ReportWords.{end_words, entry_words, event_words};
 ghost use Rattle.fol_report.specs.Spaced.{joined, joined_lines};
 
-use crate::events::{put_end, put_event};
+use crate::events::{push_begin, push_quiet_end, put_end, put_event};
 use crate::lines::LINE_ROOM;
 use crate::page::Page;
 use fol_model::{Accept, EventRef, PackedEntry, Ran};
 use std::alloc::AllocError;
-
-/// Puts the line of a begin in a page.
-fn push_begin(page: &mut Page, worker: u32, region: u64)
-    requires { length page.old + 128 ≤ 1024 }
-    ensures { page.new ≡ page.old
-        ++ joined (codes "begin" ∷ decimal worker ∷ decimal region ∷ []) ++ 10 ∷ [] }
-{
-    page.push_word(b"begin ");
-    page.push_number(worker as u64);
-    page.push_word(b" ");
-    page.push_number(region);
-    page.push_word(b"\n");
-}
-
-/// Puts the line of an end of a tick in which no task ran, and which asked for none, in a page.
-fn push_quiet_end(page: &mut Page, worker: u32, region: u64, tick: u64)
-    requires { length page.old + 128 ≤ 1024 }
-    ensures { page.new ≡ page.old ++ joined
-        (codes "end" ∷ decimal worker ∷ decimal region ∷ codes "tick" ∷ decimal tick
-        ∷ codes "ran" ∷ codes "0" ∷ codes "accepted" ∷ codes "0" ∷ []) ++ 10 ∷ [] }
-{
-    page.push_word(b"end ");
-    page.push_number(worker as u64);
-    page.push_word(b" ");
-    page.push_number(region);
-    page.push_word(b" tick ");
-    page.push_number(tick);
-    page.push_word(b" ran 0 accepted 0");
-    page.push_word(b"\n");
-}
 
 /// Puts the line of an end, in a page if it is a quiet one.
 fn put_end_line(
@@ -59,6 +29,7 @@ fn put_end_line(
 {
     if ran.is_empty() && accepts.is_empty() {
         push_quiet_end(page, worker, region, tick);
+        page.push_word(b"\n");
         return Ok(());
     }
     page.put(out)?;
@@ -87,6 +58,7 @@ fn put_line(out: &mut String, page: &mut Page, event: EventRef) -> Result<(), Al
     match event {
         EventRef::Begin { worker, region } => {
             push_begin(page, worker, region);
+            page.push_word(b"\n");
             Ok(())
         }
         EventRef::End {

@@ -2,8 +2,8 @@
 //!
 //! A report is made of lines, a line of words. What the words of each event and row are is said in `fol_model`, and so are the
 //! three whole texts; each function here gives exactly that text, or is out of memory. `lines` has what all lines share,
-//! `events`, `actions`, `answers` and `rows` spell one line each, `history` spells those that are most frequent once more, in a `page`, `text` and
-//! `json_form` put the lines together, and `counts` makes the summary.
+//! `events`, `actions`, `answers` and `rows` spell one line each, `history` gathers those that are most frequent in a `page`, whose
+//! numbers `digits` writes, `text` and `json_form` put the lines together, and `counts` makes the summary.
 //!
 //! A text is built in one buffer that the lines are pushed into, so its cost is linear in its length. This crate serves the top
 //! call, which writes what it gives.
@@ -12,6 +12,7 @@
 mod actions;
 mod answers;
 mod counts;
+mod digits;
 mod events;
 mod history;
 mod json_form;

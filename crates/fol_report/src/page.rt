@@ -1,8 +1,8 @@
 //! A page of lines.
 
-ghost use Rattle.std.specs.Prelude.{◌≡◌, ◌+◌, ◌≤◌, [], ◌++◌, decimal, length, ◌<◌, IfOk, IsAscii, string_bytes};
+ghost use Rattle.std.specs.Prelude.{◌≡◌, ◌+◌, ◌≤◌, [], ◌++◌, decimal, length, IfOk, IsAscii, string_bytes};
 
-use itoa::write_digits;
+use crate::digits::put_digits;
 use std::alloc::AllocError;
 use std::marker::Model;
 
@@ -25,32 +25,6 @@ impl Model for Page {
     ghost view = { λ p. take p.len p.bytes };
 
     ghost invariant = { λ p. IsPage p.len p.bytes };
-}
-
-/// How many digits a number below 10,000 has.
-#[inline]
-fn count_short(n: u64) -> usize
-    requires { n < 10000 }
-    ensures { result ≡ length (decimal n) }
-{
-    if n < 100 {
-        return if n < 10 { 1 } else { 2 };
-    }
-    if n < 1_000 { 3 } else { 4 }
-}
-
-/// How many digits a number has.
-#[inline]
-fn count_digits(n: u64) -> usize
-    ensures { result ≡ length (decimal n) }
-{
-    let mut left = n;
-    let mut count = 0;
-    while left >= 10_000 {
-        left /= 10_000;
-        count += 4;
-    }
-    count + count_short(left)
 }
 
 impl Page {
@@ -78,22 +52,24 @@ impl Page {
     }
 
     /// Puts a number behind the text, of 20 digits at most.
-    #[inline]
+    #[inline(always)]
     pub fn push_number(&mut self, number: u64)
         requires { length self.old + 20 ≤ 1024 }
         ensures text { self.new ≡ self.old ++ decimal number }
         ensures len { length self.new ≤ length self.old + 20 }
     {
-        let end = self.len + count_digits(number);
-        write_digits(number, &mut self.bytes, end);
-        self.len = end;
+        self.len = put_digits(&mut self.bytes, self.len, number);
     }
 
     /// Puts the text behind another one, and leaves none.
+    #[inline]
     pub fn put(&mut self, out: &mut String) -> Result<(), AllocError>
         ensures text { IfOk result (λ _. string_bytes out.new ≡ string_bytes out.old ++ self.old) }
         ensures none { IfOk result (λ _. self.new ≡ []) }
     {
+        if self.len == 0 {
+            return Ok(());
+        }
         out.push_str(unsafe { std::str::from_utf8_unchecked(&self.bytes[..self.len]) })?;
         self.len = 0;
         Ok(())

@@ -1,28 +1,19 @@
-use Rattle.std.proofs.Common.{◌≡◌, ℕ, ◌+◌, ◌<◌, ◌≤◌, ◌^◌, ◌++◌, ◌∙◌, sym, arith, decimal, take, length, length-append, length-take-le, ap}
+use Rattle.std.proofs.Common.{ℕ, ◌<◌, ◌≤◌, ◌^◌, ◌++◌, ◌∙◌, sym, arith, decimal, length, length-append, length-take-le, ap}
 use Rattle.std.proofs.lemmas.Str.{IsAscii-append}
 use Rattle.std.proofs.lemmas.Fmt.{IsAscii-decimal, length-decimal-le}
-use Rattle.fol_report.proofs.Pages.{written_behind}
 use Rattle.fol_report.proofs.page.Page.push_number.Goals as goal
 
 digits : (n : ℕ) → n < 2 ^ 64 → length (decimal n) ≤ 20
 digits n h = length-decimal-le 20 n (omega arith) (omega (arith, h)) h
 
-pub overflow_add-end : goal.overflow_add-end
-overflow_add-end c = record { fits = omega (arith, c.count_digits.ensures, digits c.args.number (omega arith), c.self.invariant.within) }
-
-pub write_digits-requires : goal.write_digits-requires
-write_digits-requires c =
+pub put_digits-self-inside-requires : goal.put_digits-self-inside-requires
+put_digits-self-inside-requires c =
     let p = c.self.inside in
     let long = sym (ap length c.self.view_is) ∙ length-take-le p.len p.bytes (omega (arith, c.self.invariant.within, c.self.invariant.room)) in
-    (omega (arith, c.count_digits.ensures), omega (arith, long, c.requires, c.count_digits.ensures, digits c.args.number (omega arith), c.self.invariant.room))
+    omega (arith, long, c.requires, digits c.args.number (omega arith), c.self.invariant.room)
 
 pub returns-clause-text : goal.returns-clause-text
-returns-clause-text c =
-    let p = c.self.inside in
-    let w = c.write_digits in
-    let at : w.result ≡ p.len = omega (arith, w.ensures.start, c.count_digits.ensures) in
-    let text = written_behind w.result (p.len + c.count_digits.result) p.bytes w.new.buf (decimal c.args.number) _ w.ensures.start (omega arith) w.ensures.written w.ensures.before in
-    text ∙ ap (λ k. take k p.bytes ++ decimal c.args.number) at ∙ ap (λ t. t ++ decimal c.args.number) c.self.view_is
+returns-clause-text c = c.put_digits-self-inside.ensures.written ∙ ap (λ t. t ++ decimal c.args.number) c.self.view_is
 
 pub returns-clause-len : goal.returns-clause-len
 returns-clause-len c = rw (returns-clause-text c) (omega (arith, length-append {A = ℕ}, digits c.args.number (omega arith)))
@@ -32,7 +23,7 @@ invariant_of-self c =
     let p = c.self.inside in
     let long = sym (ap length c.self.view_is) ∙ length-take-le p.len p.bytes (omega (arith, c.self.invariant.within, c.self.invariant.room)) in
     record {
-      within = omega (arith, long, c.requires, c.count_digits.ensures, digits c.args.number (omega arith));
+      within = omega (arith, long, c.requires, c.put_digits-self-inside.ensures.end, digits c.args.number (omega arith));
       room = omega arith;
       ascii = rw (returns-clause-text c, ← c.self.view_is) (IsAscii-append _ _ c.self.invariant.ascii (IsAscii-decimal c.args.number (omega arith)));
     }

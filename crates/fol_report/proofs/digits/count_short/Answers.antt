@@ -1,6 +1,6 @@
 use Rattle.std.proofs.Common.{◌/◌, sym, arith}
 use Rattle.itoa.proofs.Decimal.{length_one, length_two, length_pair}
-use Rattle.fol_report.proofs.page.count_short.Goals as goal
+use Rattle.fol_report.proofs.digits.count_short.Goals as goal
 
 pub returns-then-n-lt10 : goal.returns-then-n-lt10
 returns-then-n-lt10 c = sym (length_one c.args.n c.if-n-lt10.true)

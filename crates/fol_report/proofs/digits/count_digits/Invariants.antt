@@ -1,6 +1,6 @@
 use Rattle.std.proofs.Common.{◌≡◌, ◌+◌, length}
 use Rattle.std.specs.Fmt.{decimal}
-use Rattle.fol_report.proofs.page.count_digits.Given as goal
+use Rattle.fol_report.proofs.digits.count_digits.Given as goal
 
 abbrev pub invariant-loop-left : goal.invariant-loop-left
 invariant-loop-left l = l.count + length (decimal l.left) ≡ length (decimal l.n)
