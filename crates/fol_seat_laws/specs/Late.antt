@@ -1,5 +1,5 @@
--- Begins that are recorded late: what a worker is at in a history of which its seat has seen a beginning, where behind that beginning others
--- recorded Begins of it.
+-- What a worker is at in a history of which its seat has seen a beginning, where the Begins of its ticks are recorded late, by whichever seat
+-- learns of them first.
 use Rattle.std.specs.Prelude.{ℕ, ◌≡◌, ◌≤◌, true, List, [], ◌++◌}
 use Rattle.std.specs.List.{AllByRecursion}
 use Rattle.fol_model.specs.declared.openings.Opening.{Opening}
@@ -41,8 +41,9 @@ abbrev pub StaysInTick : Type 0
 StaysInTick = (o : Opening) (k : ℕ) (h seen rest : List Entry) → h ≡ seen ++ rest → IsGrid o.grid → Run o h → AllByRecursion IsSigned h → AreInTurn h → 1 ≤ k
     → OnlyBegins k rest → (r : ℕ) (ds : List Task) (told : List Ran) → Turns k (start o) idle seen (ticking r ds told) → Turns k (start o) idle h (ticking r ds told)
 
--- a worker in a tick goes on in it by what its seat recorded besides Begins, as by that alone: its turns there are the same in any world
+-- a worker in a tick goes on in it by what its seat recorded behind that besides Begins, as if these deeds were all: so the world w, in which
+-- they are looked at alone, may be any
 abbrev pub DeedsGoOn : Type 0
 DeedsGoOn = (o : Opening) (k : ℕ) (h seen rest : List Entry) → h ≡ seen ++ rest → IsGrid o.grid → Run o h → AllByRecursion IsSigned h → AreInTurn h → 1 ≤ k
-    → (r : ℕ) (ds es : List Task) (told more : List Ran) (deeds : List Entry) (w : World) → Turns k (start o) idle seen (ticking r ds told) → deeds_of k rest ≡ deeds
-    → Turns k w (ticking r ds told) deeds (ticking r es more) → Turns k (start o) idle h (ticking r es more)
+    → (r : ℕ) (ds left : List Task) (told more : List Ran) (deeds : List Entry) (w : World) → Turns k (start o) idle seen (ticking r ds told) → deeds_of k rest ≡ deeds
+    → Turns k w (ticking r ds told) deeds (ticking r left more) → Turns k (start o) idle h (ticking r left more)
