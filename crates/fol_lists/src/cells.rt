@@ -180,14 +180,16 @@ pub fn grow<T: Copy>(
     spans[n].to = cells.len();
 }
 
-/// Moves elements up by so many places and one more, and puts another into the place before them.
-fn shift<T: Copy>(cells: &mut [T], start: usize, end: usize, by: usize, x: T)
+/// Moves elements up by so many places, and by as many more as others take that are put before them.
+fn shift<T: Copy>(cells: &mut [T], start: usize, end: usize, by: usize, xs: &[T])
     requires rising { start ≤ end }
-    requires within { end + by < length cells.old }
-    ensures { cells.new ≡ shifted cells.old start end by x }
+    requires within { end + by + length xs.now ≤ length cells.old }
+    ensures { cells.new ≡ shifted cells.old start end by xs.now }
 {
-    cells.copy_within(start..end, start + by + 1);
-    cells[start + by] = x;
+    let from = start + by;
+    let to = from + xs.len();
+    cells.copy_within(start..end, to);
+    cells[from..to].copy_from_slice(xs);
 }
 
 /// The same within the last list, which ends where all elements end.
@@ -198,20 +200,21 @@ pub fn shift_last<T: Copy>(
     start: usize,
     end: usize,
     by: usize,
-    x: T,
+    xs: &[T],
 )
     requires fit { All (IsSpan (length cells.old)) spans.now }
     requires number { n < length spans.now }
     requires last { IsLast spans.now n }
     requires end { (d : Span) → (slice_index_or spans.now n d).to ≡ length cells.old }
     requires rising { start ≤ end }
-    requires within { end + by < length (slice_index_or (pieces_of cells.old spans.now) n []) }
+    requires within { end + by + length xs.now
+        ≤ length (slice_index_or (pieces_of cells.old spans.now) n []) }
     ensures shifted { pieces_of cells.new spans.now ≡ slice_set (pieces_of cells.old spans.now) n
-        (shifted (slice_index_or (pieces_of cells.old spans.now) n []) start end by x) }
+        (shifted (slice_index_or (pieces_of cells.old spans.now) n []) start end by xs.now) }
     ensures len { length cells.new ≡ length cells.old }
 {
     let from = spans[n].from;
-    shift(cells, from + start, from + end, by, x);
+    shift(cells, from + start, from + end, by, xs);
 }
 
 /// Leaves a list its first elements. What lies behind the last list is given back.
