@@ -1,14 +1,14 @@
 -- Elements that move within the last list.
-use Rattle.std.proofs.Common.{◌≡◌, ℕ, suc, ◌+◌, ◌-◌, ◌*◌, ◌≤◌, ◌<◌, refl, sym, ◌∙◌, ap, arith, inl, inr, List, [], ◌∷◌, ◌++◌, length, get_or, take, drop, append_assoc, length-append, length-drop, length-take-le}
+use Rattle.std.proofs.Common.{◌≡◌, ℕ, ◌+◌, ◌-◌, ◌*◌, ◌≤◌, ◌<◌, sym, ◌∙◌, ap, arith, inl, inr, List, [], ◌++◌, length, get_or, take, drop, append_assoc, length-append, length-drop, length-take-le}
 use Rattle.std.specs.Prelude.{slice_set, sum_by}
 use Rattle.std.specs.List.{All, copy_within, slice_range}
 use Rattle.std.proofs.lemmas.List.{drop-drop, drop_at, ext_get_or, get_or-map, get_or-set_other, get_or-set_same, length-map, length-set, take-append-drop, take-append-le, take-take}
-use Rattle.std.proofs.Math.Seq.{drop-append-add, set-append_seam, take-append-add}
+use Rattle.std.proofs.Math.Seq.{drop-append-add, take-append-add}
 use Rattle.std.proofs.lemmas.Bool.{cases_eq}
 use Rattle.fol_lists.specs.declared.spans.Span.{Span}
 use Rattle.fol_lists.specs.Numbered.{shifted}
 use Rattle.fol_lists.specs.Spans.{AreSpans, IsLast, IsSpan, piece_of, pieces_of}
-use Rattle.fol_lists.proofs.Pieces.{length_piece, piece-behind, piece-front, piece_at, total-set}
+use Rattle.fol_lists.proofs.Pieces.{piece-behind, piece-front, piece_at, total-set}
 
 -- after a copy further up and others written before it
 pub shifted_is : {T : Type 0} (xs ys : List T) (start end by : ℕ) → start ≤ end → start + by + length ys ≤ length xs

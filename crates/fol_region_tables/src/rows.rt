@@ -167,6 +167,7 @@ fn count_before(xs: &[SectionPos], s: SectionPos) -> usize
 fn count_before_last(xs: &[SectionPos], others: &[SectionPos]) -> usize
     requires { IsStrictlySortedBy section_cmp xs.now }
     ensures few { result ≤ length xs.now }
+    ensures none { length others.now ≡ 0 → result ≡ 0 }
     ensures before { (k : ℕ) (d : SectionPos) → k < result
         → section_cmp (slice_index_or xs.now k d)
         (slice_index_or others.now (length others.now - 1) d) ≡ Less }

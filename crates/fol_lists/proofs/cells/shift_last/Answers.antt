@@ -1,7 +1,7 @@
-use Rattle.std.proofs.Common.{ap, arith, length}
+use Rattle.std.proofs.Common.{arith}
 use Rattle.fol_lists.specs.declared.spans.Span.{Span}
 use Rattle.fol_lists.proofs.Pieces.{length_at}
-use Rattle.fol_lists.proofs.Shifted.{length_shifted, pieces_shifted}
+use Rattle.fol_lists.proofs.Shifted.{pieces_shifted}
 use Rattle.fol_lists.proofs.cells.shift_last.Goals as goal
 
 pub shift-requires-clause-within : goal.shift-requires-clause-within
