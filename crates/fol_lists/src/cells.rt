@@ -77,23 +77,54 @@ fn make_room<T: Copy>(
     }
 }
 
-/// Writes the elements of a span once more, behind all others.
-fn write_again<T: Copy>(cells: &mut Vec<T>, span: Span)
+/// How many elements are written again in one go.
+const PIECE: usize = 256;
+
+/// Writes the elements of a span once more, behind all others, by way of an empty vector.
+fn write_piece<T: Copy>(cells: &mut Vec<T>, spare: &mut Vec<T>, span: Span)
     requires fit { IsSpan (length cells.old.items) span }
+    requires none { spare.old.items ≡ [] }
     requires room { length cells.old.items + (span.to - span.from) ≤ vec_capacity cells.old }
+    requires spare { span.to - span.from ≤ vec_capacity spare.old }
     ensures written { cells.new.items ≡ cells.old.items ++ piece_of cells.old.items span }
+    ensures none { spare.new.items ≡ [] }
     ensures capacity { vec_capacity cells.old ≤ vec_capacity cells.new }
+    ensures spare { vec_capacity spare.old ≤ vec_capacity spare.new }
 {
-    let _ = cells.extend_from_within(span.from..span.to);
+    let _ = spare.extend_from_slice(&cells[span.from..span.to]);
+    let _ = cells.extend_from_slice(spare);
+    spare.clear();
+}
+
+/// The same in pieces. Each is copied out and in by whole words, and stays in the nearest cache between the two.
+fn write_again<T: Copy>(cells: &mut Vec<T>, spare: &mut Vec<T>, span: Span)
+    requires fit { IsSpan (length cells.old.items) span }
+    requires none { spare.old.items ≡ [] }
+    requires room { length cells.old.items + (span.to - span.from) ≤ vec_capacity cells.old }
+    requires spare { span.to - span.from ≤ vec_capacity spare.old }
+    ensures written { cells.new.items ≡ cells.old.items ++ piece_of cells.old.items span }
+    ensures none { spare.new.items ≡ [] }
+    ensures capacity { vec_capacity cells.old ≤ vec_capacity cells.new }
+    ensures spare { vec_capacity spare.old ≤ vec_capacity spare.new }
+{
+    let mut from = span.from;
+    while from < span.to {
+        let to = from + PIECE.min(span.to - from);
+        write_piece(cells, spare, Span { from, to });
+        from = to;
+    }
 }
 
 /// Moves a list behind all others.
-fn make_last<T: Copy>(cells: &mut Vec<T>, spans: &mut [Span], n: usize)
+fn make_last<T: Copy>(cells: &mut Vec<T>, spare: &mut Vec<T>, spans: &mut [Span], n: usize)
     requires fit { All (IsSpan (length cells.old.items)) spans.old }
+    requires none { spare.old.items ≡ [] }
     requires number { n < length spans.old }
     requires room { length cells.old.items
         + length (slice_index_or (pieces_of cells.old.items spans.old) n [])
         ≤ vec_capacity cells.old }
+    requires spare { length (slice_index_or (pieces_of cells.old.items spans.old) n [])
+        ≤ vec_capacity spare.old }
     ensures same { pieces_of cells.new.items spans.new ≡ pieces_of cells.old.items spans.old }
     ensures fit { All (IsSpan (length cells.new.items)) spans.new }
     ensures end { (d : Span) → (slice_index_or spans.new n d).to ≡ length cells.new.items }
@@ -102,10 +133,12 @@ fn make_last<T: Copy>(cells: &mut Vec<T>, spans: &mut [Span], n: usize)
     ensures used { length cells.new.items
         ≤ length cells.old.items + length
         (slice_index_or (pieces_of cells.old.items spans.old) n []) }
+    ensures none { spare.new.items ≡ [] }
     ensures capacity { vec_capacity cells.old ≤ vec_capacity cells.new }
+    ensures spare { vec_capacity spare.old ≤ vec_capacity spare.new }
 {
     let from = cells.len();
-    write_again(cells, spans[n]);
+    write_again(cells, spare, spans[n]);
     spans[n] = Span {
         from,
         to: cells.len(),
@@ -145,7 +178,7 @@ pub fn open<T: Copy>(
         return;
     }
     make_room(cells, spare, spans, top, room, span.len() + more);
-    make_last(cells, spans, n);
+    make_last(cells, spare, spans, n);
 }
 
 /// Puts elements behind those of a list.
