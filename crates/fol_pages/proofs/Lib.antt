@@ -1,4 +1,5 @@
 pub mod Quotients
+pub mod Heads
 pub mod PagePlaces
 pub mod PageRuns
 pub mod AbsentPages
