@@ -1,5 +1,4 @@
 pub mod Quotients
-pub mod Heads
 pub mod PagePlaces
 pub mod PageRuns
 pub mod AbsentPages

@@ -1,10 +1,8 @@
 //! Sections that lie in one page, for which the page is looked up once.
 
-ghost use Rattle.std.specs.Prelude.{◌≡◌, ◌+◌, ◌<◌, ◌≤◌, true, nat_abs, pos, length, take};
+ghost use Rattle.std.specs.Prelude.{◌≡◌, ◌+◌, ◌<◌, ◌≤◌, nat_abs, pos, length, take};
 ghost use Rattle.std.specs.Int.{int_rem_euclid};
-ghost use Rattle.fol_model.specs.declared.places.SectionPos.{SectionPos};
-ghost use Rattle.fol_model.specs.Geometry.{is_among};
-ghost use Rattle.fol_pages.specs.Pages.{InOnePage, page_of as column};
+ghost use Rattle.fol_pages.specs.Pages.{InOnePage};
 
 use crate::places::{page_of, place_along};
 use fol_model::SectionPos;
@@ -18,20 +16,7 @@ pub fn run_len(x: i32, most: u32) -> u32
     most.min(32 - place_along(x))
 }
 
-/// Whether all sections of a list lie in a page.
-fn are_in(page: (i32, i32), sections: &[SectionPos]) -> bool
-    ensures { result ≡ true → (s : SectionPos) → is_among sections.now s ≡ true
-        → (column s.x ≡ page.0) × (s.z ≡ page.1) }
-{
-    for s in sections {
-        if page_of(*s) != page {
-            return false;
-        }
-    }
-    true
-}
-
-/// How many sections at the head of a list lie in one page. Four at a time are looked at, as long as all of them do.
+/// How many sections at the head of a list lie in one page.
 pub fn stretch_len(sections: &[SectionPos]) -> usize
     requires { 0 < length sections.now }
     ensures some { 0 < result }
@@ -39,12 +24,10 @@ pub fn stretch_len(sections: &[SectionPos]) -> usize
     ensures page { InOnePage (take result sections.now) }
 {
     let page = page_of(sections[0]);
-    let mut len = 1;
-    while sections.len() - len >= 4 && are_in(page, &sections[len..len + 4]) {
-        len += 4;
+    for i in 1..sections.len() {
+        if page_of(sections[i]) != page {
+            return i;
+        }
     }
-    while len < sections.len() && are_in(page, &sections[len..len + 1]) {
-        len += 1;
-    }
-    len
+    sections.len()
 }
