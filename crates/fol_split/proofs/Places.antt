@@ -47,10 +47,6 @@ less_from a b h n = elim (section_cmp a b) as (λ r. section_cmp a b ≡ r → r
 origin : SectionPos
 origin = record { x = pos 0; z = pos 0 }
 
--- sections each of which comes before the next
-pub rises_by_steps : (xs : List SectionPos) → ((k : ℕ) (d : SectionPos) → k + 1 < length xs → section_cmp (get_or xs k d) (get_or xs (k + 1) d) ≡ Less) → IsStrictlySortedBy section_cmp xs
-rises_by_steps xs h = sorted_from_all_adjacent section_cmp_total xs origin (λ k l. h k origin l)
-
 -- distinct sections that a sort put in order rise
 pub rises_from_sort : (xs : List SectionPos) → IsSortedBy (λ a b. is_lt (section_cmp a b)) xs → IsDistinct same_section xs → IsStrictlySortedBy section_cmp xs
 rises_from_sort xs h apart = sorted_from_all_adjacent section_cmp_total xs origin (λ k l.

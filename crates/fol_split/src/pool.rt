@@ -4,12 +4,11 @@ ghost use Rattle.std.specs.Prelude.{◌≡◌, ◌+◌, ◌<◌, ◌≤◌, IsTr
 ghost use Rattle.std.specs.List.{All, IsDistinct};
 ghost use Rattle.std.specs.List.Sorted.{IsStrictlySortedBy, IsPermutation};
 ghost use Rattle.std.specs.Vec.{vec_capacity};
-ghost use Rattle.std.specs.declared.cmp.Ordering.TheVariants.{Less};
 ghost use Rattle.fol_model.specs.declared.places.SectionPos.{SectionPos};
 ghost use Rattle.fol_model.specs.Geometry.{is_section, same_section, is_among};
 ghost use Rattle.fol_model.specs.Universe.{section_cmp};
 ghost use Rattle.fol_split.specs.Pool.{TakesClass, IsApart, IsLoaded, is_left};
-ghost use Rattle.fol_split.specs.Runs.{AreRuns, all_of, run_at, sections_of, first_of};
+ghost use Rattle.fol_split.specs.Runs.{AreRuns, run_at, sections_of, first_of};
 
 use crate::runs::Runs;
 use fol_model::{MOST_SECTIONS, SectionPos};
@@ -19,7 +18,7 @@ use std::marker::Model;
 /// Sections in order by `(z, x)` as runs, and those that were taken, in the order in which they were.
 #[derive(Drop)]
 pub struct Pool {
-    /// Where sections are put in order.
+    /// The sections that the runs were made of.
     order: Vec<SectionPos>,
     runs: Runs,
     found: Vec<SectionPos>,
@@ -90,7 +89,10 @@ impl Pool {
         ensures { IsLoaded self.new sections.now }
     {
         self.found.clear();
-        load_runs(&mut self.runs, &mut self.order, sections);
+        self.order.clear();
+        let _ = self.order.extend_from_slice(sections);
+        sort(&mut self.order);
+        self.runs.load(&self.order);
     }
 
     /// Takes the sections that are joined with those of the run at a place, in order.
@@ -110,49 +112,7 @@ impl Pool {
     }
 }
 
-/// The runs of sections, each of them left. The sections are copied and sorted only where they are not in order.
-fn load_runs(runs: &mut Runs, order: &mut Vec<SectionPos>, sections: &[SectionPos])
-    requires few { length sections.now ≤ MOST_SECTIONS }
-    requires distinct { IsDistinct same_section sections.now }
-    requires in_range { All (λ s. IsTrue (is_section s)) sections.now }
-    requires room { MOST_SECTIONS ≤ vec_capacity order.old }
-    ensures members { (s : SectionPos) → is_among (all_of runs.new.runs) s
-        ≡ is_among sections.now s }
-    ensures few { length (all_of runs.new.runs) ≤ MOST_SECTIONS }
-    ensures left { All IsTrue runs.new.left }
-    ensures flags { length runs.new.left ≡ length runs.new.runs }
-    ensures room { vec_capacity order.old ≤ vec_capacity order.new }
-{
-    if is_in_order(sections) {
-        runs.load(sections);
-        return;
-    }
-    order.clear();
-    let _ = order.extend_from_slice(sections);
-    sort(order);
-    runs.load(order);
-}
-
-/// Whether a section comes before another one.
-fn is_before(a: SectionPos, b: SectionPos) -> bool
-    ensures { IsTrue result → section_cmp a b ≡ Less }
-{
-    a.z < b.z || a.z == b.z && a.x < b.x
-}
-
-/// Whether each section comes before the next.
-fn is_in_order(sections: &[SectionPos]) -> bool
-    ensures { IsTrue result → IsStrictlySortedBy section_cmp sections.now }
-{
-    for i in 1..sections.len() {
-        if !is_before(sections[i - 1], sections[i]) {
-            return false;
-        }
-    }
-    true
-}
-
-/// Puts sections in order by `(z, x)`.
+/// Puts sections in order by `(z, x)`. This takes one pass where they are in order already.
 fn sort(sections: &mut Vec<SectionPos>)
     requires distinct { IsDistinct same_section sections.old.items }
     ensures permuted { IsPermutation sections.old.items sections.new.items }
