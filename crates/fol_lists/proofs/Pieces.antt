@@ -2,7 +2,7 @@
 use Rattle.std.proofs.Common.{◌≡◌, ℕ, zero, suc, ◌+◌, ◌-◌, ◌*◌, ◌≤◌, ◌<◌, refl, sym, ◌∙◌, ap, arith, inl, inr, List, [], ◌∷◌, ◌++◌, length, get_or, take, drop, length-append, length-drop}
 use Rattle.std.specs.Prelude.{slice_set, sum_by, replicate}
 use Rattle.std.specs.List.{All, slice_range}
-use Rattle.std.proofs.lemmas.List.{get_or_default, get_or_past, get_or_append_left, get_or-append_right, get_or-replicate, length-replicate, length-take, take-append-drop, take-append-le, drop-append-le, take_all, drop_at, map-set, set-get_or, get_or-map, length-map, length-set, length-take-le, get_or-set_other, get_or-set_same, set-set, map-append}
+use Rattle.std.proofs.lemmas.List.{get_or_default, get_or_past, get_or_append_left, get_or-append_right, get_or-replicate, length-replicate, length-take, take-append-drop, take-append-le, take-take, drop-drop, drop-take, drop-append-le, take_all, drop_at, map-set, set-get_or, get_or-map, length-map, length-set, length-take-le, get_or-set_other, get_or-set_same, set-set, map-append}
 use Rattle.std.proofs.lemmas.List.Elements.{All-set, All-weaker, All-append, All-replicate}
 use Rattle.std.proofs.lemmas.List.Sums.{sum_by-set, sum_by-append, get_or-le-sum_by}
 use Rattle.std.proofs.lemmas.List.Folds.{sum_by-replicate}
@@ -25,6 +25,17 @@ pieces-front xs ys (s ∷ spans) fit =
 
 pub fit_longer : (n m : ℕ) (spans : List Span) → n ≤ m → All (IsSpan n) spans → All (IsSpan m) spans
 fit_longer n m spans l fit = All-weaker (IsSpan n) (IsSpan m) (λ s h. record { rising = h.rising; within = omega (arith, h.within) }) spans fit
+
+-- a span up to a place, and behind it one from there on
+pub range_joined : {T : Type 0} (xs : List T) (a b c : ℕ) → a ≤ b → b ≤ c → slice_range xs a b ++ slice_range xs b c ≡ slice_range xs a c
+range_joined xs a b c l m =
+    let n = b - a in
+    let whole : c - a ≡ n + (c - b) = omega (arith, l, m) in
+    let at : a + n ≡ b = omega (arith, l) in
+    let front : take n (take (c - a) (drop a xs)) ≡ slice_range xs a b = take-take n (c - a) (drop a xs) (omega (arith, l, m)) in
+    let back : drop n (take (c - a) (drop a xs)) ≡ slice_range xs b c =
+    ap (λ k. drop n (take k (drop a xs))) whole ∙ drop-take n (c - b) (drop a xs) ∙ ap (take (c - b)) (drop-drop n a xs ∙ ap (λ k. drop k xs) at) in
+    (λ i. sym front i ++ sym back i) ∙ take-append-drop n (take (c - a) (drop a xs))
 
 -- what was put behind
 pub piece-behind : {T : Type 0} (xs ys : List T) (n m : ℕ) → n ≡ length xs → m ≡ length (xs ++ ys) → slice_range (xs ++ ys) n m ≡ ys

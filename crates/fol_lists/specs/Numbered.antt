@@ -1,5 +1,5 @@
 -- Lists by number.
-use Rattle.std.specs.Prelude.{ℕ, suc, ◌+◌, ◌-◌, List, [], ◌∷◌, ◌++◌, length, replicate, sum_by, slice_index_or, slice_set, take, drop}
+use Rattle.std.specs.Prelude.{ℕ, ◌+◌, ◌-◌, List, [], ◌++◌, length, replicate, sum_by, slice_index_or, slice_set, take, drop}
 use Rattle.std.specs.List.{slice_range}
 
 -- a list for each number from 0 on, and how many elements they may hold together
@@ -23,6 +23,6 @@ with_list v n xs = record v { lists = slice_set v.lists n xs }
 abbrev pub with_numbers : {T : Type 0} → Numbered T → ℕ → Numbered T
 with_numbers v n = record v { lists = v.lists ++ replicate (n - length v.lists) [] }
 
--- the elements from one place up to another stand so many places and one more further up, and x before them; what stood there is gone
-abbrev pub shifted : {T : Type 0} → List T → ℕ → ℕ → ℕ → T → List T
-shifted xs start end by x = take (start + by) xs ++ x ∷ (slice_range xs start end ++ drop (end + suc by) xs)
+-- the elements from one place up to another stand `by` places and as many more further up as others take that stand before them; what stood there is gone
+abbrev pub shifted : {T : Type 0} → List T → ℕ → ℕ → ℕ → List T → List T
+shifted xs start end by ys = take (start + by) xs ++ (ys ++ (slice_range xs start end ++ drop (end + by + length ys) xs))

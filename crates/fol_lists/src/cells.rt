@@ -77,23 +77,54 @@ fn make_room<T: Copy>(
     }
 }
 
-/// Writes the elements of a span once more, behind all others.
-fn write_again<T: Copy>(cells: &mut Vec<T>, span: Span)
+/// How many elements are written again in one go.
+const PIECE: usize = 256;
+
+/// Writes the elements of a span once more, behind all others, by way of an empty vector.
+fn write_piece<T: Copy>(cells: &mut Vec<T>, spare: &mut Vec<T>, span: Span)
     requires fit { IsSpan (length cells.old.items) span }
+    requires none { spare.old.items ≡ [] }
     requires room { length cells.old.items + (span.to - span.from) ≤ vec_capacity cells.old }
+    requires spare { span.to - span.from ≤ vec_capacity spare.old }
     ensures written { cells.new.items ≡ cells.old.items ++ piece_of cells.old.items span }
+    ensures none { spare.new.items ≡ [] }
     ensures capacity { vec_capacity cells.old ≤ vec_capacity cells.new }
+    ensures spare { vec_capacity spare.old ≤ vec_capacity spare.new }
 {
-    let _ = cells.extend_from_within(span.from..span.to);
+    let _ = spare.extend_from_slice(&cells[span.from..span.to]);
+    let _ = cells.extend_from_slice(spare);
+    spare.clear();
+}
+
+/// The same in pieces. Each is copied out and in by whole words, and stays in the nearest cache between the two.
+fn write_again<T: Copy>(cells: &mut Vec<T>, spare: &mut Vec<T>, span: Span)
+    requires fit { IsSpan (length cells.old.items) span }
+    requires none { spare.old.items ≡ [] }
+    requires room { length cells.old.items + (span.to - span.from) ≤ vec_capacity cells.old }
+    requires spare { span.to - span.from ≤ vec_capacity spare.old }
+    ensures written { cells.new.items ≡ cells.old.items ++ piece_of cells.old.items span }
+    ensures none { spare.new.items ≡ [] }
+    ensures capacity { vec_capacity cells.old ≤ vec_capacity cells.new }
+    ensures spare { vec_capacity spare.old ≤ vec_capacity spare.new }
+{
+    let mut from = span.from;
+    while from < span.to {
+        let to = from + PIECE.min(span.to - from);
+        write_piece(cells, spare, Span { from, to });
+        from = to;
+    }
 }
 
 /// Moves a list behind all others.
-fn make_last<T: Copy>(cells: &mut Vec<T>, spans: &mut [Span], n: usize)
+fn make_last<T: Copy>(cells: &mut Vec<T>, spare: &mut Vec<T>, spans: &mut [Span], n: usize)
     requires fit { All (IsSpan (length cells.old.items)) spans.old }
+    requires none { spare.old.items ≡ [] }
     requires number { n < length spans.old }
     requires room { length cells.old.items
         + length (slice_index_or (pieces_of cells.old.items spans.old) n [])
         ≤ vec_capacity cells.old }
+    requires spare { length (slice_index_or (pieces_of cells.old.items spans.old) n [])
+        ≤ vec_capacity spare.old }
     ensures same { pieces_of cells.new.items spans.new ≡ pieces_of cells.old.items spans.old }
     ensures fit { All (IsSpan (length cells.new.items)) spans.new }
     ensures end { (d : Span) → (slice_index_or spans.new n d).to ≡ length cells.new.items }
@@ -102,10 +133,12 @@ fn make_last<T: Copy>(cells: &mut Vec<T>, spans: &mut [Span], n: usize)
     ensures used { length cells.new.items
         ≤ length cells.old.items + length
         (slice_index_or (pieces_of cells.old.items spans.old) n []) }
+    ensures none { spare.new.items ≡ [] }
     ensures capacity { vec_capacity cells.old ≤ vec_capacity cells.new }
+    ensures spare { vec_capacity spare.old ≤ vec_capacity spare.new }
 {
     let from = cells.len();
-    write_again(cells, spans[n]);
+    write_again(cells, spare, spans[n]);
     spans[n] = Span {
         from,
         to: cells.len(),
@@ -145,7 +178,7 @@ pub fn open<T: Copy>(
         return;
     }
     make_room(cells, spare, spans, top, room, span.len() + more);
-    make_last(cells, spans, n);
+    make_last(cells, spare, spans, n);
 }
 
 /// Puts elements behind those of a list.
@@ -180,14 +213,16 @@ pub fn grow<T: Copy>(
     spans[n].to = cells.len();
 }
 
-/// Moves elements up by so many places and one more, and puts another into the place before them.
-fn shift<T: Copy>(cells: &mut [T], start: usize, end: usize, by: usize, x: T)
+/// Moves elements up by so many places, and by as many more as others take that are put before them.
+fn shift<T: Copy>(cells: &mut [T], start: usize, end: usize, by: usize, xs: &[T])
     requires rising { start ≤ end }
-    requires within { end + by < length cells.old }
-    ensures { cells.new ≡ shifted cells.old start end by x }
+    requires within { end + by + length xs.now ≤ length cells.old }
+    ensures { cells.new ≡ shifted cells.old start end by xs.now }
 {
-    cells.copy_within(start..end, start + by + 1);
-    cells[start + by] = x;
+    let from = start + by;
+    let to = from + xs.len();
+    cells.copy_within(start..end, to);
+    cells[from..to].copy_from_slice(xs);
 }
 
 /// The same within the last list, which ends where all elements end.
@@ -198,20 +233,21 @@ pub fn shift_last<T: Copy>(
     start: usize,
     end: usize,
     by: usize,
-    x: T,
+    xs: &[T],
 )
     requires fit { All (IsSpan (length cells.old)) spans.now }
     requires number { n < length spans.now }
     requires last { IsLast spans.now n }
     requires end { (d : Span) → (slice_index_or spans.now n d).to ≡ length cells.old }
     requires rising { start ≤ end }
-    requires within { end + by < length (slice_index_or (pieces_of cells.old spans.now) n []) }
+    requires within { end + by + length xs.now
+        ≤ length (slice_index_or (pieces_of cells.old spans.now) n []) }
     ensures shifted { pieces_of cells.new spans.now ≡ slice_set (pieces_of cells.old spans.now) n
-        (shifted (slice_index_or (pieces_of cells.old spans.now) n []) start end by x) }
+        (shifted (slice_index_or (pieces_of cells.old spans.now) n []) start end by xs.now) }
     ensures len { length cells.new ≡ length cells.old }
 {
     let from = spans[n].from;
-    shift(cells, from + start, from + end, by, x);
+    shift(cells, from + start, from + end, by, xs);
 }
 
 /// Leaves a list its first elements. What lies behind the last list is given back.

@@ -124,28 +124,18 @@ impl<T: Copy> Lists<T> {
         requires room { total (with_list self.old n xs.now) ≤ self.old.room }
         ensures { self.new ≡ with_list self.old n xs.now }
     {
-        self.put_behind(n, 0, xs);
-    }
-
-    /// Keeps the first elements of a list, and puts others behind them in place of the rest. Takes no memory.
-    pub fn put_behind(&mut self, n: usize, len: usize, xs: &[T])
-        requires number { n < length self.old.lists }
-        requires few { len ≤ length (list_at self.old n) }
-        requires room { total (with_list self.old n (take len (list_at self.old n) ++ xs.now))
-            ≤ self.old.room }
-        ensures { self.new ≡ with_list self.old n (take len (list_at self.old n) ++ xs.now) }
-    {
-        self.truncate(n, len);
+        self.clear(n);
         self.extend(n, xs);
     }
 
-    /// Moves the elements of a list from `start` up to `end` up by `by` places and one more, and puts an element into the place
-    /// before them. The list stays as long: what stood where these stand now is gone. Takes no memory.
-    pub fn shift_in(&mut self, n: usize, start: usize, end: usize, by: usize, x: T)
+    /// Moves the elements of a list from `start` up to `end` up by `by` places and as many more as `xs` has, and puts these into the
+    /// places before them. The list stays as long: what stood where these stand now is gone. Takes no memory.
+    pub fn shift_in(&mut self, n: usize, start: usize, end: usize, by: usize, xs: &[T])
         requires number { n < length self.old.lists }
         requires rising { start ≤ end }
-        requires within { end + by < length (list_at self.old n) }
-        ensures { self.new ≡ with_list self.old n (shifted (list_at self.old n) start end by x) }
+        requires within { end + by + length xs.now ≤ length (list_at self.old n) }
+        ensures { self.new ≡ with_list self.old n
+            (shifted (list_at self.old n) start end by xs.now) }
     {
         let top = self.top.max(n + 1);
         open(
@@ -160,7 +150,7 @@ impl<T: Copy> Lists<T> {
         );
         self.last = n;
         self.top = top;
-        shift_last(&mut self.cells, &self.spans, n, start, end, by, x);
+        shift_last(&mut self.cells, &self.spans, n, start, end, by, xs);
     }
 
     /// Makes room for so many elements together. The lists stay either way.

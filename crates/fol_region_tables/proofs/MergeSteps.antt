@@ -6,7 +6,7 @@ use Rattle.std.specs.declared.cmp.Ordering.{Ordering}
 use Rattle.std.specs.declared.cmp.Ordering.TheVariants.{Less, Equal, Greater}
 use Rattle.std.specs.Ordering.{ordering_reverse}
 use Rattle.std.proofs.Math.Bool.{or-false}
-use Rattle.std.proofs.lemmas.List.{append-nil, drop-take, drop_all, drop_at, get_or-drop, get_or_append_left, get_or_default, take-append-drop, take-append-le, take-take, take_all, take_more}
+use Rattle.std.proofs.lemmas.List.{append-nil, drop-take, drop_all, drop_at, get_or-drop, get_or-take, get_or_append_left, get_or_default, take-append-drop, take-append-le, take-take, take_all, take_more}
 use Rattle.std.proofs.lemmas.List.Folds.{list_any-append}
 use Rattle.std.proofs.lemmas.Bool.{cases_lt, false≢true, or_cases}
 use Rattle.std.proofs.lemmas.Map.Keys.{Less-from_sorted}
@@ -78,11 +78,38 @@ unfolding IsStrictlySortedBy
 sorted_front [] ys h = tt
 sorted_front (x ∷ xs) ys h = (all_front (λ b. section_cmp x b ≡ Less) xs ys h.0, sorted_front xs ys h.1)
 
+pub sorted_take : (n : ℕ) (xs : List SectionPos) → Sorted xs → Sorted (take n xs)
+sorted_take n xs h = sorted_front (take n xs) (drop n xs) (subst Sorted (sym (take-append-drop n xs)) h)
+
+-- of two sections not each is before the other
+less_not_less : (s t : SectionPos) → section_cmp s t ≡ Less → section_cmp t s ≡ Less → ⊥
+less_not_less s t a b = let k : Less ≡ Greater = sym a ∙ sections_tell.order.antisymm s t ∙ ap ordering_reverse b in cc
+
 -- an element before the first one is before all
 before_all : (s : SectionPos) (xs : List SectionPos) (d : SectionPos) → Sorted xs → (0 < length xs → section_cmp s (get_or xs 0 d) ≡ Less) → Sorted (s ∷ xs)
 unfolding IsStrictlySortedBy
 before_all s [] d h l = (tt, tt)
 before_all s (x ∷ xs) d h l = let less : section_cmp s x ≡ Less = l (omega arith) in ((less, all_after s x xs less h.0), h)
+
+-- of two sections the one that is not before the other is behind it
+other_less : (s t : SectionPos) → (s ≡ t → ⊥) → (section_cmp s t ≡ Less → ⊥) → section_cmp t s ≡ Less
+other_less s t other never = go (section_cmp s t) refl
+  where
+    go : (o : Ordering) → section_cmp s t ≡ o → section_cmp t s ≡ Less
+    go Less e = absurd (never e)
+    go Equal e = absurd (other (sections_tell.same s t e))
+    go Greater e = sections_tell.order.antisymm t s ∙ ap ordering_reverse e
+
+apart_other : (xs ys : List SectionPos) (i j : ℕ) (d : SectionPos) → AreApart xs ys → i < length xs → j < length ys → get_or xs i d ≡ get_or ys j d → ⊥
+apart_other xs ys i j d apart h l same = false≢true (sym (apart (get_or xs i d) (among_at xs i d h)) ∙ ap (is_among ys) same ∙ among_at ys j d l)
+
+-- sections in order of which the last is not behind another one are before it
+pub all_before : (xs ys : List SectionPos) (n k : ℕ) (d e : SectionPos) → Sorted xs → AreApart xs ys → n ≤ length xs → k < length ys
+    → (0 < n → section_cmp (get_or ys k d) (get_or xs (n - 1) d) ≡ Less → ⊥) → (j : ℕ) → j < n → section_cmp (get_or xs j e) (get_or ys k d) ≡ Less
+all_before xs ys n k d e sorted apart few l never j h =
+    let last : n - 1 < length xs = omega (arith, h, few) in
+    let less : section_cmp (get_or xs (n - 1) d) (get_or ys k d) ≡ Less = other_less (get_or ys k d) (get_or xs (n - 1) d) (λ same. apart_other xs ys (n - 1) k d apart last l (sym same)) (never (omega (arith, h))) in
+    before_more xs (get_or ys k d) (n - 1) j d e sorted last less (omega (arith, h))
 
 -- the front `rest` of the list, the first new sections, so many of them, and behind these what was merged, together all sections
 pub record Merging (xs ys rest done : List SectionPos) (left : ℕ) : Type 0 where
@@ -132,15 +159,7 @@ module _ (xs ys rest done : List SectionPos) (left at : ℕ) (d : SectionPos) (m
 
   -- the first one that it is not behind is behind it, since it is another one
   less : at < length rest → section_cmp new (get_or rest at d) ≡ Less
-  less h = go (section_cmp (get_or rest at d) new) refl
-    where
-      there : is_among ys new ≡ true
-      there = among_at ys left d l
-
-      go : (o : Ordering) → section_cmp (get_or rest at d) new ≡ o → section_cmp new (get_or rest at d) ≡ Less
-      go Less e = absurd (behind at d (omega arith) h e)
-      go Equal e = let same = sections_tell.same (get_or rest at d) new e in absurd (false≢true (sym (m.apart (get_or rest at d) (among_at rest at d h)) ∙ ap (is_among ys) same ∙ there))
-      go Greater e = sections_tell.order.antisymm new (get_or rest at d) ∙ ap ordering_reverse e
+  less h = other_less (get_or rest at d) new (apart_other rest ys at left d m.apart h l) (behind at d (omega arith) h)
 
   before_after : Sorted (new ∷ after)
   unfolding IsStrictlySortedBy
@@ -175,25 +194,125 @@ module _ (xs ys rest done : List SectionPos) (left at : ℕ) (d : SectionPos) (m
       five false false false true g = refl
       five false false false false g = refl
 
+-- an element of a list in order is before those behind it
+before_next : (ys : List SectionPos) (j k : ℕ) (d : SectionPos) → Sorted ys → j ≤ k → k < length ys → (s : SectionPos) → section_cmp s (get_or ys j d) ≡ Less → section_cmp s (get_or ys k d) ≡ Less
+before_next ys j k d sorted l h s less = elim (cases_lt j k) [
+  | inl v ↦ sections_tell.order.trans s (get_or ys j d) (get_or ys k d) less (Less-from_sorted section_cmp ys j k d sorted v h)
+  | inr v ↦ let at : j ≡ k = omega arith in subst (λ (i : ℕ). section_cmp s (get_or ys i d) ≡ Less) at less
+]
+
+-- so many of the last new sections go in behind all that is left
+merging_run : (xs ys rest done : List SectionPos) (from n : ℕ) (d : SectionPos) → Merging xs ys rest done (from + n) → Sorted ys → from + n ≤ length ys
+    → (0 < n → (k : ℕ) (e : SectionPos) → k < length rest → section_cmp (get_or rest k e) (get_or ys from d) ≡ Less) → Merging xs ys rest (slice_range ys from (from + n) ++ done) from
+merging_run xs ys rest done from zero d m sorted l before =
+    let none : from + 0 - from ≡ 0 = omega arith in
+    let same : from + 0 ≡ from = omega arith in
+    subst (λ (k : ℕ). Merging xs ys rest (take k (drop from ys) ++ done) from) (sym none) (subst (Merging xs ys rest done) same m)
+merging_run xs ys rest done from (suc n) d m sorted l before =
+    let new = get_or ys (from + n) d in
+    let next : from + suc n ≡ from + n + 1 = omega arith in
+    let many : from + suc n - from ≡ n + 1 = omega arith in
+    let fewer : n ≡ from + n - from = omega arith in
+    let inside : from + n < length ys = omega (arith, l) in
+    let front : take (length rest) rest ≡ rest = take_all (length rest) rest (omega arith) in
+    let back : drop (length rest) rest ≡ [] = drop_all (length rest) rest (omega arith) in
+    let one : Merging xs ys (take (length rest) rest) (new ∷ (drop (length rest) rest ++ done)) (from + n) =
+    merging_more xs ys rest done (from + n) (length rest) d (subst (Merging xs ys rest done) next m) sorted inside (omega arith)
+    (λ k e h. before_next ys from (from + n) d sorted (omega arith) inside (get_or rest k e) (before (omega arith) k e h)) (λ k e u h _. absurd (omega (arith, u, h))) in
+    let step : Merging xs ys rest (new ∷ done) (from + n) = subst (λ (zs : List SectionPos). Merging xs ys rest (new ∷ (zs ++ done)) (from + n)) back (subst (λ (zs : List SectionPos). Merging xs ys zs (new ∷ (drop (length rest) rest ++ done)) (from + n)) front one) in
+    let last : take (n + 1) (drop from ys) ≡ take n (drop from ys) ++ new ∷ [] =
+    take_more (drop from ys) n d (omega (arith, inside, length-drop from ys)) ∙ ap (λ s. take n (drop from ys) ++ s ∷ []) (get_or-drop from ys n d) in
+    let joined : slice_range ys from (from + n) ++ new ∷ done ≡ slice_range ys from (from + suc n) ++ done =
+    ap (λ k. take k (drop from ys) ++ new ∷ done) (sym fewer) ∙ sym (append_assoc (take n (drop from ys)) (new ∷ []) done) ∙ ap (λ zs. zs ++ done) (sym last) ∙ ap (λ k. take k (drop from ys) ++ done) (sym many) in
+    subst (λ (zs : List SectionPos). Merging xs ys rest zs from) joined
+    (merging_run xs ys rest (new ∷ done) from n d step sorted (omega (arith, l)) (λ _ k e h. before (omega arith) k e h))
+
+-- the new sections from `from` on go in behind `at` ones: the last of them is behind these and before the others, and the last of these is not behind the first of them
+merging_runs : (xs ys rest done : List SectionPos) (from left at : ℕ) (d : SectionPos) → Merging xs ys rest done left → Sorted ys → from < left → left ≤ length ys → at ≤ length rest
+    → ((k : ℕ) (e : SectionPos) → k < at → section_cmp (get_or rest k e) (get_or ys (left - 1) d) ≡ Less)
+    → ((k : ℕ) (e : SectionPos) → at ≤ k → k < length rest → section_cmp (get_or rest k e) (get_or ys (left - 1) d) ≡ Less → ⊥)
+    → ((k : ℕ) (e : SectionPos) → k < at → section_cmp (get_or rest k e) (get_or ys from d) ≡ Less)
+    → Merging xs ys (take at rest) (slice_range ys from left ++ (drop at rest ++ done)) from
+merging_runs xs ys rest done from left at d m sorted u l v before behind first =
+    let n = left - 1 - from in
+    let one : left ≡ left - 1 + 1 = omega (arith, u) in
+    let all : left - 1 ≡ from + n = omega (arith, u) in
+    let step : Merging xs ys (take at rest) (get_or ys (left - 1) d ∷ (drop at rest ++ done)) (left - 1) =
+    merging_more xs ys rest done (left - 1) at d (subst (Merging xs ys rest done) one m) sorted (omega (arith, u, l)) v before behind in
+    let long : length (take at rest) ≡ at = length-take-le at rest v in
+    let run : Merging xs ys (take at rest) (slice_range ys from (from + n) ++ (get_or ys (left - 1) d ∷ (drop at rest ++ done))) from =
+    merging_run xs ys (take at rest) (get_or ys (left - 1) d ∷ (drop at rest ++ done)) from n d (subst (Merging xs ys (take at rest) (get_or ys (left - 1) d ∷ (drop at rest ++ done))) all step) sorted (omega (arith, u, l))
+    (λ _ k e h. ap (λ s. section_cmp s (get_or ys from d)) (get_or-take at rest k e (omega (arith, h, long))) ∙ first k e (omega (arith, h, long))) in
+    let place : from + (left - 1 - from) ≡ left - 1 = omega (arith, u) in
+    let few : from + n - from ≡ n = omega arith in
+    let many : left - from ≡ n + 1 = omega (arith, u) in
+    let last : take (n + 1) (drop from ys) ≡ take n (drop from ys) ++ get_or ys (left - 1) d ∷ [] =
+    take_more (drop from ys) n d (omega (arith, u, l, length-drop from ys)) ∙ ap (λ s. take n (drop from ys) ++ s ∷ []) (get_or-drop from ys n d ∙ ap (λ k. get_or ys k d) place) in
+    let joined : slice_range ys from (from + n) ++ (get_or ys (left - 1) d ∷ (drop at rest ++ done)) ≡ slice_range ys from left ++ (drop at rest ++ done) =
+    ap (λ k. take k (drop from ys) ++ (get_or ys (left - 1) d ∷ (drop at rest ++ done))) few ∙ sym (append_assoc (take n (drop from ys)) (get_or ys (left - 1) d ∷ []) (drop at rest ++ done))
+    ∙ ap (λ zs. zs ++ (drop at rest ++ done)) (sym last) ∙ ap (λ k. take k (drop from ys) ++ (drop at rest ++ done)) (sym many) in
+    subst (λ (zs : List SectionPos). Merging xs ys (take at rest) zs from) joined run
+
 -- the row, whose front is not merged yet, and behind a gap what was merged, after a step
-pub merging_shifted : (xs ys row : List SectionPos) (start end left k : ℕ) (d : SectionPos) → left ≡ k + 1 → Merging xs ys (take end row) (drop (end + left) row) left → Sorted ys → left ≤ length ys → end + left ≤ length row → start ≤ length (take end row)
-    → ((n : ℕ) (e : SectionPos) → n < start → section_cmp (get_or (take end row) n e) (get_or ys k d) ≡ Less)
-    → ((n : ℕ) (e : SectionPos) → start ≤ n → n < length (take end row) → section_cmp (get_or (take end row) n e) (get_or ys k d) ≡ Less → ⊥)
-    → Merging xs ys (take start (shifted row start end k (get_or ys k d))) (drop (start + k) (shifted row start end k (get_or ys k d))) k
-merging_shifted xs ys row start end left k d one m sorted l fits u before behind =
-    let new = get_or ys k d in
+pub merging_shifted : (xs ys row : List SectionPos) (start end left from : ℕ) (d : SectionPos) → Merging xs ys (take end row) (drop (end + left) row) left → Sorted ys → from < left → left ≤ length ys → end + left ≤ length row → start ≤ length (take end row)
+    → ((n : ℕ) (e : SectionPos) → n < start → section_cmp (get_or (take end row) n e) (get_or ys (left - 1) d) ≡ Less)
+    → ((n : ℕ) (e : SectionPos) → start ≤ n → n < length (take end row) → section_cmp (get_or (take end row) n e) (get_or ys (left - 1) d) ≡ Less → ⊥)
+    → ((n : ℕ) (e : SectionPos) → n < start → section_cmp (get_or (take end row) n e) (get_or ys from d) ≡ Less)
+    → Merging xs ys (take start (shifted row start end from (slice_range ys from left))) (drop (start + from) (shifted row start end from (slice_range ys from left))) from
+merging_shifted xs ys row start end left from d m sorted some l fits u before behind least =
+    let run = slice_range ys from left in
+    let many : length run ≡ left - from = length-take-le (left - from) (drop from ys) (omega (arith, l, length-drop from ys)) in
     let long : length (take end row) ≡ end = length-take-le end row (omega (arith, fits)) in
-    let first : length (take (start + k) row) ≡ start + k = length-take-le (start + k) row (omega (arith, fits, one, u, long)) in
-    let tail = new ∷ (slice_range row start end ++ drop (end + suc k) row) in
-    let front : take start (take end row) ≡ take start (shifted row start end k new) =
-    take-take start end row (omega (arith, u, long)) ∙ sym (take-append-le start (take (start + k) row) tail (omega (arith, first)) ∙ take-take start (start + k) row (omega arith)) in
+    let first : length (take (start + from) row) ≡ start + from = length-take-le (start + from) row (omega (arith, fits, some, u, long)) in
+    let tail = run ++ (slice_range row start end ++ drop (end + from + length run) row) in
+    let front : take start (take end row) ≡ take start (shifted row start end from run) =
+    take-take start end row (omega (arith, u, long)) ∙ sym (take-append-le start (take (start + from) row) tail (omega (arith, first)) ∙ take-take start (start + from) row (omega arith)) in
     let middle : drop start (take end row) ≡ slice_range row start end = ap (λ n. drop start (take n row)) (let e : end ≡ start + (end - start) = omega (arith, u, long) in e) ∙ drop-take start (end - start) row in
-    let last : end + left ≡ end + suc k = omega (arith, one) in
-    let back : new ∷ (drop start (take end row) ++ drop (end + left) row) ≡ drop (start + k) (shifted row start end k new) =
-    (λ i. new ∷ (middle i ++ drop (last i) row)) ∙ sym (drop_at (take (start + k) row) tail (start + k) first) in
-    subst (λ (zs : List SectionPos). Merging xs ys zs (drop (start + k) (shifted row start end k new)) k) front
-    (subst (λ (zs : List SectionPos). Merging xs ys (take start (take end row)) zs k) back
-    (merging_more xs ys (take end row) (drop (end + left) row) k start d (subst (Merging xs ys (take end row) (drop (end + left) row)) one m) sorted (omega (arith, l, one)) u before behind))
+    let last : end + left ≡ end + from + length run = omega (arith, some, many) in
+    let back : run ++ (drop start (take end row) ++ drop (end + left) row) ≡ drop (start + from) (shifted row start end from run) =
+    (λ i. run ++ (middle i ++ drop (last i) row)) ∙ sym (drop_at (take (start + from) row) tail (start + from) first) in
+    subst (λ (zs : List SectionPos). Merging xs ys zs (drop (start + from) (shifted row start end from run)) from) front
+    (subst (λ (zs : List SectionPos). Merging xs ys (take start (take end row)) zs from) back
+    (merging_runs xs ys (take end row) (drop (end + left) row) from left start d m sorted some l u before behind least))
+
+-- the same by two searches: for the last new section among those that are left, and for the last of these before it among the new ones
+pub merging_found : (xs ys row : List SectionPos) (start end left from : ℕ) (d : SectionPos) → Merging xs ys (take end row) (drop (end + left) row) left → Sorted ys → 0 < left → left ≤ length ys → end + left ≤ length row → start ≤ length (take end row)
+    → ((n : ℕ) (e : SectionPos) → n < start → section_cmp (get_or (take end row) n e) (get_or (take left ys) (length (take left ys) - 1) e) ≡ Less)
+    → ((n : ℕ) (e : SectionPos) → start ≤ n → n < length (take end row) → 0 < length (take left ys) → section_cmp (get_or (take end row) n e) (get_or (take left ys) (length (take left ys) - 1) e) ≡ Less → ⊥)
+    → (length (take start row) ≡ 0 → from ≡ 0)
+    → ((n : ℕ) (e : SectionPos) → n < from → section_cmp (get_or (take left ys) n e) (get_or (take start row) (length (take start row) - 1) e) ≡ Less)
+    → ((n : ℕ) (e : SectionPos) → from ≤ n → n < length (take left ys) → 0 < length (take start row) → section_cmp (get_or (take left ys) n e) (get_or (take start row) (length (take start row) - 1) e) ≡ Less → ⊥)
+    → (from < left) × Merging xs ys (take start (shifted row start end from (slice_range ys from left))) (drop (start + from) (shifted row start end from (slice_range ys from left))) from
+merging_found xs ys row start end left from d m sorted some l fits u before behind none least most =
+    let rest = take end row in
+    let long : length rest ≡ end = length-take-le end row (omega (arith, fits)) in
+    let many : length (take left ys) ≡ left = length-take-le left ys l in
+    let short : length (take start row) ≡ start = length-take-le start row (omega (arith, u, long, fits)) in
+    let last : (e : SectionPos) → get_or (take left ys) (length (take left ys) - 1) e ≡ get_or ys (left - 1) e =
+    λ e. ap (λ k. get_or (take left ys) (k - 1) e) many ∙ get_or-take left ys (left - 1) e (omega (arith, some)) in
+    let told : (e : SectionPos) → get_or ys (left - 1) e ≡ get_or ys (left - 1) d = λ e. get_or_default ys (left - 1) e d (omega (arith, some, l)) in
+    let first : (e : SectionPos) → 0 < start → get_or (take start row) (length (take start row) - 1) e ≡ get_or rest (start - 1) e =
+    λ e h. ap (λ k. get_or (take start row) (k - 1) e) short ∙ get_or-take start row (start - 1) e (omega (arith, h)) ∙ sym (get_or-take end row (start - 1) e (omega (arith, h, u, long))) in
+    let ahead : (n : ℕ) (e : SectionPos) → n < start → section_cmp (get_or rest n e) (get_or ys (left - 1) d) ≡ Less =
+    λ n e h. ap (section_cmp (get_or rest n e)) (sym (last e ∙ told e)) ∙ before n e h in
+    let after : (n : ℕ) (e : SectionPos) → start ≤ n → n < length rest → section_cmp (get_or rest n e) (get_or ys (left - 1) d) ≡ Less → ⊥ =
+    λ n e h v less. behind n e h v (omega (arith, some, many)) (ap (section_cmp (get_or rest n e)) (last e ∙ told e) ∙ less) in
+    let never : 0 < start → left ≤ from → ⊥ =
+    λ h v.
+    let less : section_cmp (get_or ys (left - 1) d) (get_or rest (start - 1) d) ≡ Less =
+    (λ i. section_cmp (sym (get_or-take left ys (left - 1) d (omega (arith, some))) i) (sym (first d h) i)) ∙ least (left - 1) d (omega (arith, some, v)) in
+    less_not_less (get_or ys (left - 1) d) (get_or rest (start - 1) d) less (ahead (start - 1) d (omega (arith, h))) in
+    let fewer : from < left = elim (cases_lt from left) [
+      | inl h ↦ h
+      | inr h ↦ elim (cases_lt 0 start) [
+        | inl v ↦ absurd (never v h)
+        | inr v ↦ absurd (let e : from ≡ 0 = none (omega (arith, short, v)) in let no : left ≤ 0 = omega (arith, e, h) in (omega (arith, no, some)))
+      ]
+    ] in
+    let in_front : (n : ℕ) (e : SectionPos) → n < start → section_cmp (get_or rest n e) (get_or ys from d) ≡ Less =
+    λ n e h. all_before rest ys start from d e (sorted_front rest (drop (end + left) row) m.first) m.apart u (omega (arith, fewer, l))
+    (λ v less. most from d (omega arith) (omega (arith, fewer, many)) (omega (arith, v, short)) ((λ i. section_cmp (get_or-take left ys from d fewer i) (first d v i)) ∙ less)) n h in
+    (fewer, merging_shifted xs ys row start end left from d m sorted fewer l fits u ahead after in_front)
 
 pub merged_row : (xs ys row : List SectionPos) (end left : ℕ) → left ≤ 0 → Merging xs ys (take end row) (drop (end + left) row) left → IsRow xs → IsRow ys → row ≡ united xs ys
 merged_row xs ys row end left l m a b =

@@ -1,6 +1,6 @@
 //! Lists of sections in order.
 
-ghost use Rattle.std.specs.Prelude.{◌≡◌, ◌≢◌, ℕ, ◌+◌, ◌<◌, ◌≤◌, [], ◌++◌, length, replicate, slice_index_or, take, IfOk};
+ghost use Rattle.std.specs.Prelude.{◌≡◌, ◌≢◌, ℕ, ◌+◌, ◌-◌, ◌<◌, ◌≤◌, [], ◌++◌, length, replicate, slice_index_or, take, IfOk};
 ghost use Rattle.std.specs.List.{All};
 ghost use Rattle.std.specs.List.Sorted.{IsStrictlySortedBy};
 ghost use Rattle.std.specs.Vec.{vec_capacity};
@@ -163,8 +163,28 @@ fn count_before(xs: &[SectionPos], s: SectionPos) -> usize
     low
 }
 
+/// How many sections at the front of a list in order are before the last one of others in order; none where there are no others.
+fn count_before_last(xs: &[SectionPos], others: &[SectionPos]) -> usize
+    requires { IsStrictlySortedBy section_cmp xs.now }
+    ensures few { result ≤ length xs.now }
+    ensures none { length others.now ≡ 0 → result ≡ 0 }
+    ensures before { (k : ℕ) (d : SectionPos) → k < result
+        → section_cmp (slice_index_or xs.now k d)
+        (slice_index_or others.now (length others.now - 1) d) ≡ Less }
+    ensures behind { (k : ℕ) (d : SectionPos) → result ≤ k → k < length xs.now
+        → 0 < length others.now → section_cmp (slice_index_or xs.now k d)
+        (slice_index_or others.now (length others.now - 1) d) ≢ Less }
+{
+    if others.is_empty() {
+        0
+    } else {
+        count_before(xs, others[others.len() - 1])
+    }
+}
+
 /// Merges sections in order into a list whose first `len` are in order too and are none of these, and which has as many places
-/// more. What comes behind the first new section moves once, and nothing before it.
+/// more. What comes behind the first new section moves once, and nothing before it. New ones with none of the list between them go
+/// in together.
 fn merge(lists: &mut Lists<SectionPos>, n: usize, len: usize, sections: &[SectionPos])
     requires number { n < length lists.old.lists }
     requires row { IsRow (take len (list_at lists.old n)) }
@@ -178,10 +198,11 @@ fn merge(lists: &mut Lists<SectionPos>, n: usize, len: usize, sections: &[Sectio
     let mut end = len;
     let mut left = sections.len();
     while 0 < left {
-        left -= 1;
-        let section = sections[left];
-        let at = count_before(&lists.get(n)[..end], section);
-        lists.shift_in(n, at, end, left, section);
+        let row = lists.get(n);
+        let at = count_before_last(&row[..end], &sections[..left]);
+        let first = count_before_last(&sections[..left], &row[..at]);
+        lists.shift_in(n, at, end, first, &sections[first..left]);
         end = at;
+        left = first;
     }
 }

@@ -1,10 +1,13 @@
 -- The numbers that are known of the regions.
-use Rattle.std.proofs.Common.{◌≡◌, ℕ, ◌<◌, ◌≤◌, ◌∙◌, refl, sym, ap, arith, inl, inr, true, false, List, [], ◌∷◌, length, get_or, set}
-use Rattle.std.specs.Prelude.{◌≢◌, nat_eq, if◌then◌else◌, min}
+use Rattle.std.proofs.Common.{◌≡◌, ℕ, suc, ◌+◌, ◌<◌, ◌≤◌, ◌∙◌, refl, sym, ap, arith, inl, inr, true, false, Bool, cond, List, [], ◌∷◌, ◌||◌, length, get_or, set, take}
+use Rattle.std.specs.Prelude.{◌≢◌, nat_eq, if◌then◌else◌, min, count_by}
 use Rattle.std.proofs.lemmas.Bool.{cases_Bool, cases_eq, eq-eqb, eqb-true, ne_eqb, true≢false}
+use Rattle.std.proofs.lemmas.List.Folds.{list_any_more}
 use Rattle.std.proofs.lemmas.List.{get_or-set_same, get_or-set_other, get_or_default}
+use Rattle.fol_laws.proofs.ListCounts.{count_by-cons}
+use Rattle.fol_regions.specs.Added.{is_id}
 use Rattle.fol_regions.specs.Changes.{into}
-use Rattle.fol_regions.specs.DeadBounds.{most_in, most_of, place, raised}
+use Rattle.fol_regions.specs.DeadBounds.{most_in, most_of, place}
 use Rattle.fol_regions.specs.declared.change.MergePair.{MergePair}
 use Rattle.fol_regions.specs.declared.dead_bounds.Known.{Known}
 
@@ -50,31 +53,55 @@ module _ (known : List Known) (id n at : ℕ) (is : at ≡ place id) (l : at < l
     | inr e ↦ let y = other_id r e in rw y (omega (arith, put_else r e))
   ]
 
-  -- one more of a region of which something is known
-  pub most_raised : (k : Known) → k ≡ get_or known at k → k.id ≡ id → n ≡ raised k.most → (r : ℕ)
-      → most_in (set known at (record { id = id; most = n })) r ≡ (if nat_eq id r then raised (most_in known r) else most_in known r)
-  most_raised k here same more r = elim (cases_eq (place r) at) [
-    | inl e ↦
-        let p = put_at r e in
+  -- so many more of a region of which something is known
+  pub most_raised : (k : Known) (more : ℕ) → k ≡ get_or known at k → k.id ≡ id → n ≡ min 16384 (k.most + more) → (r : ℕ)
+      → min 16384 (most_in known r + (if nat_eq id r then more else 0)) ≤ most_in (set known at (record { id = id; most = n })) r
+  most_raised k more here same e r = elim (cases_eq (place r) at) [
+    | inl f ↦
+        let p = put_at r f in
         elim (cases_Bool (nat_eq id r)) [
           | inl y ↦
               let q = rw y at p in
-              let old = most_known known r at k (sym e) l here (same ∙ eqb-true id r y) in
-              rw y (q ∙ more ∙ ap raised old)
-          | inr y ↦
-              let q = rw y at p in
-              let old = most_unknown known r at k (sym e) l here (λ i. true≢false (sym (eq-eqb id r (sym same ∙ i)) ∙ y)) in
-              rw y (q ∙ old)
+              let old = most_known known r at k (sym f) l here (same ∙ eqb-true id r y) in
+              rw y (omega (arith, q, e, old))
+          | inr y ↦ let q = rw y at p in rw y (omega (arith, q))
         ]
-    | inr e ↦ let y = other_id r e in rw y (put_else r e)
+    | inr f ↦ let y = other_id r f in rw y (omega (arith, put_else r f))
   ]
 
 -- nothing is known of a region
-pub most_kept : (known : List Known) (id r : ℕ) → 16384 ≡ most_in known id → most_in known r ≡ (if nat_eq id r then raised (most_in known r) else most_in known r)
-most_kept known id r e = elim (cases_Bool (nat_eq id r)) [
-  | inl y ↦ let f : most_in known r ≡ 16384 = ap (most_in known) (sym (eqb-true id r y)) ∙ sym e in rw (y, f) refl
-  | inr y ↦ rw y refl
+pub most_kept : (known : List Known) (id more r : ℕ) → 16384 ≡ most_in known id → min 16384 (most_in known r + (if nat_eq id r then more else 0)) ≤ most_in known r
+most_kept known id more r e = elim (cases_Bool (nat_eq id r)) [
+  | inl y ↦ let f : most_in known r ≡ 16384 = ap (most_in known) (sym (eqb-true id r y)) ∙ sym e in rw y (omega (arith, f))
+  | inr y ↦ rw y (omega arith)
 ]
+
+-- a region that was created more, of which it is known that none of its sections is dead
+pub one_created : (ids : List ℕ) (i r before old new : ℕ) → i < length ids → (if is_id (take i ids) r then 0 else before) ≤ old → before ≤ 16384
+    → min 16384 (if nat_eq (get_or ids i 0) r then 0 else old) ≤ new → (if is_id (take (i + 1) ids) r then 0 else before) ≤ new
+one_created ids i r before old new l known few noted = go (is_id (take i ids) r) (nat_eq r (get_or ids i 0)) refl refl
+  where
+    go : (a b : Bool) → is_id (take i ids) r ≡ a → nat_eq r (get_or ids i 0) ≡ b → (if is_id (take (i + 1) ids) r then 0 else before) ≤ new
+    go true b e f = let more : is_id (take (i + 1) ids) r ≡ true = list_any_more (nat_eq r) ids i 0 l ∙ ap (λ x. x || nat_eq r (get_or ids i 0)) e in rw more (omega arith)
+    go false true e f = let more : is_id (take (i + 1) ids) r ≡ true = list_any_more (nat_eq r) ids i 0 l ∙ ap (λ x. x || nat_eq r (get_or ids i 0)) e ∙ f in rw more (omega arith)
+    go false false e f =
+        let more : is_id (take (i + 1) ids) r ≡ false = list_any_more (nat_eq r) ids i 0 l ∙ ap (λ x. x || nat_eq r (get_or ids i 0)) e ∙ f in
+        let other : nat_eq (get_or ids i 0) r ≡ false = ne_eqb (get_or ids i 0) r (λ x. true≢false (sym (eq-eqb r (get_or ids i 0) (sym x)) ∙ f)) in
+        let a = rw e at known in
+        let b = rw other at noted in
+        rw more (omega (arith, a, b, few))
+
+-- ids that are all the same
+pub count_alike : (xs : List ℕ) (x r : ℕ) → ((k d : ℕ) → k < length xs → get_or xs k d ≡ x) → count_by (λ id. nat_eq id r) xs ≡ (if nat_eq x r then length xs else 0)
+count_alike [] x r same = elim (cases_Bool (nat_eq x r)) [ inl y ↦ rw y refl | inr y ↦ rw y refl ]
+count_alike (y ∷ xs) x r same =
+    let first : y ≡ x = same 0 0 (omega arith) in
+    let step = count_by-cons (λ id. nat_eq id r) y xs in
+    let rest = count_alike xs x r (λ k d l. same (suc k) d (omega arith)) in
+    elim (cases_Bool (nat_eq x r)) [
+      | inl h ↦ let one : nat_eq y r ≡ true = ap (λ i. nat_eq i r) first ∙ h in let others = rw h at rest in rw h (omega (arith, step, ap (λ b. cond {A = ℕ} b 1 0) one, others))
+      | inr h ↦ let one : nat_eq y r ≡ false = ap (λ i. nat_eq i r) first ∙ h in let others = rw h at rest in rw h (omega (arith, step, ap (λ b. cond {A = ℕ} b 1 0) one, others))
+    ]
 
 pub first_into : (merges : List MergePair) (t : ℕ) (us : List ℕ) (d : MergePair) → merges ≡ into t us → 0 < length merges → (get_or merges 0 d).into ≡ t
 first_into merges t [] d e l = absurd (omega (arith, ap length e))

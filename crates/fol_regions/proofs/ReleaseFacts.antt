@@ -19,6 +19,7 @@ use Rattle.fol_model.specs.Rules.{Rules}
 use Rattle.fol_laws.proofs.SectionOrder.{section_members}
 use Rattle.fol_laws.proofs.CleanedGrid as grid
 use Rattle.fol_laws.proofs.Joins as joins
+use Rattle.fol_laws.proofs.ListCounts.{count_by-none}
 use Rattle.fol_sections.specs.Table.{holds_of, presence_of, in_margin_of}
 use Rattle.fol_sections.specs.Table as sections
 use Rattle.fol_split.specs.Parts.{ArePartsOf}
@@ -63,6 +64,29 @@ fewer_worn min size num den dead most l h = elim (cases_Bool (nat_le min size &&
 no_length : (xs : List ℕ) → length xs ≡ 0 → xs ≡ []
 no_length [] e = refl
 no_length (x ∷ xs) e = absurd (omega arith)
+
+-- a section that is in no margin has no owner after a cleaning, or is another region's
+leaves_dead : (joined owner part t : ℕ) (margin : Bool) → 0 < t → (nat_eq joined t ≡ false → nat_eq owner t ≡ false) → (nat_eq (if nat_eq joined t then (if margin then part else 0) else owner) t && not margin) ≡ false
+leaves_dead joined owner part t margin pos other = go (nat_eq joined t) refl margin
+  where
+    go : (b : Bool) → nat_eq joined t ≡ b → (m : Bool) → (nat_eq (if b then (if m then part else 0) else owner) t && not m) ≡ false
+    go true e true = and-false (nat_eq part t)
+    go true e false = let n : nat_eq 0 t ≡ false = ne_eqb 0 t (λ i. absurd (omega (arith, i, pos))) in rw n refl
+    go false e m = let n = other e in rw n refl
+
+not_joined : (g : GridState) (t : ℕ) (q : SectionPos) → nat_eq (joined_owner g t q) t ≡ false → nat_eq (g.owner q) t ≡ false
+not_joined g t q = go (g.waits (g.owner q) t)
+  where
+    go : (w : Bool) → nat_eq (if w then t else g.owner q) t ≡ false → nat_eq (g.owner q) t ≡ false
+    go true n = absurd (true≢false (sym (eq-eqb t t refl) ∙ n))
+    go false n = n
+
+-- a region that was cleaned has no dead section
+cleaned_dead : (g : GridState) (t : ℕ) → 0 < t → dead_count (cleaned g t) t ≡ 0
+unfolding dead_count in_margin
+cleaned_dead g t pos =
+    count_same (λ q. nat_eq ((cleaned g t).owner q) t && not (in_margin g q)) (λ q. false) (λ q. leaves_dead (joined_owner g t q) (g.owner q) (part_id g t q) t (in_margin g q) pos (not_joined g t q))
+    ∙ count_by-none (λ q. false) (λ q. refl) all_sections
 
 module _ (s : sections.Table) (b : Book) (t : ℕ) (rules : Rules (grid_of s b)) (ticks : (grid_of s b).state t ≡ Ticking) (h : IsBook b) where
   -- ---- before the joins
@@ -357,6 +381,11 @@ module _ (s : sections.Table) (b : Book) (t : ℕ) (rules : Rules (grid_of s b))
           by_cases [] e c = by_none d (sym (ap length e)) c
           by_cases (p ∷ []) e c = by_one d (sym (ap length e)) c.0 c.1 c.2
           by_cases (p ∷ q ∷ ps) e c = by_more d (omega (arith, ap length e)) c.0 c.1 (let f = e in rw (← f) c.2)
+
+      -- ---- none of the sections that it has then is dead
+      pub cleaned_none : (e : sections.Table) (d : Book) → e.grid ≡ s.grid → holds_of e ≡ holds_of s → IsCleaned d → dead_count (grid_of e d) t ≡ 0
+      unfolding grid_of
+      cleaned_none e d a c x = ap (λ (g : GridState). dead_count g t) (test.grid_is (grid_of e d) (cleaned (grid_of s b) t) a c x.owner x.state x.waits x.next) ∙ cleaned_dead (grid_of s b) t (joins.t_pos (grid_of s b) t rules ticks)
 
       -- ---- the state and the change
       module _ (calm : must_wait (grid_of s b) t ≡ false) (cleaning : cleans (grid_of s b) t ≡ true) where

@@ -1,5 +1,5 @@
 -- How many dead sections a region has, and numbers that these are at most.
-use Rattle.std.specs.Prelude.{ℕ, ◌+◌, ◌%◌, ◌<◌, ◌≤◌, Bool, not, ◌&&◌, nat_eq, nat_lt, if◌then◌else◌, List}
+use Rattle.std.specs.Prelude.{ℕ, ◌%◌, ◌<◌, ◌≤◌, Bool, not, ◌&&◌, nat_eq, if◌then◌else◌, List}
 use Rattle.std.specs.List.{slice_index_or}
 use Rattle.fol_model.specs.declared.places.TheConstants.{MOST_SECTIONS}
 use Rattle.fol_model.specs.declared.places.SectionPos.{SectionPos}
@@ -29,10 +29,6 @@ most_of r known = if nat_eq known.id r then known.most else MOST_SECTIONS
 -- the number of a region
 unfoldable pub most_in : List Known → ℕ → ℕ
 most_in known r = most_of r (slice_index_or known (place r) (record { id = 0; most = MOST_SECTIONS }))
-
--- one more, but no more than 16,384
-abbrev pub raised : ℕ → ℕ
-raised n = if nat_lt n MOST_SECTIONS then n + 1 else n
 
 -- the section is the region's, and in no margin
 abbrev pub is_dead_in : sections.Table → Book → ℕ → SectionPos → Bool

@@ -5,8 +5,9 @@ ghost use Rattle.std.specs.Int.{int_rem_euclid};
 ghost use Rattle.fol_model.specs.declared.places.SectionPos.{SectionPos};
 ghost use Rattle.fol_model.specs.Universe.{square};
 ghost use Rattle.fol_region_tables.specs.Book.{owner_of};
+ghost use Rattle.fol_regions.specs.Added.{is_id};
 ghost use Rattle.fol_regions.specs.Changes.{into};
-ghost use Rattle.fol_regions.specs.DeadBounds.{is_dead_in, most_in, place, raised};
+ghost use Rattle.fol_regions.specs.DeadBounds.{is_dead_in, most_in, place};
 ghost use Rattle.fol_regions.specs.Released.{IsPresence};
 
 use crate::MergePair;
@@ -126,15 +127,36 @@ fn note_list(known: &mut [Known], tables: &Tables, list: &[SectionPos])
     }
 }
 
-/// Notes a section of each of these regions.
+/// Notes a section of each of these regions. Those that stand side by side are mostly the same, and are noted together.
 fn note_run(known: &mut [Known], ids: &[u64])
-    requires { length known.old ≡ MOST_SECTIONS }
+    requires known { length known.old ≡ MOST_SECTIONS }
+    requires few { length ids.now ≤ 32 }
     ensures { (r : ℕ) → min MOST_SECTIONS (most_in known.old r
         + count_by (λ id. nat_eq id r) ids.now) ≤ most_in known.new r }
 {
-    for id in ids {
-        raise(known, *id);
+    let mut rest = ids;
+    while !rest.is_empty() {
+        let (same, others) = rest.split_at(same_len(rest));
+        raise(known, same[0], same.len() as u32);
+        rest = others;
     }
+}
+
+/// How many ids at the head of a list are the same.
+fn same_len(ids: &[u64]) -> usize
+    requires { 0 < length ids.now }
+    ensures some { 0 < result }
+    ensures few { result ≤ length ids.now }
+    ensures same { (k d : ℕ) → k < result → slice_index_or ids.now k d
+        ≡ slice_index_or ids.now 0 d }
+{
+    let first = ids[0];
+    for i in 1..ids.len() {
+        if ids[i] != first {
+            return i;
+        }
+    }
+    ids.len()
 }
 
 /// Whether a section stands that many columns behind another one in its row.
@@ -168,18 +190,19 @@ fn side_len(list: &[SectionPos]) -> usize
     most
 }
 
-/// A region has a dead section more.
-fn raise(known: &mut [Known], id: u64)
-    requires { length known.old ≡ MOST_SECTIONS }
-    ensures { (r : ℕ) → most_in known.new r
-        ≡ (if nat_eq id r then raised (most_in known.old r) else most_in known.old r) }
+/// A region has so many dead sections more.
+fn raise(known: &mut [Known], id: u64, more: u32)
+    requires known { length known.old ≡ MOST_SECTIONS }
+    requires few { more ≤ 32 }
+    ensures { (r : ℕ) → min MOST_SECTIONS (most_in known.old r
+        + (if nat_eq id r then more else 0)) ≤ most_in known.new r }
 {
     let at = place(id);
     let before = known[at];
     if before.id == id {
         known[at] = Known {
             id,
-            most: raised(before.most),
+            most: raised(before.most, more),
         };
     }
 }
@@ -192,11 +215,17 @@ fn place(id: u64) -> usize
     (id % MOST_SECTIONS as u64) as usize
 }
 
-/// One more, but no more than 16,384.
-fn raised(n: u32) -> u32
-    ensures { result ≡ raised n }
+/// So many more, but no more than 16,384.
+fn raised(most: u32, more: u32) -> u32
+    requires { more ≤ 32 }
+    ensures { result ≡ min MOST_SECTIONS (most + more) }
 {
-    if n < MOST_SECTIONS as u32 { n + 1 } else { n }
+    let limit = MOST_SECTIONS as u32;
+    if most < limit {
+        limit.min(most + more)
+    } else {
+        limit
+    }
 }
 
 /// Nothing is known any more of the region that others became part of, if there is one.
@@ -207,5 +236,15 @@ pub fn forget_joined(bounds: &mut DeadBounds, merges: &[MergePair])
 {
     if !merges.is_empty() {
         bounds.set(merges[0].into, MOST_SECTIONS as u32);
+    }
+}
+
+/// New regions have no dead section.
+pub fn note_created(bounds: &mut DeadBounds, ids: &[u64])
+    ensures { (r : ℕ) → (if is_id ids.now r then 0 else min MOST_SECTIONS (most_in bounds.old r))
+        ≤ most_in bounds.new r }
+{
+    for id in ids {
+        bounds.set(*id, 0);
     }
 }

@@ -105,7 +105,7 @@ impl Releaser {
         let size = self.cleaner.living.len() + dead;
         if must_clean(grid, self.ids.len(), size, dead) {
             self.cleaner.clean(tables, sections, change, grid.merge, id);
-            MOST_SECTIONS as u32
+            0
         } else {
             tables.set_state(id, State::Ready);
             dead as u32

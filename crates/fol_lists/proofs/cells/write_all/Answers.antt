@@ -1,4 +1,4 @@
-use Rattle.std.proofs.Common.{◌≡◌, ◌<◌, arith, length}
+use Rattle.std.proofs.Common.{◌≡◌, arith}
 use Rattle.fol_lists.specs.Spans.{IsTop}
 use Rattle.fol_lists.proofs.Written.{next_fit, next_room, written_all, written_fit, written_next, written_top, written_used}
 use Rattle.fol_lists.proofs.cells.write_all.Goals as goal

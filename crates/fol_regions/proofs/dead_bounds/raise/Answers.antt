@@ -8,10 +8,10 @@ pub returns-then-before-id : goal.returns-then-before-id
 returns-then-before-id c =
     let none : Known = record { id = 0; most = 0 } in
     let here = get_or_default c.args.known.now c.place-at.result none (get_or c.args.known.now c.place-at.result none) (omega arith) in
-    most_raised c.args.known.now c.args.id c.raised.result c.place-at.result c.place-at.ensures.at (omega arith) (get_or c.args.known.now c.place-at.result none) here c.if-before-id.true c.raised.ensures
+    most_raised c.args.known.now c.args.id c.raised.result c.place-at.result c.place-at.ensures.at (omega arith) (get_or c.args.known.now c.place-at.result none) c.args.more here c.if-before-id.true c.raised.ensures
 
 pub returns-else-before-id : goal.returns-else-before-id
 returns-else-before-id c = λ r.
     let none : Known = record { id = 0; most = 0 } in
     let here = get_or_default c.args.known.now c.place-at.result none (get_or c.args.known.now c.place-at.result none) (omega arith) in
-    most_kept c.args.known.now c.args.id r (most_unknown c.args.known.now c.args.id c.place-at.result (get_or c.args.known.now c.place-at.result none) c.place-at.ensures.at (omega arith) here c.if-before-id.false)
+    most_kept c.args.known.now c.args.id c.args.more r (most_unknown c.args.known.now c.args.id c.place-at.result (get_or c.args.known.now c.place-at.result none) c.place-at.ensures.at (omega arith) here c.if-before-id.false)

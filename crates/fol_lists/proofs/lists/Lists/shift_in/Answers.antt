@@ -70,7 +70,7 @@ invariant_of-self g c =
     let all : take c.open.new.cells.len (c.shift_last.new.cells ++ drop (length c.shift_last.new.cells) c.open.new.cells.items) ≡ c.shift_last.new.cells = all_written c.shift_last.new.cells c.open.new.cells.items c.open.new.cells.len long (omega arith) in
     let number = spanned c.self.inside.cells.items c.self.inside.spans.items c.args.n (rw (← c.self.view_is) at c.requires.number) in
     rw (all, written) (
-      spans_shifted c.open.new.cells.items c.shift_last.new.cells c.open.new.spans c.self.inside.room c.args.n (omega (arith, number)) c.args.start c.args.end c.args.by c.args.x c.requires.rising listed c.open.ensures.fit
+      spans_shifted c.open.new.cells.items c.shift_last.new.cells c.open.new.spans c.self.inside.room c.args.n (omega (arith, number)) c.args.start c.args.end c.args.by c.args.xs.now c.requires.rising listed c.open.ensures.fit
           (omega (arith, c.self.invariant.0.few, ap (sum_by length) same)) (omega (arith, c.open.ensures.room)) long shifts,
       c.open.ensures.none,
       c.open.ensures.memory,
@@ -88,4 +88,4 @@ returns g c =
     let shifts = rw (spans, cells) at c.shift_last.ensures.shifted in
     let long = c.shift_last.ensures.len ∙ ap length cells in
     let all : take c.open.new.cells.len (c.shift_last.new.cells ++ drop (length c.shift_last.new.cells) c.open.new.cells.items) ≡ c.shift_last.new.cells = all_written c.shift_last.new.cells c.open.new.cells.items c.open.new.cells.len long (omega arith) in
-    rw (all, written, ← c.self.view_is) (numbered_is _ _ c.self.inside.room (shifts ∙ ap (λ ps. slice_set ps c.args.n (shifted (get_or ps c.args.n []) c.args.start c.args.end c.args.by c.args.x)) same))
+    rw (all, written, ← c.self.view_is) (numbered_is _ _ c.self.inside.room (shifts ∙ ap (λ ps. slice_set ps c.args.n (shifted (get_or ps c.args.n []) c.args.start c.args.end c.args.by c.args.xs.now)) same))

@@ -1,7 +1,6 @@
 use Rattle.std.proofs.Common.{◌≡◌, ◌∙◌, [], ◌++◌, ap, arith, length}
 use Rattle.std.proofs.lemmas.List.{get_or-set_other, length-set}
 use Rattle.fol_lists.specs.Numbered.{list_at, total, with_list}
-use Rattle.fol_model.specs.declared.places.SectionPos.{SectionPos}
 use Rattle.fol_region_tables.specs.Rows.{united}
 use Rattle.fol_region_tables.proofs.Totals.{total_with, two_le}
 use Rattle.fol_region_tables.proofs.rows.Rows.join.Goals as goal

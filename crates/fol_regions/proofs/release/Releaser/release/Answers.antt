@@ -199,6 +199,16 @@ returns-then-must_clean-clause-presence c =
     let ok = rw grid at c.grid.invariant in
     facts.cleaned_presence c.args.sections.now c.args.tables.now c.args.id c.requires.rules c.requires.ticks c.keeps_lists.ensures c.join_all.new.tables c.deref.result.now is c.join_all.ensures.joins c.keeps_lists-2.ensures c.sort_out.new.self.living.items stays c.clean.new.self.splitter are calm cleaning ok c.clean.new.sections c.clean.new.tables c.sort_out.new.self.dead.items out c.requires.presence c.clean.ensures.presence x
 
+pub returns-then-must_clean-clause-dead : goal.returns-then-must_clean-clause-dead
+returns-then-must_clean-clause-dead c = λ _.
+    let is = c.deref.ensures.value ∙ c.list_waiting.ensures.ids in
+    let stays = rw c.sections.ensures at c.sort_out.ensures.living in
+    let grid = c.grid.view_is ∙ c.requires.grid in
+    let merge = ap (λ (x : GridNumbers). x.merge) grid in
+    let are = rw merge at c.clean.ensures.parts in
+    let x = facts.is_cleaned c.args.sections.now c.args.tables.now c.args.id c.requires.rules c.requires.ticks c.keeps_lists.ensures c.join_all.new.tables c.deref.result.now is c.join_all.ensures.joins c.keeps_lists-2.ensures c.sort_out.new.self.living.items stays c.clean.new.self.splitter are c.clean.new.tables c.clean.ensures.tables in
+    omega (arith, facts.cleaned_none c.args.sections.now c.args.tables.now c.args.id c.requires.rules c.requires.ticks c.keeps_lists.ensures c.join_all.new.tables c.deref.result.now is c.join_all.ensures.joins c.keeps_lists-2.ensures c.sort_out.new.self.living.items stays c.clean.new.self.splitter are c.clean.new.sections c.clean.new.tables c.clean.ensures.grid c.clean.ensures.holds x)
+
 pub returns-else-must_clean-clause-state : goal.returns-else-must_clean-clause-state
 returns-else-must_clean-clause-state c =
     let is = c.deref.ensures.value ∙ c.list_waiting.ensures.ids in
