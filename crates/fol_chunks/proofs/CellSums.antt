@@ -29,11 +29,11 @@ pub key_same : (a b : ℤ × ℤ) → same_key a b ≡ true → a ≡ b
 unfolding same_chunk
 key_same a b h = ap (λ (c : ChunkPos). (c.x, c.z)) (same_chunk-true (chunk_at a) (chunk_at b) h)
 
-key_self : (a : ℤ × ℤ) → same_key a a ≡ true
+pub key_self : (a : ℤ × ℤ) → same_key a a ≡ true
 unfolding same_chunk
 key_self a = same_chunk-self (chunk_at a)
 
-key_laws : IsEquivalence same_key
+pub key_laws : IsEquivalence same_key
 key_laws = decided same_key (λ a b. (key_same a b, λ e. let P : ℤ × ℤ → Type 0 = λ k. same_key a k ≡ true in subst P e (key_self a)))
 
 key_true : (key : ℤ × ℤ) (x : BlockAt) → lies_at key x ≡ true → key_at x.at ≡ key
