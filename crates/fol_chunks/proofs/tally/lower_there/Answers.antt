@@ -1,4 +1,4 @@
-use Rattle.std.proofs.Common.{◌≡◌, ◌-◌, ◌+◌, sym, ap, arith, Some}
+use Rattle.std.proofs.Common.{◌≡◌, ◌-◌, sym, ap, arith, Some}
 use Rattle.std.specs.Map.{lookup}
 use Rattle.std.specs.Option.{is_some, unwrap_or}
 use Rattle.fol_chunks.specs.Cells.{same_key}

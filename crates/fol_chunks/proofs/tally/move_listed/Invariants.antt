@@ -1,4 +1,4 @@
-use Rattle.std.proofs.Common.{◌≡◌, ℕ, ◌+◌, ◌≤◌, cond, take}
+use Rattle.std.proofs.Common.{◌≡◌, ◌+◌, ◌≤◌, cond, take}
 use Rattle.std.specs.Prelude.{ℤ}
 use Rattle.std.specs.HashMap.{spare}
 use Rattle.fol_chunks.specs.Tallies.{is_key_of, number_of, total_of}

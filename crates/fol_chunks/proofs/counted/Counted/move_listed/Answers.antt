@@ -3,7 +3,6 @@ use Rattle.std.specs.List.{count_by}
 use Rattle.std.proofs.lemmas.List.Sums.{count_by-le-length}
 use Rattle.fol_model.specs.Geometry.{chunk_of}
 use Rattle.fol_model.specs.ActionStep.{Standing}
-use Rattle.fol_model.specs.declared.entities.Entity.{Entity}
 use Rattle.fol_keyed.specs.Members.{is_listed}
 use Rattle.fol_chunks.proofs.EntityLists.{joined_parts, left_rest}
 use Rattle.fol_chunks.proofs.Tallies.{all_stay, counted_left, counted_more, in_chunks, none_moved, total_is}
