@@ -17,14 +17,11 @@ use Rattle.fol_model.specs.World.{block_in}
 use Rattle.fol_keyed.proofs.Keyed.{contains_more}
 use Rattle.fol_keyed.proofs.Places.{same_block-true, same_chunk-true, same_chunk-self}
 use Rattle.fol_chunks.specs.Rows.{by_place}
-use Rattle.fol_chunks.specs.Cells.{AreCells, IsCell, blocks_at, blocks_in, cell_at, is_astray, items_of, key_at, lies_at, same_key}
+use Rattle.fol_chunks.specs.Cells.{AreCells, IsCell, blocks_at, blocks_in, cell_at, chunk_at, is_astray, items_of, key_at, lies_at, same_key}
 use Rattle.fol_chunks.specs.Weights.{only, one_at, stands_at, Clears, OneMore, Puts}
 use Rattle.fol_chunks.proofs.Weighing.{all_pass, count_is, length_sum, none, number_sum, once_sorted, split, sum_le}
 
 -- ---- keys
-abbrev pub chunk_at : ℤ × ℤ → ChunkPos
-chunk_at key = record { x = key.0; z = key.1 }
-
 pub key_same : (a b : ℤ × ℤ) → same_key a b ≡ true → a ≡ b
 unfolding same_chunk
 key_same a b h = ap (λ (c : ChunkPos). (c.x, c.z)) (same_chunk-true (chunk_at a) (chunk_at b) h)

@@ -8,7 +8,7 @@ use Rattle.std.specs.List.Sorted.{IsStrictlySortedBy, IsPermutation}
 use Rattle.std.specs.Cmp.{tied_itself}
 use Rattle.std.specs.declared.cmp.Ordering.TheVariants.{Less, Equal}
 use Rattle.std.proofs.lemmas.Bool.{cases_Bool}
-use Rattle.std.proofs.lemmas.List.{append-nil}
+use Rattle.std.proofs.lemmas.List.{append-nil, nil_from_length}
 use Rattle.std.proofs.lemmas.List.Sorted.{IsPermutation-refl, sum_by-IsPermutation}
 use Rattle.std.proofs.lemmas.List.Sums.{sum_by-append, sum_by-cons, sum_by_more, sum_by-take-le}
 use Rattle.fol_model.specs.declared.entities.Entity.{Entity}
@@ -17,9 +17,9 @@ use Rattle.fol_model.specs.Geometry.{chunk_of, same_chunk}
 use Rattle.fol_model.specs.Universe.{chunk_cmp}
 use Rattle.fol_keyed.specs.Members.{is_listed}
 use Rattle.fol_keyed.proofs.Places.{same_chunk-true, chunk_cmp_total}
-use Rattle.fol_chunks.specs.Cells.{key_at, same_key}
+use Rattle.fol_chunks.specs.Cells.{chunk_at, key_at, same_key}
 use Rattle.fol_chunks.specs.Rows.{by_id}
-use Rattle.fol_chunks.specs.Tallies.{AreCounted, chunk_at, is_key_of, number_of, stands_in, total_of}
+use Rattle.fol_chunks.specs.Tallies.{AreCounted, is_key_of, number_of, stands_in, total_of}
 use Rattle.fol_chunks.proofs.CellSums.{key_laws, key_same, key_self}
 use Rattle.fol_chunks.proofs.ChunkLists.{either_apart, listed_more, not_before}
 use Rattle.fol_chunks.proofs.Weighing.{sum_two}
@@ -65,6 +65,24 @@ module _ (ns ms : Numbers) (key : ℤ × ℤ) (o : Option ℕ) (u : (q : ℤ × 
         | inl t ↦ written q ∙ ap (λ b. cond b (unwrap_or o 0) (number_of ns q)) t ∙ e ∙ ap (number_of ns) (key_same key q t)
         | inr n ↦ written q ∙ ap (λ b. cond b (unwrap_or o 0) (number_of ns q)) n
       ]
+
+-- ---- no numbers
+module _ (ns : Numbers) (none : length ns ≡ 0) where
+  pub no_number : (q : ℤ × ℤ) → number_of ns q ≡ 0
+  no_number q = ap (λ l. number_of l q) (nil_from_length ns none)
+
+  pub no_total : (chunks : List ChunkPos) → total_of ns chunks ≡ 0
+  no_total [] = refl
+  no_total (c ∷ cs) = omega (arith, sum_by-cons (λ (d : ChunkPos). number_of ns (d.x, d.z)) c cs, no_number (c.x, c.z), no_total cs)
+
+  -- none is left, and none moves
+  pub none_left : (b : Bool) (q : ℤ × ℤ) → number_of ns q ≡ cond b 0 (number_of ns q)
+  none_left true q = no_number q
+  none_left false q = refl
+
+  pub none_comes : (b : Bool) (n : ℕ) (q : ℤ × ℤ) → n ≡ n + cond b (number_of ns q) 0
+  none_comes true n q = omega (arith, no_number q)
+  none_comes false n q = omega arith
 
 -- ---- entities in a chunk
 stands_key : (q : ℤ × ℤ) (e : Entity) → stands_in q e ≡ same_key (key_at e.at) q

@@ -7,12 +7,8 @@ use Rattle.fol_model.specs.declared.entities.Entity.{Entity}
 use Rattle.fol_model.specs.declared.places.ChunkPos.{ChunkPos}
 use Rattle.fol_model.specs.Geometry.{chunk_of, same_chunk}
 use Rattle.fol_keyed.specs.Members.{is_listed}
-use Rattle.fol_chunks.specs.Cells.{same_key}
+use Rattle.fol_chunks.specs.Cells.{chunk_at, same_key}
 use Rattle.fol_chunks.specs.Rows.{by_id}
-
--- the chunk of a key
-abbrev pub chunk_at : ℤ × ℤ → ChunkPos
-chunk_at key = record { x = key.0; z = key.1 }
 
 -- the entity stands in the chunk of this key
 abbrev pub stands_in : ℤ × ℤ → Entity → Bool

@@ -1,4 +1,5 @@
-//! The entities of a region: those that have a speed by themselves, so that a movement costs only these.
+//! The entities of a region: those that have a speed by themselves, so that a movement costs only these, and the others with their
+//! number in each chunk, so that chunks in which none of them stands cost a look-up each.
 
 ghost use Rattle.std.specs.Prelude.{◌≡◌, ℕ, ◌+◌, ◌≤◌, ◌<◌, ◌^◌, ◌++◌, ◌↔◌, ◌||◌, not, [], nat_eq, length, count_by, IsTrue, IsNone, IfOk, OnOk, All};
 ghost use Rattle.std.specs.Option.{option_map, option_len, option_or, is_none};

@@ -24,11 +24,14 @@ fn number_at(tally: &Tally, key: (i32, i32)) -> usize
     }
 }
 
-/// The numbers of the chunks together.
+/// The numbers of the chunks together. Costs a look-up for each chunk, and nothing where no number is kept.
 pub fn total(tally: &Tally, chunks: &[ChunkPos]) -> usize
     requires few { total_of tally.now.entries chunks.now < 2 ^ 64 }
     ensures { result ≡ total_of tally.now.entries chunks.now }
 {
+    if tally.is_empty() {
+        return 0;
+    }
     let mut total = 0;
     for c in chunks {
         total += number_at(tally, key_of(*c));
@@ -80,7 +83,8 @@ fn lower_there(tally: &mut Tally, key: (i32, i32)) -> bool
     }
 }
 
-/// Moves the numbers of the chunks, which stand by z, and then by x, and gives their sum. Takes no memory.
+/// Moves the numbers of the chunks, which stand by z, and then by x, and gives their sum. Costs a look-up for each chunk, and nothing where no
+/// number is kept. Takes no memory.
 pub fn move_listed(tally: &mut Tally, chunks: &[ChunkPos], into: &mut Tally) -> usize
     requires order { IsStrictlySortedBy chunk_cmp chunks.now }
     requires room { total_of tally.old.entries chunks.now ≤ spare into.old }
@@ -96,6 +100,9 @@ pub fn move_listed(tally: &mut Tally, chunks: &[ChunkPos], into: &mut Tally) -> 
     ensures into_spare { spare into.old
         ≤ spare into.new + total_of tally.old.entries chunks.now }
 {
+    if tally.is_empty() {
+        return 0;
+    }
     let mut moved = 0;
     for c in chunks {
         moved += move_number(tally, key_of(*c), into);

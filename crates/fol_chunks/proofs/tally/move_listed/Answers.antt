@@ -1,9 +1,9 @@
-use Rattle.std.proofs.Common.{◌≡◌, ◌+◌, ◌∙◌, ap, refl, arith, cond, take, pos}
+use Rattle.std.proofs.Common.{◌≡◌, ◌+◌, ◌∙◌, sym, ap, refl, arith, cond, take, pos}
 use Rattle.std.proofs.lemmas.List.{take_all}
 use Rattle.fol_model.specs.declared.places.ChunkPos.{ChunkPos}
 use Rattle.fol_chunks.specs.Tallies.{is_key_of, number_of, total_of}
 use Rattle.fol_chunks.proofs.ChunkLists.{key_of}
-use Rattle.fol_chunks.proofs.Tallies.{left_more, moved_more, number_as_before, number_stays, total_more, total_within}
+use Rattle.fol_chunks.proofs.Tallies.{left_more, moved_more, no_total, none_comes, none_left, number_as_before, number_stays, total_more, total_within}
 use Rattle.fol_chunks.proofs.tally.move_listed.Goals as goal
 
 abbrev origin : ChunkPos
@@ -79,3 +79,13 @@ returns-clause-moved c = λ q. c.loop-c.invariant.moved q ∙ ap (λ l. number_o
 
 pub returns-clause-into_spare : goal.returns-clause-into_spare
 returns-clause-into_spare c = omega (arith, c.loop-c.invariant.into_room, returns-clause-total c)
+
+-- ---- no number is kept
+pub returns-then-is_empty-clause-total : goal.returns-then-is_empty-clause-total
+returns-then-is_empty-clause-total c = sym (no_total c.args.tally.now.entries (c.is_empty.ensures.0 c.if-is_empty.true) c.args.chunks.now)
+
+pub returns-then-is_empty-clause-left : goal.returns-then-is_empty-clause-left
+returns-then-is_empty-clause-left c = λ q. none_left c.args.tally.now.entries (c.is_empty.ensures.0 c.if-is_empty.true) (is_key_of c.args.chunks.now q) q
+
+pub returns-then-is_empty-clause-moved : goal.returns-then-is_empty-clause-moved
+returns-then-is_empty-clause-moved c = λ q. none_comes c.args.tally.now.entries (c.is_empty.ensures.0 c.if-is_empty.true) (is_key_of c.args.chunks.now q) (number_of c.args.into.now.entries q) q

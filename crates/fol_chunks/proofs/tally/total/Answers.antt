@@ -1,8 +1,8 @@
-use Rattle.std.proofs.Common.{◌≡◌, ◌+◌, ◌∙◌, ap, arith, take, pos}
+use Rattle.std.proofs.Common.{◌≡◌, ◌+◌, ◌∙◌, sym, ap, arith, take, pos}
 use Rattle.std.proofs.lemmas.List.{take_all}
 use Rattle.fol_model.specs.declared.places.ChunkPos.{ChunkPos}
 use Rattle.fol_chunks.specs.Tallies.{total_of}
-use Rattle.fol_chunks.proofs.Tallies.{total_more, total_within}
+use Rattle.fol_chunks.proofs.Tallies.{no_total, total_more, total_within}
 use Rattle.fol_chunks.proofs.tally.total.Goals as goal
 
 abbrev origin : ChunkPos
@@ -22,3 +22,6 @@ loop-c-preserved c = next c
 
 pub returns : goal.returns
 returns c = c.loop-c.invariant ∙ ap (λ l. total_of c.args.tally.now.entries l) (take_all c.loop-c.c-index c.args.chunks.now (omega arith))
+
+pub returns-then-is_empty : goal.returns-then-is_empty
+returns-then-is_empty c = sym (no_total c.args.tally.now.entries (c.is_empty.ensures.0 c.if-is_empty.true) c.args.chunks.now)
