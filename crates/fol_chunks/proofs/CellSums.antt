@@ -17,23 +17,20 @@ use Rattle.fol_model.specs.World.{block_in}
 use Rattle.fol_keyed.proofs.Keyed.{contains_more}
 use Rattle.fol_keyed.proofs.Places.{same_block-true, same_chunk-true, same_chunk-self}
 use Rattle.fol_chunks.specs.Rows.{by_place}
-use Rattle.fol_chunks.specs.Cells.{AreCells, IsCell, blocks_at, blocks_in, cell_at, is_astray, items_of, key_at, lies_at, same_key}
+use Rattle.fol_chunks.specs.Cells.{AreCells, IsCell, blocks_at, blocks_in, cell_at, chunk_at, is_astray, items_of, key_at, lies_at, same_key}
 use Rattle.fol_chunks.specs.Weights.{only, one_at, stands_at, Clears, OneMore, Puts}
 use Rattle.fol_chunks.proofs.Weighing.{all_pass, count_is, length_sum, none, number_sum, once_sorted, split, sum_le}
 
 -- ---- keys
-abbrev pub chunk_at : ℤ × ℤ → ChunkPos
-chunk_at key = record { x = key.0; z = key.1 }
-
 pub key_same : (a b : ℤ × ℤ) → same_key a b ≡ true → a ≡ b
 unfolding same_chunk
 key_same a b h = ap (λ (c : ChunkPos). (c.x, c.z)) (same_chunk-true (chunk_at a) (chunk_at b) h)
 
-key_self : (a : ℤ × ℤ) → same_key a a ≡ true
+pub key_self : (a : ℤ × ℤ) → same_key a a ≡ true
 unfolding same_chunk
 key_self a = same_chunk-self (chunk_at a)
 
-key_laws : IsEquivalence same_key
+pub key_laws : IsEquivalence same_key
 key_laws = decided same_key (λ a b. (key_same a b, λ e. let P : ℤ × ℤ → Type 0 = λ k. same_key a k ≡ true in subst P e (key_self a)))
 
 key_true : (key : ℤ × ℤ) (x : BlockAt) → lies_at key x ≡ true → key_at x.at ≡ key

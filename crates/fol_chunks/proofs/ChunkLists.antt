@@ -24,7 +24,7 @@ use Rattle.fol_chunks.specs.Weights.{only, lies_in, lies_outside}
 use Rattle.fol_chunks.proofs.CellSums.{chunk_sum}
 use Rattle.fol_chunks.proofs.Weighing.{count_is, length_sum, only-yes, only-no, split, sum_le, sum_same, sum_two}
 
-listed_more : (chunks : List ChunkPos) (i : ℕ) (d q : ChunkPos) → i < length chunks → is_listed (take (i + 1) chunks) q ≡ (is_listed (take i chunks) q || same_chunk q (get_or chunks i d))
+pub listed_more : (chunks : List ChunkPos) (i : ℕ) (d q : ChunkPos) → i < length chunks → is_listed (take (i + 1) chunks) q ≡ (is_listed (take i chunks) q || same_chunk q (get_or chunks i d))
 listed_more chunks i d q l =
     rw (take_more chunks i d l, list_any-append (same_chunk q) (take i chunks) (get_or chunks i d ∷ [])) (last (is_listed (take i chunks) q) (same_chunk q (get_or chunks i d)))
   where
@@ -34,7 +34,7 @@ listed_more chunks i d q l =
     last false false = refl
 
 -- a chunk of a list in order is none of those before it
-not_before : (chunks : List ChunkPos) (i : ℕ) (d : ChunkPos) → IsStrictlySortedBy chunk_cmp chunks → i < length chunks → is_listed (take i chunks) (get_or chunks i d) ≡ false
+pub not_before : (chunks : List ChunkPos) (i : ℕ) (d : ChunkPos) → IsStrictlySortedBy chunk_cmp chunks → i < length chunks → is_listed (take i chunks) (get_or chunks i d) ≡ false
 not_before chunks i d s l =
     elim (cases_Bool (is_listed (take i chunks) (get_or chunks i d))) [
       | inr e ↦ e
@@ -57,7 +57,7 @@ module _ (n : ℕ) where
   either_more false true = omega arith
   either_more false false = refl
 
-  either_apart : (a b : Bool) → (a ≡ true → b ≡ false) → (if (a || b) then n else 0) ≡ (if a then n else 0) + (if b then n else 0)
+  pub either_apart : (a b : Bool) → (a ≡ true → b ≡ false) → (if (a || b) then n else 0) ≡ (if a then n else 0) + (if b then n else 0)
   either_apart true true h = let w : true ≡ false = h refl in absurd cc
   either_apart true false h = omega arith
   either_apart false true h = omega arith

@@ -1,5 +1,5 @@
 -- What a list of entities in order says of each entity.
-use Rattle.std.proofs.Common.{◌≡◌, ℕ, ◌<◌, ◌≤◌, ◌||◌, Bool, true, cond, List, [], ◌∷◌, ◌++◌, length, get_or, refl, sym, ◌∙◌, ap, inl, inr, Option, Some, None, IsNone}
+use Rattle.std.proofs.Common.{◌≡◌, ℕ, ◌<◌, ◌≤◌, ◌||◌, Bool, true, cond, not, List, [], ◌∷◌, ◌++◌, length, get_or, refl, sym, ◌∙◌, ap, inl, inr, Option, Some, None, IsNone}
 use Rattle.std.specs.Prelude.{Contains, nat_eq, if◌then◌else◌}
 use Rattle.std.specs.List.{find, filter, insert, remove}
 use Rattle.std.specs.List.Sorted.{IsStrictlySortedBy, IsPermutation, IsPartitionPoint}
@@ -141,3 +141,14 @@ module _ (es fs : List Entity) where
 pub none_passes : (p : Standing → Bool) (es fs : List Entity) → InOrder fs → ((id : ℕ) → (is_none (standing_in es id) || is_none (option_filter p (standing_in fs id))) ≡ true)
     → (id : ℕ) → (is_none (standing_in es id) || is_none (standing_in (filter (λ e. p (standing_of e)) fs) id)) ≡ true
 none_passes p es fs s none id = rw (ap (λ (f : ℕ → Option Standing). f id) (standing_filtered fs p s)) (none id)
+
+-- ---- what passes goes to another list
+module _ (p : Standing → Bool) (es fs : List Entity) (s : InOrder es) where
+  pub left_rest : fs ≡ filter (λ e. not (p (standing_of e))) es → standing_in fs ≡ λ id. option_filter (λ t. not (p t)) (standing_in es id)
+  left_rest e = ap standing_in e ∙ standing_filtered es (λ t. not (p t)) s
+
+  pub joined_parts : (is : List Entity) → InOrder is → ((id : ℕ) → (is_none (standing_in is id) || is_none (option_filter p (standing_in es id))) ≡ true) → IsPermutation (is ++ filter (λ e. p (standing_of e)) es) fs
+      → standing_in fs ≡ λ id. option_or (standing_in is id) (option_filter p (standing_in es id))
+  joined_parts is t none m =
+      standing_joined is (filter (λ e. p (standing_of e)) es) fs t (order_filtered es (λ e. p (standing_of e)) s) (none_passes p is es s none) m
+      ∙ ap (λ (f : ℕ → Option Standing). λ (id : ℕ). option_or (standing_in is id) (f id)) (standing_filtered es p s)

@@ -6,6 +6,7 @@ pub mod Weighing
 pub mod CellSums
 pub mod CellSteps
 pub mod ChunkLists
+pub mod Tallies
 pub mod Wholes
 pub mod Laid
 pub mod Parts

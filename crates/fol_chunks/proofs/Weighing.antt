@@ -21,7 +21,7 @@ use Rattle.fol_chunks.specs.Weights.{only, one_at, stands_at, stands_elsewhere, 
 
 -- ---- weights
 -- a weight that is the sum of two
-pub sum_two : (f g h : BlockAt → ℕ) → ((x : BlockAt) → h x ≡ f x + g x) → (xs : List BlockAt) → sum_by h xs ≡ sum_by f xs + sum_by g xs
+pub sum_two : {X : Type 0} (f g h : X → ℕ) → ((x : X) → h x ≡ f x + g x) → (xs : List X) → sum_by h xs ≡ sum_by f xs + sum_by g xs
 sum_two f g h e [] = refl
 sum_two f g h e (x ∷ xs) = omega (arith, e x, sum_two f g h e xs, sum_by-cons f x xs, sum_by-cons g x xs, sum_by-cons h x xs)
 

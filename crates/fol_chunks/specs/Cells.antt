@@ -7,6 +7,7 @@ use Rattle.std.specs.Ordering.{int_eq}
 use Rattle.std.specs.Global.{Vec}
 use Rattle.fol_model.specs.declared.openings.BlockAt.{BlockAt}
 use Rattle.fol_model.specs.declared.places.BlockPos.{BlockPos}
+use Rattle.fol_model.specs.declared.places.ChunkPos.{ChunkPos}
 use Rattle.fol_model.specs.Geometry.{chunk_of, same_chunk}
 use Rattle.fol_chunks.specs.Rows.{by_place}
 
@@ -14,13 +15,17 @@ use Rattle.fol_chunks.specs.Rows.{by_place}
 abbrev pub same_key : ℤ × ℤ → ℤ × ℤ → Bool
 same_key a b = int_eq a.0 b.0 && int_eq a.1 b.1
 
+-- the chunk of a key
+abbrev pub chunk_at : ℤ × ℤ → ChunkPos
+chunk_at key = record { x = key.0; z = key.1 }
+
 -- the key of the chunk in which a block lies
 abbrev pub key_at : BlockPos → ℤ × ℤ
 key_at b = ((chunk_of b).x, (chunk_of b).z)
 
 -- the block lies in the chunk of this key
 abbrev pub lies_at : ℤ × ℤ → BlockAt → Bool
-lies_at key x = same_chunk (chunk_of x.at) (record { x = key.0; z = key.1 })
+lies_at key x = same_chunk (chunk_of x.at) (chunk_at key)
 
 abbrev pub is_astray : ℤ × ℤ → BlockAt → Bool
 is_astray key x = not (lies_at key x)

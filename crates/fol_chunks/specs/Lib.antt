@@ -6,4 +6,5 @@ pub mod Weights
 pub mod Cells
 pub mod Kept
 pub mod Crowds
+pub mod Tallies
 pub mod Areas

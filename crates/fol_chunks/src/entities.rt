@@ -1,4 +1,5 @@
-//! The entities of a region: those that have a speed by themselves, so that a movement costs only these.
+//! The entities of a region: those that have a speed by themselves, so that a movement costs only these, and the others with their
+//! number in each chunk, so that chunks in which none of them stands cost a look-up each.
 
 ghost use Rattle.std.specs.Prelude.{◌≡◌, ℕ, ◌+◌, ◌≤◌, ◌<◌, ◌^◌, ◌++◌, ◌↔◌, ◌||◌, not, [], nat_eq, length, count_by, IsTrue, IsNone, IfOk, OnOk, All};
 ghost use Rattle.std.specs.Option.{option_map, option_len, option_or, is_none};
@@ -15,6 +16,7 @@ ghost use Rattle.fol_chunks.specs.Contents.{entity_of, is_recorded};
 ghost use Rattle.fol_chunks.specs.Rows.{by_id};
 ghost use Rattle.fol_chunks.specs.Crowds.{is_still};
 
+use crate::counted::Counted;
 use crate::{entity_list, steps};
 use fol_keyed::{ChunkList, count_listed, join};
 use fol_model::{BlockPos, ChunkPos, Entity};
@@ -26,8 +28,8 @@ use std::marker::Model;
 pub struct Entities {
     /// Those that have a speed, by id.
     walking: Vec<Entity>,
-    /// Those that have none, by id.
-    still: Vec<Entity>,
+    /// Those that have none.
+    still: Counted,
 }
 
 impl Model for Entities {
@@ -38,11 +40,11 @@ impl Model for Entities {
     ghost Value = { Crowd };
 
     ghost view = { λ e. record {
-      members = e.walking.items ++ e.still.items;
-      spare = min (vec_capacity e.walking - vec_len e.walking) (vec_capacity e.still - vec_len e.still);
+      members = e.walking.items ++ e.still.members;
+      spare = min (vec_capacity e.walking - vec_len e.walking) e.still.spare;
     } };
 
-    ghost invariant = { λ e. AreParted e.walking.items e.still.items };
+    ghost invariant = { λ e. AreParted e.walking.items e.still.members };
 }
 
 impl Entities {
@@ -52,7 +54,7 @@ impl Entities {
     {
         Entities {
             walking: Vec::new(alloc),
-            still: Vec::new(alloc),
+            still: Counted::new(alloc),
         }
     }
 
@@ -60,7 +62,7 @@ impl Entities {
     pub fn is_empty(&self) -> bool
         ensures { IsTrue result ↔ (length self.now.members ≡ 0) }
     {
-        self.walking.is_empty() && self.still.is_empty()
+        self.walking.is_empty() && self.still.as_slice().is_empty()
     }
 
     /// Whether no entity has a speed.
@@ -76,8 +78,7 @@ impl Entities {
         ensures { result ≡ self.now.spare }
     {
         let walking = self.walking.capacity() - self.walking.len();
-        let still = self.still.capacity() - self.still.len();
-        walking.min(still)
+        walking.min(self.still.spare())
     }
 
     /// Makes `spare` at least `n`, in both lists, since an entity may have a speed or none. The entities stay either way.
@@ -96,7 +97,7 @@ impl Entities {
     {
         match entity_list::find(&self.walking, id) {
             Some(at) => Some(at),
-            None => entity_list::find(&self.still, id),
+            None => entity_list::find(self.still.as_slice(), id),
         }
     }
 
@@ -110,7 +111,7 @@ impl Entities {
     {
         match entity_list::take(&mut self.walking, id) {
             Some(entity) => Some(entity),
-            None => entity_list::take(&mut self.still, id),
+            None => self.still.take(id),
         }
     }
 
@@ -124,7 +125,7 @@ impl Entities {
         ensures spare { self.old.spare ≤ self.new.spare + 1 }
     {
         if stands_still(entity) {
-            entity_list::put(&mut self.still, entity);
+            self.still.put(entity);
         } else {
             entity_list::put(&mut self.walking, entity);
         }
@@ -149,7 +150,7 @@ impl Entities {
         ensures differ { IsDistinct (λ a b. nat_eq a.id b.id) self.now.members }
     {
         list.extend_from_slice(&self.walking)?;
-        list.extend_from_slice(&self.still)
+        list.extend_from_slice(self.still.as_slice())
     }
 
     /// A list of all entities, by id.
@@ -158,48 +159,52 @@ impl Entities {
             standing_in list.items ≡ standing_in self.now.members) }
         ensures order { IfOk result (λ list. IsStrictlySortedBy by_id list.items) }
     {
-        let mut list = Vec::with_capacity(alloc, self.walking.len() + self.still.len())?;
+        let still = self.still.as_slice();
+        let mut list = Vec::with_capacity(alloc, self.walking.len() + still.len())?;
         list.extend_from_slice(&self.walking)?;
-        join(&mut list, &self.still);
+        join(&mut list, still);
         Ok(list)
     }
 
-    /// How many entities lie in the chunks of the list.
-    pub fn count_listed(&self, list: &ChunkList) -> usize
+    /// How many entities lie in the chunks, which stand by z, and then by x. Costs those that have a speed, and a look-up for each chunk.
+    pub fn count_listed(&self, chunks: &[ChunkPos]) -> usize
+        requires { IsStrictlySortedBy chunk_cmp chunks.now }
         ensures count { result ≡ count_by (λ (e : Entity).
-            is_listed list.now.chunks.now (chunk_around e.at)) self.now.members }
+            is_listed chunks.now (chunk_around e.at)) self.now.members }
         ensures few { result < 2 ^ 63 }
     {
-        count_listed(&self.walking, list) + count_listed(&self.still, list)
+        count_listed(&self.walking, &ChunkList::of(chunks)) + self.still.count_listed(chunks)
     }
 
-    /// Moves the entities that lie in the chunks of the list. Takes no memory.
-    pub fn move_listed(&mut self, list: &ChunkList, into: &mut Entities)
+    /// Moves the entities that lie in the chunks, which stand by z, and then by x. Goes over those that have a speed, and over the others
+    /// only where some of them lie there. Takes no memory.
+    pub fn move_listed(&mut self, chunks: &[ChunkPos], into: &mut Entities)
+        requires order { IsStrictlySortedBy chunk_cmp chunks.now }
         requires apart { (id : ℕ)
             → IsTrue (is_none (standing_in into.old.members id)
-            || is_none (option_filter (λ s. is_listed list.now.chunks.now (chunk_around s.at))
+            || is_none (option_filter (λ s. is_listed chunks.now (chunk_around s.at))
             (standing_in self.old.members id))) }
         requires room { count_by (λ (e : Entity).
-            is_listed list.now.chunks.now (chunk_around e.at)) self.old.members ≤ into.old.spare }
+            is_listed chunks.now (chunk_around e.at)) self.old.members ≤ into.old.spare }
         ensures left { standing_in self.new.members ≡ λ id.
-            option_filter (λ s. not (is_listed list.now.chunks.now (chunk_around s.at)))
+            option_filter (λ s. not (is_listed chunks.now (chunk_around s.at)))
             (standing_in self.old.members id) }
         ensures moved { standing_in into.new.members ≡ λ id.
             option_or (standing_in into.old.members id)
-            (option_filter (λ s. is_listed list.now.chunks.now (chunk_around s.at))
+            (option_filter (λ s. is_listed chunks.now (chunk_around s.at))
             (standing_in self.old.members id)) }
         ensures len { length self.new.members + count_by (λ (e : Entity).
-            is_listed list.now.chunks.now (chunk_around e.at)) self.old.members
+            is_listed chunks.now (chunk_around e.at)) self.old.members
             ≡ length self.old.members }
         ensures into_len { length into.new.members ≡ length into.old.members
-            + count_by (λ (e : Entity). is_listed list.now.chunks.now (chunk_around e.at))
+            + count_by (λ (e : Entity). is_listed chunks.now (chunk_around e.at))
             self.old.members }
         ensures spare { self.old.spare ≤ self.new.spare }
         ensures into_spare { into.old.spare ≤ into.new.spare + count_by (λ (e : Entity).
-            is_listed list.now.chunks.now (chunk_around e.at)) self.old.members }
+            is_listed chunks.now (chunk_around e.at)) self.old.members }
     {
-        entity_list::move_listed(&mut self.walking, list, &mut into.walking);
-        entity_list::move_listed(&mut self.still, list, &mut into.still);
+        entity_list::move_listed(&mut self.walking, chunks, &mut into.walking);
+        self.still.move_listed(chunks, &mut into.still);
     }
 }
 

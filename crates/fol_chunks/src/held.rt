@@ -13,7 +13,6 @@ ghost use Rattle.fol_chunks.specs.Rows.{by_id};
 
 use crate::blocks::Blocks;
 use crate::entities::Entities;
-use fol_keyed::ChunkList;
 use fol_model::{BlockAt, BlockPos, ChunkPos, Entity};
 use std::alloc::{AllocError, Global};
 use std::marker::Model;
@@ -185,8 +184,7 @@ impl Held {
         requires { IsStrictlySortedBy chunk_cmp chunks.now }
         ensures { result ≡ size_within (is_listed chunks.now) self.now }
     {
-        let entities = self.entities.count_listed(&ChunkList::of(chunks));
-        (self.blocks.count_listed(chunks) + entities) as u64
+        (self.blocks.count_listed(chunks) + self.entities.count_listed(chunks)) as u64
     }
 
     /// Moves what lies in the chunks, which stand by z, and then by x. Takes no memory.
@@ -207,7 +205,6 @@ impl Held {
             ≤ into.new.spare + size_within (is_listed chunks.now) self.old }
     {
         self.blocks.move_listed(chunks, &mut into.blocks);
-        self.entities
-            .move_listed(&ChunkList::of(chunks), &mut into.entities);
+        self.entities.move_listed(chunks, &mut into.entities);
     }
 }

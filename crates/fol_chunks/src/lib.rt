@@ -13,11 +13,13 @@ mod block_list;
 mod blocks;
 mod cells;
 mod chunks;
+mod counted;
 mod entities;
 mod entity_list;
 mod ground;
 mod held;
 mod moves;
 mod steps;
+mod tally;
 
 pub use chunks::Chunks;

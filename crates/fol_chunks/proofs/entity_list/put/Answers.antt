@@ -1,6 +1,7 @@
 use Rattle.std.proofs.Common.{◌≡◌, ◌<◌, ◌≤◌, length, get_or, true, false}
 use Rattle.std.specs.List.Sorted.{IsPartitionPoint}
 use Rattle.std.specs.Ordering.{nat_cmp}
+use Rattle.std.proofs.lemmas.List.Sums.{sum_by-insert}
 use Rattle.std.specs.declared.cmp.Ordering.TheVariants.{Less, Greater}
 use Rattle.fol_model.specs.declared.entities.Entity.{Entity}
 use Rattle.fol_chunks.proofs.EntityLists.{standing_at, standing_inserted, order_inserted}
@@ -23,3 +24,6 @@ returns-clause-order c =
     let absent : (c.in-Err.i ≤ length c.args.entities.now.items) × IsPartitionPoint (λ (x : Entity). nat_cmp x.id c.args.entity.id ≡ Less) (λ (x : Entity). nat_cmp x.id c.args.entity.id ≡ Greater) c.args.entities.now.items c.in-Err.i =
     rw c.deref.ensures.value at c.in-Err.ensures in
     rw c.in-Ok-insert.ensures.items (order_inserted _ c.in-Err.i c.args.entity c.requires.order absent.0 absent.1)
+
+pub returns-clause-sums : goal.returns-clause-sums
+returns-clause-sums c = λ f. rw c.in-Ok-insert.ensures.items (sum_by-insert f c.args.entities.now.items c.in-Err.i c.args.entity)

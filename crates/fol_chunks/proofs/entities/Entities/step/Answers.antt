@@ -14,7 +14,7 @@ moved c =
     written c.self.inside.walking.len c.step_all.new.entities c.self.inside.walking.items as_long (omega arith) ∙ all
 
 pub invariant_of-self : goal.invariant_of-self
-invariant_of-self c = rw (moved c) (stepped_parted c.self.inside.walking.items c.self.inside.still.items c.self.invariant (is_recorded c.args.chunks.now))
+invariant_of-self c = rw (moved c) (stepped_parted c.self.inside.walking.items c.self.inside.still.members c.self.invariant (is_recorded c.args.chunks.now))
 
 pub returns-clause-moved : goal.returns-clause-moved
-returns-clause-moved c = rw (moved c, ← c.self.view_is) (stepped_first c.self.inside.walking.items c.self.inside.still.items c.self.invariant (is_recorded c.args.chunks.now))
+returns-clause-moved c = rw (moved c, ← c.self.view_is) (stepped_first c.self.inside.walking.items c.self.inside.still.members c.self.invariant (is_recorded c.args.chunks.now))

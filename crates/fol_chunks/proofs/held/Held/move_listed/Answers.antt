@@ -15,7 +15,7 @@ pub returns-clause-stayed : goal.returns-clause-stayed
 returns-clause-stayed c =
     rw (← c.self.view_is)
     (flat_is _ _ (numbers_left c.args.chunks.now (blocks_of c.self.inside.blocks) (blocks_of c.move_listed.new.self) c.self.invariant.laid.once c.move_listed.ensures.kept.laid.once c.move_listed.ensures.left)
-    (rw c.of.ensures at c.move_listed-2.ensures.left))
+    c.move_listed-2.ensures.left)
 
 pub returns-clause-moved : goal.returns-clause-moved
 returns-clause-moved c =
@@ -23,15 +23,14 @@ returns-clause-moved c =
     rw (← c.self.view_is, ← c.into.view_is)
     (flat_is _ _
     (numbers_joined c.args.chunks.now (blocks_of c.into.inside.blocks) (blocks_of c.self.inside.blocks) c.into.invariant.laid.once c.self.invariant.laid.once apart.blocks (blocks_of c.move_listed.new.into) c.move_listed.ensures.into_kept.laid.once c.move_listed.ensures.moved)
-    (rw c.of.ensures at c.move_listed-2.ensures.moved))
+    c.move_listed-2.ensures.moved)
 
 pub returns-clause-size : goal.returns-clause-size
 returns-clause-size c =
-    let entities = rw c.of.ensures at c.move_listed-2.ensures.len in
     rw (← c.self.view_is)
     (omega (
       arith,
-      entities,
+      c.move_listed-2.ensures.len,
       c.move_listed.ensures.left (λ x. 1),
       length_sum (blocks_of c.move_listed.new.self),
       count_split (lies_in c.args.chunks.now) (blocks_of c.self.inside.blocks),
@@ -39,11 +38,10 @@ returns-clause-size c =
 
 pub returns-clause-into_size : goal.returns-clause-into_size
 returns-clause-into_size c =
-    let entities = rw c.of.ensures at c.move_listed-2.ensures.into_len in
     rw (← c.self.view_is, ← c.into.view_is)
     (omega (
       arith,
-      entities,
+      c.move_listed-2.ensures.into_len,
       c.move_listed.ensures.moved (λ x. 1),
       length_sum (blocks_of c.move_listed.new.into),
       length_sum (blocks_of c.into.inside.blocks),
