@@ -59,7 +59,7 @@ fn again_in(alloc: Global, action: &Action) -> Result<Option<Nested>, AllocError
 }
 
 /// What is taken for a task.
-fn prepared_for(alloc: Global, task: &Task) -> Result<Prepared, AllocError>
+pub(crate) fn prepared_for(alloc: Global, task: &Task) -> Result<Prepared, AllocError>
     ensures { IfOk result (λ prepared. prepared ≡ prepared_of task.now) }
 {
     Ok(Prepared {

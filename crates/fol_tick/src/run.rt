@@ -10,7 +10,7 @@ ghost use Rattle.fol_tick.specs.Logs.{with_log};
 
 use crate::host::Host;
 use crate::log::{OpenLog, open};
-use crate::prepared::{Prepared, prepare};
+use crate::prepared::{Prepared, prepare, prepared_for};
 use crate::step::run_task;
 use fol_data::Tick;
 use fol_keyed::ChunkList;
@@ -51,10 +51,11 @@ fn run_due<H: Host>(alloc: Global, tick: &mut Tick, host: &mut H) -> Result<(), 
     run_left(alloc, tick, host)
 }
 
-/// Takes the memory that the rest of the due tasks needs, and runs them.
+/// Takes the memory that the rest of the due tasks needs, and runs them. Mostly there is one, and then no list is made of what is taken.
 #[inline(never)]
 fn run_left<H: Host>(alloc: Global, tick: &mut Tick, host: &mut H) -> Result<(), AllocError>
-    requires { MayRun tick.old }
+    requires may_run { MayRun tick.old }
+    requires some { tick.old.next < length tick.old.due }
     ensures runs { (calls : List HostCall) × H.reaches host.old calls host.new
         × Runs tick.old tick.new calls }
     ensures may_run { MayRun tick.new }
@@ -63,12 +64,39 @@ fn run_left<H: Host>(alloc: Global, tick: &mut Tick, host: &mut H) -> Result<(),
 {
     let left = &tick.due.as_slice()[tick.next as usize..];
     let count = left.len();
-    let prepared = prepare(alloc, left)?;
+    let first = prepared_for(alloc, &left[0])?;
+    let others = prepare(alloc, &left[1..])?;
     tick.body.chunks.reserve(count as u64)?;
     let mut log = open(alloc, &mut tick.log, count)?;
-    let answer = run_tasks(alloc, tick, prepared, &mut log, host);
+    let answer = run_all(alloc, tick, first, others, &mut log, host);
     tick.log = log.close();
     answer
+}
+
+/// Runs the next task and those behind it, whose wishes are prepared.
+fn run_all<H: Host>(
+    alloc: Global,
+    tick: &mut Tick,
+    first: Prepared,
+    others: VecDeque<Prepared>,
+    log: &mut OpenLog,
+    host: &mut H,
+) -> Result<(), AllocError>
+    requires may_run { MayRun tick.old }
+    requires prepared { first ∷ others.items ≡ map prepared_of (drop tick.old.next tick.old.due) }
+    requires spare { deque_len others + 1 ≤ tick.old.body.chunks.spare }
+    requires room_for_ran { vec_len log.old.ran + (deque_len others + 1)
+        ≤ vec_capacity log.old.ran }
+    requires room_for_wishes { vec_len log.old.wishes + 2 * (deque_len others + 1)
+        ≤ vec_capacity log.old.wishes }
+    ensures runs { (calls : List HostCall) × H.reaches host.old calls host.new
+        × Runs (with_log tick.old log.old) (with_log tick.new log.new) calls }
+    ensures may_run { MayRun tick.new }
+    ensures ok { OnOk result (tick.new.next ≡ length tick.new.due) }
+    ensures stop { OnErr result (StopsAtHost tick.new) }
+{
+    run_next(alloc, tick, first, log, host)?;
+    run_tasks(alloc, tick, others, log, host)
 }
 
 /// Runs the rest of the tasks, whose wishes are prepared.
@@ -98,6 +126,7 @@ fn run_tasks<H: Host>(
 }
 
 /// Runs the next task, whose wishes are prepared.
+#[inline(always)]
 fn run_next<H: Host>(
     alloc: Global,
     tick: &mut Tick,

@@ -1,0 +1,15 @@
+use Rattle.fol_tick.specs.Logs.{with_log}
+use Rattle.fol_tick.proofs.Stages.{came_on}
+use Rattle.fol_tick.proofs.NextTask.{rest_prepared}
+use Rattle.fol_tick.proofs.run.run_all.Goals as goal
+
+pub run_tasks-requires-clause-prepared : goal.run_tasks-requires-clause-prepared
+run_tasks-requires-clause-prepared g c =
+    let ran = c.in_ok-run_next.ensures in
+    let rest = rest_prepared c.args.tick.now.due c.args.tick.now.next c.args.first c.args.others.items c.requires.prepared in
+    rw (ran.ok, ran.runs.2.same.due) rest
+
+pub returns-clause-runs : goal.returns-clause-runs
+returns-clause-runs g c =
+    came_on g.H.Host.reaches g.met.H.Host.follows _ _ _ (with_log c.args.tick.now c.args.log.now) (with_log c.run_next.new.tick c.run_next.new.log) (with_log c.run_tasks.new.tick c.run_tasks.new.log) c.requires.may_run.task_order c.in_ok-run_next.ensures.runs
+    c.run_tasks.ensures.runs
