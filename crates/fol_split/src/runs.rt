@@ -332,6 +332,6 @@ fn append_run(found: &mut Vec<SectionPos>, run: Run)
     ensures room { vec_capacity found.old ≤ vec_capacity found.new }
 {
     for x in run.from..run.to {
-        let _ = found.push(SectionPos { x, z: run.z });
+        found.push_reserved(SectionPos { x, z: run.z });
     }
 }

@@ -19,6 +19,16 @@ loop-x-init c =
       room = omega arith;
     }
 
+pub push_reserved-requires : goal.push_reserved-requires
+push_reserved-requires c =
+    let inv = c.loop-x.invariant in
+    let ft : SFits w32 c.args.run.to = search rules in
+    let to : to_z w32 (of_z w32 c.args.run.to) ≡ c.args.run.to = simp to_z-of_z in
+    let less : to_z w32 c.loop-x.x-bits <ℤ c.args.run.to = grind (arith, ints) in
+    let len = ap length inv.found ∙ length-append c.args.found.now.items (row c.args.run.z c.args.run.from (nat_abs (to_z w32 c.loop-x.x-bits -ℤ c.args.run.from))) in
+    let wide = length-row c.args.run.z c.args.run.from (nat_abs (to_z w32 c.loop-x.x-bits -ℤ c.args.run.from)) in
+    omega (arith, ints, len, wide, length-run c.args.run, inv.low, less, c.requires.room, inv.room)
+
 pub loop-x-preserved : goal.loop-x-preserved
 loop-x-preserved c =
     let fz : SFits w32 c.args.run.z = search rules in
@@ -28,16 +38,11 @@ loop-x-preserved c =
     let to : to_z w32 (of_z w32 c.args.run.to) ≡ c.args.run.to = simp to_z-of_z in
     let less : to_z w32 c.loop-x.x-bits <ℤ c.args.run.to = grind (arith, ints) in
     let next : to_z w32 (of_z w32 (to_z w32 c.loop-x.x-bits +ℤ pos 1)) ≡ to_z w32 c.loop-x.x-bits +ℤ pos 1 = omega (arith, ints, less, inv.low, inv.high) in
-    let len = ap length inv.found ∙ length-append c.args.found.now.items (row c.args.run.z c.args.run.from (nat_abs (to_z w32 c.loop-x.x-bits -ℤ c.args.run.from))) in
-    let wide = length-row c.args.run.z c.args.run.from (nat_abs (to_z w32 c.loop-x.x-bits -ℤ c.args.run.from)) in
-    let all = length-run c.args.run in
-    let ok = c.push.ensures.succeeds (omega (arith, ints, len, wide, all, inv.low, less, c.requires.room, inv.room)) in
-    let items = rw ok at c.push.ensures.items in
     record {
       low = omega (arith, ints, next, inv.low);
       high = omega (arith, ints, next, less);
-      found = items ∙ row-step c.args.found.now.items c.loop-x.found.items c.args.run.z c.args.run.from _ _ _ inv.found inv.low (λ i. record { x = to_z w32 c.loop-x.x-bits; z = z i }) next;
-      room = omega (arith, c.push.ensures.capacity, inv.room);
+      found = c.push_reserved.ensures.items ∙ row-step c.args.found.now.items c.loop-x.found.items c.args.run.z c.args.run.from _ _ _ inv.found inv.low (λ i. record { x = to_z w32 c.loop-x.x-bits; z = z i }) next;
+      room = omega (arith, c.push_reserved.ensures.capacity, inv.room);
     }
 
 pub returns-clause-found : goal.returns-clause-found
