@@ -1,9 +1,11 @@
 -- The numbers that are known of the regions.
-use Rattle.std.proofs.Common.{◌≡◌, ℕ, suc, ◌+◌, ◌<◌, ◌≤◌, ◌∙◌, refl, sym, ap, arith, inl, inr, true, false, cond, List, [], ◌∷◌, length, get_or, set}
+use Rattle.std.proofs.Common.{◌≡◌, ℕ, suc, ◌+◌, ◌<◌, ◌≤◌, ◌∙◌, refl, sym, ap, arith, inl, inr, true, false, Bool, cond, List, [], ◌∷◌, ◌||◌, length, get_or, set, take}
 use Rattle.std.specs.Prelude.{◌≢◌, nat_eq, if◌then◌else◌, min, count_by}
-use Rattle.std.proofs.lemmas.Bool.{cases_Bool, cases_eq, eq-eqb, eqb-true, ne_eqb}
+use Rattle.std.proofs.lemmas.Bool.{cases_Bool, cases_eq, eq-eqb, eqb-true, ne_eqb, true≢false}
+use Rattle.std.proofs.lemmas.List.Folds.{list_any_more}
 use Rattle.std.proofs.lemmas.List.{get_or-set_same, get_or-set_other, get_or_default}
 use Rattle.fol_laws.proofs.ListCounts.{count_by-cons}
+use Rattle.fol_regions.specs.Added.{is_id}
 use Rattle.fol_regions.specs.Changes.{into}
 use Rattle.fol_regions.specs.DeadBounds.{most_in, most_of, place}
 use Rattle.fol_regions.specs.declared.change.MergePair.{MergePair}
@@ -73,6 +75,21 @@ most_kept known id more r e = elim (cases_Bool (nat_eq id r)) [
   | inl y ↦ let f : most_in known r ≡ 16384 = ap (most_in known) (sym (eqb-true id r y)) ∙ sym e in rw y (omega (arith, f))
   | inr y ↦ rw y (omega arith)
 ]
+
+-- a region that was created more, of which it is known that none of its sections is dead
+pub one_created : (ids : List ℕ) (i r before old new : ℕ) → i < length ids → (if is_id (take i ids) r then 0 else before) ≤ old → before ≤ 16384
+    → min 16384 (if nat_eq (get_or ids i 0) r then 0 else old) ≤ new → (if is_id (take (i + 1) ids) r then 0 else before) ≤ new
+one_created ids i r before old new l known few noted = go (is_id (take i ids) r) (nat_eq r (get_or ids i 0)) refl refl
+  where
+    go : (a b : Bool) → is_id (take i ids) r ≡ a → nat_eq r (get_or ids i 0) ≡ b → (if is_id (take (i + 1) ids) r then 0 else before) ≤ new
+    go true b e f = let more : is_id (take (i + 1) ids) r ≡ true = list_any_more (nat_eq r) ids i 0 l ∙ ap (λ x. x || nat_eq r (get_or ids i 0)) e in rw more (omega arith)
+    go false true e f = let more : is_id (take (i + 1) ids) r ≡ true = list_any_more (nat_eq r) ids i 0 l ∙ ap (λ x. x || nat_eq r (get_or ids i 0)) e ∙ f in rw more (omega arith)
+    go false false e f =
+        let more : is_id (take (i + 1) ids) r ≡ false = list_any_more (nat_eq r) ids i 0 l ∙ ap (λ x. x || nat_eq r (get_or ids i 0)) e ∙ f in
+        let other : nat_eq (get_or ids i 0) r ≡ false = ne_eqb (get_or ids i 0) r (λ x. true≢false (sym (eq-eqb r (get_or ids i 0) (sym x)) ∙ f)) in
+        let a = rw e at known in
+        let b = rw other at noted in
+        rw more (omega (arith, a, b, few))
 
 -- ids that are all the same
 pub count_alike : (xs : List ℕ) (x r : ℕ) → ((k d : ℕ) → k < length xs → get_or xs k d ≡ x) → count_by (λ id. nat_eq id r) xs ≡ (if nat_eq x r then length xs else 0)

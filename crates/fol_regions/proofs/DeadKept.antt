@@ -1,8 +1,9 @@
 -- The numbers that the dead sections of each region are at most, after an added hold and after a release.
 use Rattle.std.proofs.Common.{◌≡◌, ℕ, ◌+◌, ◌≤◌, ◌<◌, refl, sym, ◌∙◌, ap, arith, Bool, true, false, inl, inr, not, ◌&&◌, List, [], ◌∷◌, length}
-use Rattle.std.specs.Prelude.{◌≢◌, nat_eq, nat_lt, if◌then◌else◌, min}
+use Rattle.std.specs.Prelude.{◌≢◌, nat_eq, nat_le, nat_lt, if◌then◌else◌, min}
 use Rattle.std.specs.List.{list_any}
-use Rattle.std.proofs.lemmas.Bool.{cases_Bool, cases_eq, cases_lt, true≢false, and_parts, and_from, lt-ltb, ltb-false, eq-eqb, eqb-true, ne_eqb}
+use Rattle.std.proofs.Math.Bool.{or-false}
+use Rattle.std.proofs.lemmas.Bool.{cases_Bool, cases_eq, cases_lt, true≢false, and_parts, and_from, lt-ltb, ltb-false, ltb-true, leb-true, eq-eqb, eqb-true, ne_eqb}
 use Rattle.fol_model.specs.declared.places.ChunkPos.{ChunkPos}
 use Rattle.fol_model.specs.declared.places.SectionPos.{SectionPos}
 use Rattle.fol_model.specs.declared.regions.State.TheVariants.{Ticking}
@@ -10,16 +11,20 @@ use Rattle.fol_model.specs.Add.{add, counted, extended, is_full, is_near_calm, i
 use Rattle.fol_model.specs.Geometry.{is_chunk, is_within, same_chunk, section_of}
 use Rattle.fol_model.specs.GridNumbers.{IsGrid}
 use Rattle.fol_model.specs.GridState.{GridState, at_chunk, in_margin, is_present}
-use Rattle.fol_model.specs.Release.{release, cleaned, cleans, held, joined_owner, must_wait, rested}
+use Rattle.fol_model.specs.Release.{release, cleaned, cleans, held, is_part_id, joined_owner, must_wait, parts, rested}
 use Rattle.fol_model.specs.Rules.{Rules}
-use Rattle.fol_laws.proofs.AddTarget.{calm_below}
+use Rattle.fol_model.specs.Universe.{all_sections, numbers_below}
+use Rattle.fol_laws.proofs.AddTarget.{calm_below, target_is}
 use Rattle.fol_laws.proofs.AllSections.{some_chunk-is, some_chunk-gives}
+use Rattle.fol_laws.proofs.ListCounts.{count_by-none}
 use Rattle.fol_laws.proofs.SamePlaces.{same_chunk-self}
-use Rattle.fol_regions.specs.Changes.{add_change, drawn_in, into}
+use Rattle.fol_regions.specs.Added.{is_id}
+use Rattle.fol_regions.specs.Changes.{add_change, drawn_in, into, release_change}
 use Rattle.fol_regions.specs.declared.change.MergePair.{MergePair}
 use Rattle.fol_regions.specs.declared.dead_bounds.Known.{Known}
 use Rattle.fol_regions.specs.DeadBounds.{BoundsDead, dead_count, most_in}
 use Rattle.fol_region_tables.proofs.Chosen.{chosen_below}
+use Rattle.fol_region_tables.proofs.PartedBooks.{filter_none}
 use Rattle.fol_regions.proofs.DyingSteps.{dead_few, dead_fewer}
 
 same_margin : (g h : GridState) → h.grid ≡ g.grid → h.holds ≡ g.holds → (s : SectionPos) → in_margin h s ≡ in_margin g s
@@ -33,6 +38,16 @@ bounds_same g h most grid owner holds b = record { at = λ r p. omega (arith, b.
 -- nothing is known, and no region has more than 16,384
 pub bounds_none : (g : GridState) (most : List Known) → Rules g → ((r : ℕ) → most_in most r ≡ 16384) → BoundsDead g (most_in most)
 bounds_none g most rules none = record { at = λ r p. omega (arith, dead_few g r rules p, none r) }
+
+-- a region whose id was not given out has no section
+unborn_none : (g : GridState) → Rules g → (r : ℕ) → 0 < r → g.next ≤ r → dead_count g r ≡ 0
+unfolding dead_count
+unborn_none g rules r p later = count_by-none (λ s. nat_eq (g.owner s) r && not (in_margin g s)) (λ s. none s) all_sections
+  where
+    none : (s : SectionPos) → (nat_eq (g.owner s) r && not (in_margin g s)) ≡ false
+    none s =
+        let other : nat_eq (g.owner s) r ≡ false = ne_eqb (g.owner s) r (λ e. let l = rules.below_next (g.owner s) (rules.owner_lives s (omega (arith, e, p))) in omega (arith, l, e, later)) in
+        rw other refl
 
 -- ---- an added hold
 module _ (g : GridState) (c : ChunkPos) (rules : Rules g) (ok : IsGrid g.grid) (limits : is_chunk c ≡ true) where
@@ -104,6 +119,32 @@ module _ (g : GridState) (c : ChunkPos) (rules : Rules g) (ok : IsGrid g.grid) (
       | inr z ↦ rw (f, z) (dead_extended r (alone f z))
     ]
   ]
+
+  -- a new region has an id that was not given out, and no other becomes part of it
+  created_next : (r : ℕ) → is_id (add_change g c).created r ≡ true → (r ≡ g.next) × (target g c ≡ g.next)
+  unfolding add_change
+  created_next r h = elim (cases_Bool (is_full g c)) [
+    | inl f ↦ let n = rw f at h in absurd (true≢false (sym n))
+    | inr f ↦ elim (cases_Bool (nat_eq (wanted g c) 0)) [
+      | inl z ↦ let n = rw (f, z) at h in absurd (true≢false (sym n))
+      | inr z ↦ elim (cases_Bool (nat_eq (target g c) g.next)) [
+        | inl y ↦ let n = rw (f, z, y) at h in (eqb-true r g.next (sym (or-false (nat_eq r g.next)) ∙ n), eqb-true (target g c) g.next y)
+        | inr y ↦ let n = rw (f, z, y) at h in absurd (true≢false (sym n))
+      ]
+    ]
+  ]
+
+  none_drawn : target g c ≡ g.next → drawn_in g c ≡ []
+  none_drawn e = elim (target_is g c rules ok limits) [
+    | inl y ↦ let l = calm_below g c rules ok limits (target g c) y in absurd (omega (arith, l, e))
+    | inr n ↦ filter_none (λ r. is_near_calm g c r && not (nat_eq (target g c) r)) (numbers_below g.next) (λ r. ap (λ b. b && not (nat_eq (target g c) r)) (n.1 r))
+  ]
+
+  -- and none of its sections is dead
+  pub added_live : (h : GridState) → h ≡ add g c → (created : List ℕ) → created ≡ (add_change g c).created → (r : ℕ) → 0 < r → is_id created r ≡ true → dead_count h r ≡ 0
+  added_live h is created same r p y =
+      let new = created_next r (sym (ap (λ ids. is_id ids r) same) ∙ y) in
+      omega (arith, dead_added r (λ f z e. none_drawn new.1), unborn_none g rules r p (omega (arith, new.0)), ap (λ x. dead_count x r) is)
 
   -- the regions that become part of the target
   abbrev joined : List ℕ
@@ -186,3 +227,38 @@ module _ (g : GridState) (t : ℕ) (rules : Rules g) (ticks : g.state t ≡ Tick
               omega (arith, m, bounds.at r p, d, f, ap (λ x. dead_count x r) is)
         ];
   }
+
+  -- the regions that a release creates have ids that were not given out
+  pub created_later : (r : ℕ) → is_id (release_change g t).created r ≡ true → g.next ≤ r
+  unfolding release_change
+  created_later r h = elim (cases_Bool (must_wait g t)) [
+    | inl m ↦ let n = rw m at h in absurd (true≢false (sym n))
+    | inr m ↦ elim (cases_Bool (cleans g t)) [
+      | inl k ↦
+          let n = rw (m, k) at h in
+          let part = sym (chosen_below (is_part_id g t) (g.next + parts g t) part_below r) ∙ n in
+          leb-true g.next r (and_parts (nat_le g.next r) (nat_lt r (g.next + parts g t)) (and_parts (nat_le 2 (parts g t)) (nat_le g.next r && nat_lt r (g.next + parts g t)) part).1).0
+      | inr k ↦ let n = rw (m, k) at h in absurd (true≢false (sym n))
+    ]
+  ]
+    where
+      part_below : (q : ℕ) → is_part_id g t q ≡ true → q < g.next + parts g t
+      part_below q y = ltb-true q (g.next + parts g t) (and_parts (nat_le g.next q) (nat_lt q (g.next + parts g t)) (and_parts (nat_le 2 (parts g t)) (nat_le g.next q && nat_lt q (g.next + parts g t)) y).1).1
+
+  -- and none of their sections is dead
+  pub created_live : (h : GridState) → h ≡ release g t → (created : List ℕ) → created ≡ (release_change g t).created → (r : ℕ) → 0 < r → is_id created r ≡ true → dead_count h r ≡ 0
+  created_live h is created same r p y =
+      let later : g.next ≤ r = created_later r (sym (ap (λ ids. is_id ids r) same) ∙ y) in
+      let given : t < g.next = rules.below_next t (λ d. let z = sym ticks ∙ d in cc) in
+      let other : r ≢ t = λ e. omega (arith, e, later, given) in
+      omega (arith, dead_released r p other, unborn_none g rules r p later, ap (λ x. dead_count x r) is)
+
+-- the numbers of all regions, where new ones have no dead section
+pub bounds_created : (h : GridState) (old new : List Known) (ids : List ℕ) → Rules h → BoundsDead h (most_in old) → ((r : ℕ) → 0 < r → is_id ids r ≡ true → dead_count h r ≡ 0)
+    → ((r : ℕ) → (if is_id ids r then 0 else min 16384 (most_in old r)) ≤ most_in new r) → BoundsDead h (most_in new)
+bounds_created h old new ids rules bounds none noted = record {
+  at = λ r p. elim (cases_Bool (is_id ids r)) [
+    | inl y ↦ omega (arith, none r p y)
+    | inr y ↦ let n = noted r in let m = rw y at n in omega (arith, m, bounds.at r p, dead_few h r rules p)
+  ];
+}

@@ -5,6 +5,7 @@ ghost use Rattle.std.specs.Int.{int_rem_euclid};
 ghost use Rattle.fol_model.specs.declared.places.SectionPos.{SectionPos};
 ghost use Rattle.fol_model.specs.Universe.{square};
 ghost use Rattle.fol_region_tables.specs.Book.{owner_of};
+ghost use Rattle.fol_regions.specs.Added.{is_id};
 ghost use Rattle.fol_regions.specs.Changes.{into};
 ghost use Rattle.fol_regions.specs.DeadBounds.{is_dead_in, most_in, place};
 ghost use Rattle.fol_regions.specs.Released.{IsPresence};
@@ -235,5 +236,15 @@ pub fn forget_joined(bounds: &mut DeadBounds, merges: &[MergePair])
 {
     if !merges.is_empty() {
         bounds.set(merges[0].into, MOST_SECTIONS as u32);
+    }
+}
+
+/// New regions have no dead section.
+pub fn note_created(bounds: &mut DeadBounds, ids: &[u64])
+    ensures { (r : ℕ) → (if is_id ids.now r then 0 else min MOST_SECTIONS (most_in bounds.old r))
+        ≤ most_in bounds.new r }
+{
+    for id in ids {
+        bounds.set(*id, 0);
     }
 }

@@ -21,7 +21,7 @@ ghost use Rattle.fol_regions.specs.Answers.{IsGiven, add_answer, remove_answer, 
 use crate::add::hold;
 use crate::chunks::list_chunks;
 use crate::counts::count_chunks;
-use crate::dead_bounds::{DeadBounds, forget_joined};
+use crate::dead_bounds::{DeadBounds, forget_joined, note_created};
 use crate::dying::note_dying;
 use crate::near::{MOST_NEAR, NearRegions};
 use crate::release::{Releaser, can_rest};
@@ -181,6 +181,7 @@ impl Regions {
             c,
         );
         forget_joined(&mut self.dead, self.change.merges());
+        note_created(&mut self.dead, self.change.created());
         answer
     }
 
@@ -253,6 +254,7 @@ impl Regions {
             most,
         );
         self.dead.set(id, left);
+        note_created(&mut self.dead, self.change.created());
     }
 
     /// Whether the end of the next tick of a region changes nothing in the regions, as far as is known without a look at its sections.

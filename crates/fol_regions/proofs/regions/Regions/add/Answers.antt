@@ -6,7 +6,7 @@ use Rattle.fol_regions.specs.Changes.{Changes}
 use Rattle.fol_regions.specs.Kept.{IsKept}
 use Rattle.fol_regions.specs.Released.{grid_of}
 use Rattle.fol_regions.specs.Table.{grid_state}
-use Rattle.fol_regions.proofs.DeadKept.{bounds_added}
+use Rattle.fol_regions.proofs.DeadKept.{added_live, bounds_added, bounds_created}
 use Rattle.fol_regions.proofs.HoldSteps.{state_grid}
 use Rattle.fol_regions.proofs.regions.Regions.add.Goals as goal
 
@@ -44,7 +44,11 @@ invariant_of-self c =
         behind = omega (arith, n, r.behind, c.hold-answer.ensures.behind.0, c.hold-answer.ensures.behind.1);
       };
     } in
-    (after, bounds_added (grid_of c.self.inside.sections c.self.inside.tables) c.args.c c.self.invariant.0.rules (state_grid c.self.inside.sections c.self.inside.tables c.self.invariant.0.numbers) c.requires.in_range (grid_of c.hold-answer.new.sections c.hold-answer.new.tables) c.hold-answer.ensures.state after.rules _ _ c.self.invariant.1 c.merges.result.now (c.merges.ensures ∙ ap (λ (x : Changes). x.merges) c.hold-answer.ensures.change) c.forget_joined.ensures)
+    let joined = bounds_added (grid_of c.self.inside.sections c.self.inside.tables) c.args.c c.self.invariant.0.rules (state_grid c.self.inside.sections c.self.inside.tables c.self.invariant.0.numbers) c.requires.in_range (grid_of c.hold-answer.new.sections c.hold-answer.new.tables) c.hold-answer.ensures.state after.rules _ _ c.self.invariant.1 c.merges.result.now (c.merges.ensures ∙ ap (λ (x : Changes). x.merges) c.hold-answer.ensures.change) c.forget_joined.ensures in (
+      after,
+      bounds_created (grid_of c.hold-answer.new.sections c.hold-answer.new.tables) _ _ c.created.result.now after.rules joined
+          (added_live (grid_of c.self.inside.sections c.self.inside.tables) c.args.c c.self.invariant.0.rules (state_grid c.self.inside.sections c.self.inside.tables c.self.invariant.0.numbers) c.requires.in_range (grid_of c.hold-answer.new.sections c.hold-answer.new.tables) c.hold-answer.ensures.state c.created.result.now (c.created.ensures ∙ ap (λ (x : Changes). x.created) c.hold-answer.ensures.change)) c.note_created.ensures,
+    )
 
 pub returns-clause-state : goal.returns-clause-state
 unfolding grid_state grid_of
