@@ -12,7 +12,6 @@ use Rattle.fol_sections.specs.declared.pages.Page.{Page}
 use Rattle.fol_sections.specs.declared.turns.Turn.{Turn}
 use Rattle.fol_sections.specs.declared.turns.Turn.TheVariants.{Filled, Emptied}
 use Rattle.fol_sections.proofs.NumberSteps.{chunks-put, near-put, chunks-are, near-are}
-use Rattle.fol_sections.proofs.Views.{same_section-swap}
 
 pub rise_none : (turn : Turn) → rise turn 0 ≡ 0
 rise_none Filled = refl
@@ -44,30 +43,7 @@ turned_by turn counts low = omega (arith, low)
 
 module _ (before after : List ((ℤ × ℤ) × Page)) (s : SectionPos) (was now : Counts) (turn : Turn) (is : counts_at before s ≡ Some was)
     (step : (q : SectionPos) → counts_at after q ≡ cond (same_section s q) (Some now) (counts_at before q)) where
-  -- the number of sections near it turned
-  module _ (turned : now.near + fall turn 1 ≡ was.near + rise turn 1) where
-    pub near-turned : (q : SectionPos) → near_at after q + fall turn (cond (same_section q s) 1 0) ≡ near_at before q + rise turn (cond (same_section q s) 1 0)
-    near-turned q =
-        let put = near-put before after s now step q in
-        let swap = same_section-swap q s in
-        elim (cases_Bool (same_section s q)) [
-          | inl e ↦
-              let k = same_section-true s q e in
-              let old : near_at before q ≡ was.near = ap (near_at before) (sym k) ∙ near-are before s was is in
-              let new : near_at after q ≡ now.near = put ∙ ap (λ b. cond b now.near (near_at before q)) e in
-              rw (swap, e, new, old) turned
-          | inr e ↦
-              let new : near_at after q ≡ near_at before q = put ∙ ap (λ b. cond b now.near (near_at before q)) e in
-              rw (swap, e, new) (omega (arith, rise_none turn, fall_none turn))
-        ]
-
-  pub chunks-kept : now.loaded ≡ was.loaded → (q : SectionPos) → chunks_at after q ≡ chunks_at before q
-  chunks-kept same q = chunks-put before after s now step q ∙ elim (cases_Bool (same_section s q)) [
-    | inl e ↦ let k = same_section-true s q e in rw e (same ∙ sym (ap (chunks_at before) (sym k) ∙ chunks-are before s was is))
-    | inr e ↦ rw e refl
-  ]
-
-  -- and the same for the number of loaded chunks
+  -- the number of its loaded chunks turned
   module _ (turned : now.loaded + fall turn 1 ≡ was.loaded + rise turn 1) where
     pub chunks-turned : (q : SectionPos) → chunks_at after q + fall turn (cond (same_section s q) 1 0) ≡ chunks_at before q + rise turn (cond (same_section s q) 1 0)
     chunks-turned q =
