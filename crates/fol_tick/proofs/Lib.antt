@@ -5,3 +5,4 @@ pub mod OneTask
 pub mod NextTask
 pub mod TickLaws
 pub mod ListCalls
+pub mod WishRoom

@@ -5,3 +5,4 @@ pub mod Effects
 pub mod ListAnswers
 pub mod Laws
 pub mod Logs
+pub mod MostAsked

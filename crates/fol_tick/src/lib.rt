@@ -7,6 +7,7 @@
 //! same tick. It serves whoever runs the ticks of a core.
 #![tactic(auto)]
 
+mod asked;
 mod host;
 pub mod laws;
 mod list_host;

@@ -1,13 +1,16 @@
 //! A whole tick.
 
-ghost use Rattle.std.specs.Prelude.{◌≡◌, ◌+◌, ◌*◌, ◌≤◌, ◌<◌, ◌⊎◌, List, [], ◌∷◌, drop, length, map, IsTrue, OnErr, OnOk, vec_len};
+ghost use Rattle.std.specs.Prelude.{◌≡◌, ◌+◌, ◌≤◌, ◌<◌, ◌⊎◌, List, [], ◌∷◌, drop, length, map, IsTrue, OnErr, OnOk, vec_len};
+ghost use Rattle.std.specs.List.{sum_by};
 ghost use Rattle.std.specs.Vec.{vec_capacity};
 ghost use Rattle.std.specs.VecDeque.{deque_len};
 ghost use Rattle.fol_tick.specs.Calls.{HostCall};
+ghost use Rattle.fol_tick.specs.MostAsked.{most_asked};
 ghost use Rattle.fol_tick.specs.Prepared.{prepared_of};
 ghost use Rattle.fol_tick.specs.Runs.{MayRun, Runs, Finishes, StopsAtHost, next_task};
 ghost use Rattle.fol_tick.specs.Logs.{with_log};
 
+use crate::asked::most_asked;
 use crate::host::Host;
 use crate::log::{OpenLog, open};
 use crate::prepared::{Prepared, prepare, prepared_for};
@@ -64,10 +67,11 @@ fn run_left<H: Host>(alloc: Global, tick: &mut Tick, host: &mut H) -> Result<(),
 {
     let left = &tick.due.as_slice()[tick.next as usize..];
     let count = left.len();
+    let asked = most_asked(left);
     let first = prepared_for(alloc, &left[0])?;
     let others = prepare(alloc, &left[1..])?;
     tick.body.chunks.reserve(count as u64)?;
-    let mut log = open(alloc, &mut tick.log, count)?;
+    let mut log = open(alloc, &mut tick.log, count, asked)?;
     let answer = run_all(alloc, tick, first, others, &mut log, host);
     tick.log = log.close();
     answer
@@ -87,8 +91,8 @@ fn run_all<H: Host>(
     requires spare { deque_len others + 1 ≤ tick.old.body.chunks.spare }
     requires room_for_ran { vec_len log.old.ran + (deque_len others + 1)
         ≤ vec_capacity log.old.ran }
-    requires room_for_wishes { vec_len log.old.wishes + 2 * (deque_len others + 1)
-        ≤ vec_capacity log.old.wishes }
+    requires room_for_wishes { vec_len log.old.wishes
+        + sum_by most_asked (drop tick.old.next tick.old.due) ≤ vec_capacity log.old.wishes }
     ensures runs { (calls : List HostCall) × H.reaches host.old calls host.new
         × Runs (with_log tick.old log.old) (with_log tick.new log.new) calls }
     ensures may_run { MayRun tick.new }
@@ -111,8 +115,8 @@ fn run_tasks<H: Host>(
     requires prepared { prepared.items ≡ map prepared_of (drop tick.old.next tick.old.due) }
     requires spare { deque_len prepared ≤ tick.old.body.chunks.spare }
     requires room_for_ran { vec_len log.old.ran + deque_len prepared ≤ vec_capacity log.old.ran }
-    requires room_for_wishes { vec_len log.old.wishes + 2 * deque_len prepared
-        ≤ vec_capacity log.old.wishes }
+    requires room_for_wishes { vec_len log.old.wishes
+        + sum_by most_asked (drop tick.old.next tick.old.due) ≤ vec_capacity log.old.wishes }
     ensures runs { (calls : List HostCall) × H.reaches host.old calls host.new
         × Runs (with_log tick.old log.old) (with_log tick.new log.new) calls }
     ensures may_run { MayRun tick.new }
@@ -138,7 +142,8 @@ fn run_next<H: Host>(
     requires prepared { prepared ∷ [] ≡ map prepared_of (next_task tick.old) }
     requires spare { 1 ≤ tick.old.body.chunks.spare }
     requires room_for_ran { vec_len log.old.ran < vec_capacity log.old.ran }
-    requires room_for_wishes { vec_len log.old.wishes + 2 ≤ vec_capacity log.old.wishes }
+    requires room_for_wishes { vec_len log.old.wishes + sum_by most_asked (next_task tick.old)
+        ≤ vec_capacity log.old.wishes }
     ensures runs { (calls : List HostCall) × H.reaches host.old calls host.new
         × Runs (with_log tick.old log.old) (with_log tick.new log.new) calls }
     ensures may_run { MayRun tick.new }
@@ -147,7 +152,8 @@ fn run_next<H: Host>(
     ensures spare { tick.old.body.chunks.spare ≤ tick.new.body.chunks.spare + 1 }
     ensures ran_len { vec_len log.new.ran ≤ vec_len log.old.ran + 1 }
     ensures ran_capacity { vec_capacity log.new.ran ≡ vec_capacity log.old.ran }
-    ensures wishes_len { vec_len log.new.wishes ≤ vec_len log.old.wishes + 2 }
+    ensures wishes_len { vec_len log.new.wishes
+        ≤ vec_len log.old.wishes + sum_by most_asked (next_task tick.old) }
     ensures wishes_capacity { vec_capacity log.new.wishes ≡ vec_capacity log.old.wishes }
 {
     let task = &tick.due.as_slice()[tick.next as usize];

@@ -8,6 +8,7 @@ ghost use Rattle.fol_model.specs.ActionStep.{stands, at_id, standing_of, plain_o
 ghost use Rattle.fol_chunks.specs.Contents.{flat_of, is_recorded};
 ghost use Rattle.fol_tick.specs.Calls.{HostCall, is_hosted, outcome_of_load, outcome_of_unload};
 ghost use Rattle.fol_tick.specs.Effects.{Acts, IsCallOf, outcome_given};
+ghost use Rattle.fol_tick.specs.MostAsked.{most_asked};
 ghost use Rattle.fol_tick.specs.Prepared.{own_in, prepared_of};
 ghost use Rattle.fol_tick.specs.Runs.{arrival_of, TasksRan};
 ghost use Rattle.fol_tick.specs.Logs.{stage_at};
@@ -254,7 +255,8 @@ pub(crate) fn run_task<H: Host>(
     requires limits { IsTrue (is_action task.now.action) }
     requires prepared { prepared ≡ prepared_of task.now }
     requires room_for_ran { vec_len log.old.ran < vec_capacity log.old.ran }
-    requires room_for_wishes { vec_len log.old.wishes + 2 ≤ vec_capacity log.old.wishes }
+    requires room_for_wishes { vec_len log.old.wishes + most_asked task.now
+        ≤ vec_capacity log.old.wishes }
     ensures ok { OnOk result ((calls : List HostCall) × H.reaches host.old calls host.new
         × TasksRan (is_recorded recorded.now.chunks.now) (task.now ∷ [])
         (stage_at chunks.old log.old) (stage_at chunks.new log.new) calls) }
@@ -265,7 +267,7 @@ pub(crate) fn run_task<H: Host>(
     ensures spare { chunks.old.spare ≤ chunks.new.spare + 1 }
     ensures ran_len { vec_len log.new.ran ≤ vec_len log.old.ran + 1 }
     ensures ran_capacity { vec_capacity log.new.ran ≡ vec_capacity log.old.ran }
-    ensures wishes_len { vec_len log.new.wishes ≤ vec_len log.old.wishes + 2 }
+    ensures wishes_len { vec_len log.new.wishes ≤ vec_len log.old.wishes + most_asked task.now }
     ensures wishes_capacity { vec_capacity log.new.wishes ≡ vec_capacity log.old.wishes }
 {
     let Prepared { own, again } = prepared;
