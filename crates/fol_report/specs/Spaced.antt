@@ -11,6 +11,10 @@ abbrev pub joined : List Word → List ℕ
 joined [] = []
 joined (w ∷ ws) = w ++ spaced ws
 
+-- the lines of some rows, each with this mark behind it
+abbrev pub marked : {R : Type 0} → List ℕ → (R → List Word) → List R → List ℕ
+marked mark words rows = flat_map (λ r. joined (words r) ++ mark) rows
+
 -- the lines of some rows, each with its end
 abbrev pub joined_lines : {R : Type 0} → (R → List Word) → List R → List ℕ
-joined_lines words rows = flat_map (λ r. joined (words r) ++ 10 ∷ []) rows
+joined_lines words rows = marked (10 ∷ []) words rows

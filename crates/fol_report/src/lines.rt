@@ -2,7 +2,7 @@
 
 ghost use Rattle.std.specs.Prelude.{◌≡◌, ◌++◌, IfOk, string_bytes};
 ghost use Rattle.fol_model.specs.LineWords.{part};
-ghost use Rattle.fol_report.specs.Spaced.{joined, joined_lines};
+ghost use Rattle.fol_report.specs.Spaced.{joined, marked};
 
 use std::alloc::AllocError;
 
@@ -21,15 +21,15 @@ pub trait Line {
             ≡ string_bytes out.old ++ joined (words self.now)) };
 }
 
-/// Puts a line for each row.
-fn put_lines<R: Line>(out: &mut String, rows: &[R]) -> Result<(), AllocError>
+/// Puts a line for each row, and a mark behind each.
+pub fn put_lines<R: Line>(out: &mut String, rows: &[R], mark: &str) -> Result<(), AllocError>
     ensures { IfOk result (λ _. string_bytes out.new
-        ≡ string_bytes out.old ++ joined_lines R.words rows.now) }
+        ≡ string_bytes out.old ++ marked mark.now R.words rows.now) }
 {
     out.reserve(rows.len().saturating_mul(LINE_ROOM))?;
     for row in rows {
         row.put(out)?;
-        out.push_str("\n")?;
+        out.push_str(mark)?;
     }
     Ok(())
 }
@@ -41,5 +41,5 @@ pub fn put_part<R: Line>(out: &mut String, name: &str, rows: &[R]) -> Result<(),
 {
     let count = rows.len();
     write!(out, "{name} {count}\n")?;
-    put_lines(out, rows)
+    put_lines(out, rows, "\n")
 }

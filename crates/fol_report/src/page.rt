@@ -9,7 +9,8 @@ use std::marker::Model;
 /// How many bytes it can have.
 const ROOM: usize = 1024;
 
-/// A text that grows at its end, and is put when it has no room left: so no line is put alone.
+/// A text that grows at its end, for short lines. The lines of a report as text share one, which is put once it has no room for one more, and
+/// before a line that is not made in it; a line of a JSON report has one of its own.
 #[derive(Drop)]
 pub struct Page {
     bytes: [u8; ROOM],
