@@ -18,21 +18,21 @@ module _ {T : Type 0} where
   pub place_else : (k : Keeper T) (i j : ℕ) (p : Place T) → j ≢ i → place_at (knowing k i p) j ≡ place_at k j
   place_else k i j p other = get_or-set_other k.places i j p (place None None None) other
 
-  -- the keeper's seat of new slots has a place for each body, and keeps it
-  pub new_as_many : (z : TableId) (bodies : List T) (workers : ℕ) → length (new_keeper z bodies workers).places ≡ length bodies
-  new_as_many z [] workers = refl
-  new_as_many z (x ∷ xs) workers = ap suc (new_as_many z xs workers)
+  -- The keeper's seat of new slots, for however many workers, has a place for each body, and keeps it.
+  pub new_as_many : (z : TableId) (bodies : List T) → length (new_keeper z bodies 0).places ≡ length bodies
+  new_as_many z [] = refl
+  new_as_many z (x ∷ xs) = ap suc (new_as_many z xs)
 
-  pub kept_new : (z : TableId) (bodies : List T) (workers i : ℕ) → i < length bodies → IsSome (place_at (new_keeper z bodies workers) i).kept
-  kept_new z [] workers i low = absurd (omega arith)
-  kept_new z (x ∷ xs) workers zero low = refl
-  kept_new z (x ∷ xs) workers (suc i) low = kept_new z xs workers i (omega arith)
+  pub kept_new : (z : TableId) (bodies : List T) (i : ℕ) → i < length bodies → IsSome (place_at (new_keeper z bodies 0) i).kept
+  kept_new z [] i low = absurd (omega arith)
+  kept_new z (x ∷ xs) zero low = refl
+  kept_new z (x ∷ xs) (suc i) low = kept_new z xs i (omega arith)
 
   -- with the first of the bodies, and so on
-  pub body_new : (z : TableId) (bodies : List T) (workers i : ℕ) (b : T) → slice_get bodies i ≡ Some b → place_at (new_keeper z bodies workers) i ≡ place (Some b) None None
-  body_new z [] workers i b e = absurd (cc)
-  body_new z (x ∷ xs) workers zero b e = ap (λ o. place o None None) e
-  body_new z (x ∷ xs) workers (suc i) b e = body_new z xs workers i b e
+  pub body_new : (z : TableId) (bodies : List T) (i : ℕ) (b : T) → slice_get bodies i ≡ Some b → place_at (new_keeper z bodies 0) i ≡ place (Some b) None None
+  body_new z [] i b e = absurd (cc)
+  body_new z (x ∷ xs) zero b e = ap (λ o. place o None None) e
+  body_new z (x ∷ xs) (suc i) b e = body_new z xs i b e
 
 get_there : {X : Type 0} (xs : List X) (k : ℕ) (d a : X) → slice_get xs k ≡ Some a → get_or xs k d ≡ a
 get_there [] k d a e = absurd (cc)
