@@ -51,7 +51,7 @@ impl Offers {
     }
 
     /// Calls a region back, if its tick is offered.
-    fn call_back_one(&mut self, slots: &Slots<Offer>, by: u32, region: u64)
+    pub(crate) fn call_back_one(&mut self, slots: &Slots<Offer>, by: u32, region: u64)
         requires own { self.old.slots ≡ slots_id slots.now }
         ensures { CallsBack self.old self.new by (nat_eq region) }
     {
@@ -71,6 +71,22 @@ impl Offers {
             self.call_back(slots, by, region);
             from = i;
         }
+    }
+
+    /// Calls back each region whose tick is offered, and gives the core. The seats of the workers are of no use then. Takes no memory.
+    pub fn into_core(self, slots: &Slots<Offer>, by: u32) -> Core
+        requires own { self.slots ≡ slots_id slots.now }
+        ensures back { CallsBack self (record self { core = result }) by every }
+        ensures none { NonePrepared result }
+    {
+        let mut offers = self;
+        offers.recall(slots, by);
+        let Offers {
+            core,
+            keeper: _,
+            places: _,
+        } = offers;
+        core
     }
 
     /// A slot with the region whose tick is offered there: the first one from this slot on, or else the first one before it.
