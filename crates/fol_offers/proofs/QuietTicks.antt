@@ -55,7 +55,7 @@ end by r t = record { by = by; event = End by r t [] [] }
 module _ (m n : Meaning) (s : Keeper Offer) (xs : List ℕ) (tied : Tied m s xs) (by r t : ℕ) (opening : n.opening ≡ m.opening) (history : n.history ≡ m.history ++ quiet_tick by r t) (prepared : is_prepared n ≡ is_prepared m)
     (run : Run n.opening n.history) (unprepared : is_prepared m r ≡ false) where
   -- the core between Begin and End
-  mid : Meaning
+  abbrev mid : Meaning
   mid = record m { history = m.history ++ begin by r ∷ [] }
 
   both : n.history ≡ (m.history ++ begin by r ∷ []) ++ end by r t ∷ []
@@ -126,12 +126,12 @@ module _ (m n : Meaning) (s : Keeper Offer) (xs : List ℕ) (tied : Tied m s xs)
       region_of e = cc
 
       closed : (p : ℕ) (ys : List Entry) → p ≡ r → NoEnd p (ys ++ end by r t ∷ []) → ⊥
-      closed p [] same no = true≢false (sym (eq-eqb r p (sym same)) ∙ no.0)
-      closed p (y ∷ ys) same no = closed p ys same no.1
+      closed p [] same none_ends = true≢false (sym (eq-eqb r p (sym same)) ∙ none_ends.0)
+      closed p (y ∷ ys) same none_ends = closed p ys same none_ends.1
 
       first_part : (p : ℕ) (ys zs : List Entry) → NoEnd p (ys ++ zs) → NoEnd p ys
-      first_part p [] zs no = tt
-      first_part p (y ∷ ys) zs no = (no.0, first_part p ys zs no.1)
+      first_part p [] zs none_ends = tt
+      first_part p (y ∷ ys) zs none_ends = (none_ends.0, first_part p ys zs none_ends.1)
 
   tied_one : (1 ≤ by) × (by ≤ s.workers) → NoneOpen by m.history → Tied n s xs
   tied_one few none = record {
@@ -171,6 +171,10 @@ module _ (s : Keeper Offer) (xs : List ℕ) (by r t : ℕ) (few : (1 ≤ by) × 
         one_closed mid n s xs first.0 by r (t + suc k) opening longer prepared run unprepared first.1,
       )
 
+no_ticks : (by r t : ℕ) → quiet_ticks by r t zero ≡ []
+unfolding quiet_ticks
+no_ticks by r t = refl
+
 -- the first of them begins
 quiet_first : (by r t k : ℕ) → (rest : List Entry) × (quiet_ticks by r t (suc k) ≡ begin by r ∷ rest)
 unfolding quiet_ticks
@@ -195,11 +199,7 @@ none_learnt a b caller by r grid run back ready none = go back.learnt back.histo
 -- the worker passed ticks of a region that was called back
 pub tied_passes : (a b : Shown) (n : Meaning) (s : Keeper Offer) (xs : List ℕ) (by r k : ℕ) → Tied b.core s xs → Run b.core.opening b.core.history → Run n.opening n.history → CallsBack a b by (nat_eq r) → is_prepared b.core r ≡ false
     → (1 ≤ by) × (by ≤ s.workers) → NoneOpen by a.core.history → Passes b.core n by r k → Tied n s xs
-tied_passes a b n s xs by r zero tied run after_it back unprepared few none did = tied_stays b.core n s xs record { opening = did.opening; history = (let is : n.history ≡ b.core.history ++ [] = no_ticks did.history in is ∙ append-nil b.core.history); prepared = did.prepared } tied
-  where
-    no_ticks : n.history ≡ b.core.history ++ quiet_ticks by r ((world_of b.core).tick r) zero → n.history ≡ b.core.history ++ []
-    unfolding quiet_ticks
-    no_ticks e = e
+tied_passes a b n s xs by r zero tied run after_it back unprepared few none did = tied_stays b.core n s xs record { opening = did.opening; history = did.history ∙ (ap (λ (es : List Entry). b.core.history ++ es) (no_ticks by r ((world_of b.core).tick r)) ∙ append-nil b.core.history); prepared = did.prepared } tied
 tied_passes a b n s xs by r (suc k) tied run after_it back unprepared few none did =
     let m : Meaning = b.core in
     let t : ℕ = (world_of m).tick r in
