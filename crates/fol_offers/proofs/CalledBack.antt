@@ -1,5 +1,5 @@
 -- Several regions are called back, one after another.
-use Rattle.std.proofs.Common.{◌≡◌, ◌≢◌, ℕ, ◌<◌, List, [], ◌∷◌, ◌++◌, sym, refl, ap, ◌∙◌, subst, Bool, true, false, not, ◌&&◌, ◌||◌, nat_eq, true≢false, inl, inr, arith, append_assoc, cond, ◌+◌, take}
+use Rattle.std.proofs.Common.{◌≡◌, ◌≢◌, ℕ, ◌<◌, List, [], ◌∷◌, ◌++◌, sym, refl, ap, ◌∙◌, subst, Bool, true, false, not, ◌&&◌, ◌||◌, nat_eq, true≢false, inl, inr, arith, append_assoc, cond, take}
 use Rattle.std.specs.Prelude.{IsOk, Result}
 use Rattle.std.proofs.Math.Seq.{take-length}
 use Rattle.std.specs.List.{AllByRecursion, filter, list_any}

@@ -1,5 +1,5 @@
 -- Regions are offered one after another.
-use Rattle.std.proofs.Common.{◌≡◌, ◌≢◌, ℕ, ◌<◌, ◌+◌, sym, refl, ap, ◌∙◌, subst, Bool, true, false, true≢false, not, ◌&&◌, cond, arith, ◌⊎◌, inl, inr}
+use Rattle.std.proofs.Common.{◌≡◌, ◌≢◌, ℕ, ◌<◌, sym, refl, ap, ◌∙◌, subst, Bool, true, false, true≢false, not, ◌&&◌, cond, arith, inl, inr}
 use Rattle.std.specs.Prelude.{Option, Some, None}
 use Rattle.std.proofs.lemmas.Bool.{and_from, and_parts, false_from_ne_true, not_from_false, not-true}
 use Rattle.std.proofs.lemmas.Bool.Decides.{eqb_tells}

@@ -4,7 +4,6 @@ use Rattle.std.specs.Prelude.{nat_eq}
 use Rattle.std.specs.List.{AllByRecursion}
 use Rattle.std.proofs.lemmas.Bool.{eq-eqb, eqb-true, ne_eqb}
 use Rattle.std.proofs.lemmas.List.{append-nil}
-use Rattle.fol_model.specs.declared.events.Accept.{Accept}
 use Rattle.fol_model.specs.declared.events.Entry.{Entry}
 use Rattle.fol_model.specs.declared.events.Event.TheVariants.{Begin, End}
 use Rattle.fol_model.specs.declared.regions.State.TheVariants.{Ready, Ticking}
@@ -13,9 +12,8 @@ use Rattle.fol_model.specs.End.{answers, run_down, ticked}
 use Rattle.fol_model.specs.GridNumbers.{IsGrid}
 use Rattle.fol_model.specs.OpenTick.{NoEnd}
 use Rattle.fol_model.specs.World.{World, start}
-use Rattle.fol_model.specs.Run.{Allowed, Run, RunFrom, after, after_all, world}
+use Rattle.fol_model.specs.Run.{Allowed, Run, RunFrom, after, after_all}
 use Rattle.fol_laws.specs.LateBegin.{touches, wishes_touch}
-use Rattle.fol_laws.proofs.LongerRuns.{world_both}
 use Rattle.fol_core.proofs.FinishedRun.{before_entry}
 use Rattle.fol_core.specs.Answers.{is_over}
 use Rattle.fol_core.specs.Meaning.{Meaning, is_prepared, world_of}
@@ -73,10 +71,10 @@ module _ (m n : Meaning) (s : Keeper Offer) (xs : List ℕ) (tied : Tied m s xs)
   -- no slot is that of the region
   no_slot : (j : ℕ) → j < length xs → 0 < region_at xs j → nat_eq r (region_at xs j) ≡ false
   no_slot j low pos = ne_eqb r (region_at xs j) (λ same.
-    let u = tied.used j low pos in
-    found_or_not (place_at s j).found
-    (λ e. true≢false (sym (u.waits e).prepared ∙ (ap (is_prepared m) (sym same) ∙ unprepared)))
-    (λ k e.
+      let u = tied.used j low pos in
+      found_or_not (place_at s j).found
+      (λ e. true≢false (sym (u.waits e).prepared ∙ (ap (is_prepared m) (sym same) ∙ unprepared)))
+      (λ k e.
       let runs = u.runs k e in
       let ticks : (world_of m).grid.state r ≡ Ticking = ap (λ (q : ℕ). (world_of m).grid.state q) (same ∙ sym runs.of) ∙ open_ticks m (record u.tick { worker = k }) tied.grid (before_entry (start m.opening) m.history (begin by r ∷ end by r t ∷ []) whole) runs.opened in
       never (sym ready ∙ ticks)))
@@ -165,8 +163,7 @@ module _ (s : Keeper Offer) (xs : List ℕ) (by r t : ℕ) (few : (1 ≤ by) × 
       let mid : Meaning = record m { history = m.history ++ quiet_ticks by r t k } in
       let longer : n.history ≡ mid.history ++ quiet_tick by r (t + suc k) = history ∙ sym (append_assoc m.history (quiet_ticks by r t k) (quiet_tick by r (t + suc k))) in
       let before : Run m.opening mid.history = before_entry (start m.opening) mid.history (quiet_tick by r (t + suc k)) (rw (opening, longer) at run) in
-      let first = tied_some k m mid tied refl refl refl before unprepared none in
-      (
+      let first = tied_some k m mid tied refl refl refl before unprepared none in (
         tied_one mid n s xs first.0 by r (t + suc k) opening longer prepared run unprepared few first.1,
         one_closed mid n s xs first.0 by r (t + suc k) opening longer prepared run unprepared first.1,
       )

@@ -1,6 +1,5 @@
 -- The turns that workers take.
 use Rattle.std.proofs.Common.{◌≡◌, ℕ, ◌<◌, ◌≤◌, List, [], ◌∷◌, ◌++◌, sym, refl, ap, ◌∙◌, subst, Some, true, false, true≢false, ◌⊎◌, inl, inr}
-use Rattle.std.specs.List.{AllByRecursion}
 use Rattle.std.proofs.lemmas.Bool.{eq-eqb}
 use Rattle.fol_model.specs.declared.events.Entry.{Entry}
 use Rattle.fol_model.specs.declared.events.Event.{Event}
@@ -10,7 +9,7 @@ use Rattle.fol_model.specs.OpenTick.{is_begin}
 use Rattle.fol_model.specs.Run.{Run}
 use Rattle.fol_laws.proofs.SortedRows.{all_append}
 use Rattle.fol_core.specs.Meaning.{Meaning, is_prepared, world_of}
-use Rattle.fol_seat_laws.specs.Signed.{BegunBelow, IsBegunBelow, is_start}
+use Rattle.fol_seat_laws.specs.Signed.{IsBegunBelow, is_start}
 use Rattle.fol_slots.specs.Shown.{FoundOnlyAt, Keeper, place_at}
 use Rattle.fol_offers.specs.declared.offer.Offer.{Offer}
 use Rattle.fol_offers.specs.InTurn.{NoneOpen, TakeTurns}
