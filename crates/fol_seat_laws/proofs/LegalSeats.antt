@@ -19,6 +19,7 @@ use Rattle.fol_seat_laws.specs.Signed.{IsBegunBelow, IsSigned, is_phase, is_call
 use Rattle.fol_seat_laws.specs.Turns.{Turns}
 use Rattle.fol_seat_laws.specs.Worked.{Called, Worked, SeatsMakeLegal}
 use Rattle.fol_seat_laws.proofs.OwnEntries.{own_first, own_next}
+use Rattle.fol_seat_laws.proofs.Splits.{all_behind}
 use Rattle.fol_seat_laws.proofs.Stopping.{all_running, after_both, run_behind, nothing_behind}
 use Rattle.fol_seat_laws.proofs.Ticking.{TicksFor, none_begun}
 use Rattle.fol_seat_laws.proofs.Turning.{turns_both, turns_past_all, turns_whole}
@@ -112,8 +113,7 @@ all_of w (e ∷ es) kinds go = let one : is_of w e.event ≡ true = is_one w e e
 -- ---- all of it
 
 pub split_signed : (xs ys : List Entry) → AllByRecursion IsSigned (xs ++ ys) → AllByRecursion IsSigned ys
-split_signed [] ys all = all
-split_signed (x ∷ xs) ys all = split_signed xs ys all.1
+split_signed xs ys all = all_behind IsSigned xs ys all
 
 abbrev finish : Entry
 finish = record { by = 0; event = Finish }

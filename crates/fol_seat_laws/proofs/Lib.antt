@@ -1,5 +1,10 @@
+pub mod InTick
+pub mod LateTicks
+pub mod LateTurns
+pub mod OwnDeeds
 pub mod OwnEntries
 pub mod Phases
+pub mod Splits
 pub mod Stopping
 pub mod Ticking
 pub mod Turning

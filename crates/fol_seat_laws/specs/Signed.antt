@@ -1,5 +1,5 @@
 -- Whose an entry is: the seat that recorded it, and the caller or worker that its event names.
-use Rattle.std.specs.Prelude.{ℕ, ◌≡◌, ◌≤◌, Bool, true, false, List}
+use Rattle.std.specs.Prelude.{ℕ, ◌≡◌, ◌≤◌, Bool, true, false, not, List, filter}
 use Rattle.fol_model.specs.declared.events.Event.{Event}
 use Rattle.fol_model.specs.declared.events.Event.TheVariants.{Load, Unload, Post, PhaseOpen, Begin, End, PhaseClose, Finish, Stop}
 use Rattle.fol_model.specs.declared.events.Entry.{Entry}
@@ -60,3 +60,7 @@ is_call _ = true
 -- the entries that the seat k recorded
 abbrev pub own_of : ℕ → List Entry → List Entry
 own_of k es = given_by (λ (e : Entry). e.by) k es
+
+-- those of them that are no Begin
+abbrev pub deeds_of : ℕ → List Entry → List Entry
+deeds_of k es = filter (λ (e : Entry). not (is_start e.event)) (own_of k es)

@@ -2,6 +2,8 @@
 //! and all of them together tell that the history is a legal one of its script.
 #![tactic(auto)]
 
+pub mod late;
+
 ghost use Rattle.fol_seat_laws.specs.Worked.{SeatsMakeLegal};
 
 /// A history of which caller 0 tells that it carried out the commands of a script and finished, and each worker that its ticks are
