@@ -18,9 +18,10 @@ use Rattle.fol_core.proofs.FinishedRun.{before_entry}
 use Rattle.fol_core.specs.Answers.{is_over}
 use Rattle.fol_core.specs.Meaning.{Meaning, is_prepared, world_of}
 use Rattle.fol_core.specs.Quiet.{Passes, quiet_tick, quiet_ticks}
+use Rattle.fol_seat_laws.specs.InTurn.{NoneOpen}
+use Rattle.fol_seat_laws.proofs.Splits.{none_before}
 use Rattle.fol_slots.specs.Shown.{Keeper, place_at}
 use Rattle.fol_offers.specs.declared.offer.Offer.{Offer}
-use Rattle.fol_offers.specs.InTurn.{NoneOpen}
 use Rattle.fol_offers.specs.Places.{region_at}
 use Rattle.fol_offers.specs.Shown.{CallsBack, IsLearnt, Shown}
 use Rattle.fol_offers.specs.Tied.{Tied}
@@ -109,11 +110,11 @@ module _ (m n : Meaning) (s : Keeper Offer) (xs : List ℕ) (tied : Tied m s xs)
 
   -- the worker had no open tick, and has none
   one_closed : NoneOpen by m.history → NoneOpen by n.history
-  one_closed none before since by' q is runs_on = elim (in_longer (m.history ++ begin by r ∷ []) before since (end by r t) (record { by = by'; event = Begin by q }) (sym both ∙ is)) [
-    | inl last ↦ absurd (other_event (ap (λ (e : Entry). e.event) last.1))
-    | inr old ↦ elim (in_longer m.history before old.0 (begin by r) (record { by = by'; event = Begin by q }) old.1) [
-      | inl begins ↦ absurd (closed q old.0 (region_of (ap (λ (e : Entry). e.event) begins.1)) (subst (NoEnd q) old.2 runs_on))
-      | inr older ↦ none before older.0 by' q older.1 (first_part q older.0 (begin by r ∷ []) (subst (NoEnd q) older.2 (first_part q old.0 (end by r t ∷ []) (subst (NoEnd q) old.2 runs_on))))
+  one_closed none before e since q is begins runs_on = elim (in_longer (m.history ++ begin by r ∷ []) before since (end by r t) e (sym both ∙ is)) [
+    | inl last ↦ absurd (other_event (sym begins ∙ ap (λ (x : Entry). x.event) last.1))
+    | inr old ↦ elim (in_longer m.history before old.0 (begin by r) e old.1) [
+      | inl newest ↦ absurd (closed q old.0 (region_of (sym begins ∙ ap (λ (x : Entry). x.event) newest.1)) (subst (NoEnd q) old.2 runs_on))
+      | inr older ↦ none before e older.0 q older.1 begins (none_before q older.0 (begin by r ∷ []) (subst (NoEnd q) older.2 (none_before q old.0 (end by r t ∷ []) (subst (NoEnd q) old.2 runs_on))))
     ]
   ]
     where
@@ -126,10 +127,6 @@ module _ (m n : Meaning) (s : Keeper Offer) (xs : List ℕ) (tied : Tied m s xs)
       closed : (p : ℕ) (ys : List Entry) → p ≡ r → NoEnd p (ys ++ end by r t ∷ []) → ⊥
       closed p [] same none_ends = true≢false (sym (eq-eqb r p (sym same)) ∙ none_ends.0)
       closed p (y ∷ ys) same none_ends = closed p ys same none_ends.1
-
-      first_part : (p : ℕ) (ys zs : List Entry) → NoEnd p (ys ++ zs) → NoEnd p ys
-      first_part p [] zs none_ends = tt
-      first_part p (y ∷ ys) zs none_ends = (none_ends.0, first_part p ys zs none_ends.1)
 
   tied_one : (1 ≤ by) × (by ≤ s.workers) → NoneOpen by m.history → Tied n s xs
   tied_one few none = record {

@@ -3,16 +3,18 @@ use Rattle.std.proofs.Common.{◌≡◌, ℕ, ◌<◌, ◌≤◌, List, [], ◌�
 use Rattle.std.proofs.lemmas.Bool.{eq-eqb}
 use Rattle.fol_model.specs.declared.events.Entry.{Entry}
 use Rattle.fol_model.specs.declared.events.Event.{Event}
-use Rattle.fol_model.specs.declared.events.Event.TheVariants.{Load, Unload, Post, PhaseOpen, Begin, End, PhaseClose, Finish, Stop}
+use Rattle.fol_model.specs.declared.events.Event.TheVariants.{Begin}
 use Rattle.fol_model.specs.Legal.{worker_of}
 use Rattle.fol_model.specs.OpenTick.{is_begin}
 use Rattle.fol_model.specs.Run.{Run}
 use Rattle.fol_laws.proofs.SortedRows.{all_append}
 use Rattle.fol_core.specs.Meaning.{Meaning, is_prepared, world_of}
-use Rattle.fol_seat_laws.specs.Signed.{IsBegunBelow, is_start}
+use Rattle.fol_seat_laws.specs.InTurn.{NoneOpen}
+use Rattle.fol_seat_laws.specs.Signed.{IsBegunBelow}
+use Rattle.fol_seat_laws.proofs.InTick.{start_is}
 use Rattle.fol_slots.specs.Shown.{FoundOnlyAt, Keeper, place_at}
 use Rattle.fol_offers.specs.declared.offer.Offer.{Offer}
-use Rattle.fol_offers.specs.InTurn.{NoneOpen, TakeTurns}
+use Rattle.fol_offers.specs.InTurn.{TakeTurns}
 use Rattle.fol_offers.specs.Places.{region_at}
 use Rattle.fol_offers.specs.Tied.{InUse, Tied}
 use Rattle.fol_offers.proofs.Facts.{begun_ticks}
@@ -38,21 +40,9 @@ module _ {A : Type 0} where
         | inr old ↦ inr (old.0, (λ k. first k ∷ old.1 k), old.2)
       ]
 
--- an event that begins a tick is a Begin
-begin_of : (v : Event) → is_start v ≡ true → (k : ℕ) × (r : ℕ) × (v ≡ Begin k r)
-begin_of (Begin k r) e = (k, r, refl)
-begin_of (Load caller c answer) e = absurd (true≢false (sym e))
-begin_of (Unload caller c answer) e = absurd (true≢false (sym e))
-begin_of (Post caller c d a answer) e = absurd (true≢false (sym e))
-begin_of (PhaseOpen n) e = absurd (true≢false (sym e))
-begin_of (End worker r tick ran accepts) e = absurd (true≢false (sym e))
-begin_of PhaseClose e = absurd (true≢false (sym e))
-begin_of Finish e = absurd (true≢false (sym e))
-begin_of (Stop caller) e = absurd (true≢false (sym e))
-
 -- where no entry stands, nobody began anything
 pub turns_first : (w : ℕ) (h : List Entry) → h ≡ [] → TakeTurns w h
-turns_first w h none = subst (TakeTurns w) (sym none) record { turns = λ before after e k r is. absurd (nothing before after e is); below = tt }
+turns_first w h none = subst (TakeTurns w) (sym none) record { turns = λ before e after k r is. absurd (nothing before after e is); below = tt }
   where
     nothing : (before after : List Entry) (e : Entry) → [] ≡ before ++ e ∷ after → ⊥
     nothing [] after e is = cc
@@ -61,16 +51,15 @@ turns_first w h none = subst (TakeTurns w) (sym none) record { turns = λ before
 module _ (w : ℕ) (h : List Entry) (t : TakeTurns w h) where
   turns_more : (e : Entry) → ((k r : ℕ) → e.event ≡ Begin k r → NoneOpen k h × (1 ≤ k) × (k ≤ w)) → TakeTurns w (h ++ e ∷ [])
   turns_more e may = record {
-    turns = λ before after x k r is begins. elim (in_longer h before after e x is) [
+    turns = λ before x after k r is begins. elim (in_longer h before after e x is) [
       | inl last ↦ subst (NoneOpen k) (sym last.0) (may k r (ap (λ (y : Entry). y.event) (sym last.1) ∙ begins)).0
-      | inr old ↦ t.turns before old.0 x k r old.1 begins
+      | inr old ↦ t.turns before x old.0 k r old.1 begins
     ];
     below = all_append (IsBegunBelow w) h (e ∷ []) t.below (
       (λ starts.
-          let b = begin_of e.event starts in
-          let worker : b.0 ≡ worker_of e.event = sym (ap worker_of b.2) in
-          let from = may b.0 b.1 b.2 in
-          record { some = subst (λ (n : ℕ). 1 ≤ n) worker from.1; low = subst (λ (n : ℕ). n ≤ w) worker from.2 }),
+          let b = start_is (worker_of e.event) e.event starts refl in
+          let from = may (worker_of e.event) b.0 b.1 in
+          record { some = from.1; low = from.2 }),
       tt,
     );
   }
@@ -88,8 +77,9 @@ module _ (w : ℕ) (h : List Entry) (t : TakeTurns w h) where
 
 -- a worker that was found at the slot of a prepared region, and at no other, has no open tick
 pub none_open : (m : Meaning) (s : Keeper Offer) (xs : List ℕ) (i k : ℕ) → Tied m s xs → Run m.opening m.history → is_prepared m (region_at xs i) ≡ true → FoundOnlyAt s k i → NoneOpen k m.history
-none_open m s xs i k t run marked only before since by r is runs_on =
-    let b = begun_ticks m.opening m.history before since by k r t.grid run is runs_on in
+none_open m s xs i k t run marked only before e since r is begins runs_on =
+    let begun : m.history ≡ before ++ (record { by = e.by; event = Begin k r }) ∷ since = is ∙ ap (λ (v : Event). before ++ (record { by = e.by; event = v }) ∷ since) begins in
+    let b = begun_ticks m.opening m.history before since e.by k r t.grid run begun runs_on in
     let z = t.ticking r b.0 in
     let j : ℕ = z.0 in
     let u : InUse m (region_at xs j) (place_at s j) = t.used j z.3 (subst (λ (x : ℕ). 0 < x) (sym z.4) z.2) in

@@ -3,6 +3,7 @@
 ghost use Rattle.std.specs.Prelude.{◌≡◌, ◌≤◌, ◌<◌, true, false, All, IfOk, IfSome, OnOk, OnErr, length, vec_len};
 ghost use Rattle.fol_model.specs.GridNumbers.{IsGrid};
 ghost use Rattle.fol_model.specs.Outputs.{owner_rows};
+ghost use Rattle.fol_model.specs.Run.{Run};
 ghost use Rattle.fol_slots.specs.Shown.{AreNew};
 ghost use Rattle.fol_slots.specs.Table.{slots_id, slot_count};
 ghost use Rattle.fol_core.specs.Ahead.{NonePrepared, Prepares};
@@ -96,11 +97,13 @@ impl Offers {
         }
     }
 
-    /// Each worker is one of those that have seats, and had no open tick where it began one.
+    /// The history is a run, and whoever began a tick is one of the workers that have seats, and had no open tick then.
     pub fn keeps(&self)
+        ensures grid { IsGrid self.now.core.opening.grid }
+        ensures run { Run self.now.core.opening self.now.core.history }
         ensures in_turn { InTurn self.now }
     {
-        let _core = &self.core;
+        let _entries = self.core.history();
     }
 
     /// The ticks of all phases so far.

@@ -1,8 +1,8 @@
 //! Ticks in which nothing happens.
 
 ghost use Rattle.std.specs.Prelude.{◌≡◌, ◌≤◌};
+ghost use Rattle.fol_seat_laws.specs.InTurn.{NoneOpen};
 ghost use Rattle.fol_slots.specs.Table.{slots_id};
-ghost use Rattle.fol_offers.specs.InTurn.{NoneOpen};
 ghost use Rattle.fol_offers.specs.Shown.{PassesOver};
 
 use crate::offer::Offer;

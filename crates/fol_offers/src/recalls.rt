@@ -2,10 +2,13 @@
 
 ghost use Rattle.std.specs.Prelude.{◌≡◌, ◌≤◌, ◌<◌, ℕ, true, false, IfSome, IfNone, IsTrue, OnErr, OnOk, length, nat_eq};
 ghost use Rattle.fol_model.specs.Geometry.{is_chunk};
+ghost use Rattle.fol_model.specs.GridNumbers.{IsGrid};
+ghost use Rattle.fol_model.specs.Run.{Run};
 ghost use Rattle.fol_slots.specs.Table.{slots_id};
 ghost use Rattle.fol_core.specs.Ahead.{NonePrepared, may_touch};
 ghost use Rattle.fol_core.specs.Meaning.{is_prepared, world_of};
 ghost use Rattle.fol_tick_laws.specs.Touching.{lists};
+ghost use Rattle.fol_offers.specs.InTurn.{TakeTurns};
 ghost use Rattle.fol_offers.specs.Places.{region_at};
 ghost use Rattle.fol_offers.specs.Shown.{CallsBack, every};
 
@@ -78,6 +81,9 @@ impl Offers {
         requires own { self.slots ≡ slots_id slots.now }
         ensures back { CallsBack self (record self { core = result }) by every }
         ensures none { NonePrepared result }
+        ensures grid { IsGrid result.opening.grid }
+        ensures run { Run result.opening result.history }
+        ensures turns { TakeTurns self.workers result.history }
     {
         let mut offers = self;
         offers.recall(slots, by);
@@ -86,6 +92,7 @@ impl Offers {
             keeper: _,
             places: _,
         } = offers;
+        let _entries = core.history();
         core
     }
 
