@@ -1,5 +1,5 @@
 -- Several regions are called back, one after another.
-use Rattle.std.proofs.Common.{◌≡◌, ◌≢◌, ℕ, ◌<◌, List, [], ◌∷◌, ◌++◌, sym, refl, ap, ◌∙◌, Bool, true, false, not, ◌&&◌, ◌||◌, nat_eq, true≢false, inl, inr, arith, append_assoc, cond, ◌+◌, take}
+use Rattle.std.proofs.Common.{◌≡◌, ◌≢◌, ℕ, ◌<◌, List, [], ◌∷◌, ◌++◌, sym, refl, ap, ◌∙◌, subst, Bool, true, false, not, ◌&&◌, ◌||◌, nat_eq, true≢false, inl, inr, arith, append_assoc, cond, take}
 use Rattle.std.specs.Prelude.{IsOk, Result}
 use Rattle.std.proofs.Math.Seq.{take-length}
 use Rattle.std.specs.List.{AllByRecursion, filter, list_any}
@@ -61,7 +61,7 @@ module _ (m : Meaning) (f : ℕ → Bool) (by : ℕ) where
       let other : nat_eq all.0.region r ≡ false = ne_eqb _ _ (λ same. true≢false (sym all.0.chosen ∙ ap f same ∙ spared)) in
       learnt_may (after w e.event) es c r all.1 spared ∙ (ap (λ (x : Entry). may_touch (after w x.event) c r) all.0.is ∙ may_begun w all.0.worker all.0.region c r other)
 
-  learnt_no_end : (q : ℕ) (before es : List Entry) → NoEnd q before → AllByRecursion (IsLearnt m f by) es → NoEnd q (before ++ es)
+  pub learnt_no_end : (q : ℕ) (before es : List Entry) → NoEnd q before → AllByRecursion (IsLearnt m f by) es → NoEnd q (before ++ es)
   learnt_no_end q [] [] none all = tt
   learnt_no_end q [] (e ∷ es) none all = let is = all.0.is in (rw is refl, learnt_no_end q [] es tt all.1)
   learnt_no_end q (x ∷ xs) es none all = (none.0, learnt_no_end q xs es none.1 all)
@@ -105,7 +105,7 @@ same_for false f g e = refl
 
 -- none of these is prepared
 pub back_none : (a : Shown) (by : ℕ) (f : ℕ → Bool) → ((r : ℕ) → is_prepared a.core r ≡ true → f r ≡ false) → CallsBack a a by f
-back_none a by f none = record { slots = refl; opening = refl; learnt = []; history = sym (append-nil a.core.history); begins = tt; prepared = λ r. all_of (is_prepared a.core r) (f r) (none r) }
+back_none a by f none = record { slots = refl; workers = refl; opening = refl; learnt = []; history = sym (append-nil a.core.history); begins = tt; prepared = λ r. all_of (is_prepared a.core r) (f r) (none r) }
 
 module _ (a b : Shown) (by : ℕ) (f : ℕ → Bool) (back : CallsBack a b by f) where
   there : world_of b.core ≡ after_all (world_of a.core) back.learnt
@@ -159,6 +159,7 @@ module _ (a b : Shown) (by : ℕ) (f : ℕ → Bool) (back : CallsBack a b by f)
   pub back_as : (g : ℕ → Bool) → ((r : ℕ) → is_prepared a.core r ≡ true → f r ≡ g r) → CallsBack a b by g
   back_as g same = record {
     slots = back.slots;
+    workers = back.workers;
     opening = back.opening;
     learnt = back.learnt;
     history = back.history;
@@ -172,6 +173,12 @@ module _ (a b : Shown) (by : ℕ) (f : ℕ → Bool) (back : CallsBack a b by f)
     | inl y ↦ y
     | inr n ↦ let p = marked in let off : (is_prepared a.core r && not (f r)) ≡ true = rw (p, n) refl in absurd (true≢false (sym off ∙ (sym (back.prepared r) ∙ none r)))
   ])
+
+-- the core alone is given away then
+pub back_given : (a b : Shown) (by : ℕ) (f : ℕ → Bool) (m : Meaning) → b.core ≡ m → CallsBack a b by f → CallsBack a (record a { core = m }) by f
+back_given a b by f m is back =
+    let P : Meaning → Type 0 = λ x. CallsBack a (record a { core = x }) by f in
+    subst P is record { slots = refl; workers = refl; opening = back.opening; learnt = back.learnt; history = back.history; begins = back.begins; prepared = back.prepared }
 
 -- all that an event on a chunk may touch, by the list of these regions
 pub back_listed : (a b : Shown) (by : ℕ) (c : ChunkPos) (ids : List ℕ) → PreparedAreReady a.core → ids ≡ filter (may_touch (world_of a.core) c) (numbers_below (world_of a.core).grid.next)
@@ -190,6 +197,7 @@ back_listed a b by c ids ready is back = back_as a b by (lists ids) back (may_to
 pub back_both : (a b c : Shown) (by : ℕ) (f g : ℕ → Bool) → CallsBack a b by f → CallsBack b c by g → CallsBack a c by (λ r. f r || g r)
 back_both a b c by f g p q = record {
   slots = q.slots ∙ p.slots;
+  workers = q.workers ∙ p.workers;
   opening = q.opening ∙ p.opening;
   learnt = p.learnt ++ q.learnt;
   history = q.history ∙ (ap (λ (h : List Entry). h ++ q.learnt) p.history ∙ append_assoc a.core.history p.learnt q.learnt);
@@ -226,9 +234,10 @@ fallen a b r is q = ap (λ (p : ℕ → Bool). p q) is ∙ (elim (cases_Bool (na
 ])
 
 -- its tick came back
-pub back_withdrawn : (a b : Shown) (by r : ℕ) → b.slots ≡ a.slots → Withdraws a.core b.core r → CallsBack a b by (nat_eq r)
-back_withdrawn a b by r slots did = record {
+pub back_withdrawn : (a b : Shown) (by r : ℕ) → b.slots ≡ a.slots → b.workers ≡ a.workers → Withdraws a.core b.core r → CallsBack a b by (nat_eq r)
+back_withdrawn a b by r slots workers did = record {
   slots = slots;
+  workers = workers;
   opening = did.opening;
   learnt = [];
   history = did.history ∙ sym (append-nil a.core.history);
@@ -237,9 +246,10 @@ back_withdrawn a b by r slots did = record {
 }
 
 -- a worker was found to have it
-pub back_learnt : (a b : Shown) (by k r : ℕ) → b.slots ≡ a.slots → is_prepared a.core r ≡ true → Learns a.core b.core by k r → CallsBack a b by (nat_eq r)
-back_learnt a b by k r slots marked did = record {
+pub back_learnt : (a b : Shown) (by k r : ℕ) → b.slots ≡ a.slots → b.workers ≡ a.workers → is_prepared a.core r ≡ true → Learns a.core b.core by k r → CallsBack a b by (nat_eq r)
+back_learnt a b by k r slots workers marked did = record {
   slots = slots;
+  workers = workers;
   opening = did.opening;
   learnt = (record { by = by; event = Begin k r }) ∷ [];
   history = did.history;
@@ -251,14 +261,19 @@ back_learnt a b by k r slots marked did = record {
 pub back_idle : (a : Shown) (by r : ℕ) → is_prepared a.core r ≡ false → CallsBack a a by (nat_eq r)
 back_idle a by r none = back_none a by (nat_eq r) (λ q marked. ne_eqb r q (λ same. true≢false (sym marked ∙ (ap (is_prepared a.core) (sym same) ∙ none))))
 
+-- it is not prepared then
+pub back_gone : (a b : Shown) (by r : ℕ) → CallsBack a b by (nat_eq r) → is_prepared b.core r ≡ false
+back_gone a b by r back =
+    let self : nat_eq r r ≡ true = eq-eqb r r refl in
+    back.prepared r ∙ (ap (λ (x : Bool). is_prepared a.core r && not x) self ∙ none_of (is_prepared a.core r))
+
 -- then one region fewer is prepared
 pub back_fewer : (a b : Shown) (by r : ℕ) → CallsBack a b by (nat_eq r) → is_prepared a.core r ≡ true → r < (world_of a.core).grid.next
     → count_below (is_prepared b.core) (world_of b.core).grid.next < count_below (is_prepared a.core) (world_of a.core).grid.next
 back_fewer a b by r back marked low =
     let n : ℕ = (world_of a.core).grid.next in
     let next = back_next a b by (nat_eq r) back in
-    let self : nat_eq r r ≡ true = eq-eqb r r refl in
-    let gone : is_prepared b.core r ≡ false = back.prepared r ∙ (ap (λ (x : Bool). is_prepared a.core r && not x) self ∙ none_of (is_prepared a.core r)) in
+    let gone : is_prepared b.core r ≡ false = back_gone a b by r back in
     let others : (k : ℕ) → k ≢ r → is_prepared a.core k ≡ is_prepared b.core k = λ k ne. all_of (is_prepared a.core k) (nat_eq r k) (λ _. ne_eqb r k (λ same. ne (sym same))) ∙ sym (back.prepared k) in
     let sum = count_less (is_prepared a.core) (is_prepared b.core) n r low gone others in
     let taken : ℕ = cond (is_prepared a.core r) 1 0 in

@@ -7,12 +7,16 @@ use Rattle.std.proofs.lemmas.Bool.Decides.{leb_tells}
 use Rattle.fol_model.specs.declared.regions.State.TheVariants.{Dead, Ready, Ticking}
 use Rattle.fol_model.specs.declared.events.Entry.{Entry}
 use Rattle.fol_model.specs.declared.events.Event.TheVariants.{Begin}
+use Rattle.fol_model.specs.declared.openings.Opening.{Opening}
 use Rattle.fol_model.specs.GridState.{is_ready}
 use Rattle.fol_model.specs.GridNumbers.{IsGrid}
+use Rattle.fol_model.specs.OpenTick.{NoEnd}
+use Rattle.fol_model.specs.QueuedTask.{begun}
 use Rattle.fol_model.specs.Rules.{Rules}
 use Rattle.fol_model.specs.World.{World, start}
 use Rattle.fol_model.specs.Run.{Allowed, Run, after, after_all, world}
 use Rattle.fol_laws.specs.LateBegin.{SameBegin}
+use Rattle.fol_laws.proofs.FunctionsChanged.{at_here}
 use Rattle.fol_laws.proofs.RuleLaws.{rules_hold}
 use Rattle.fol_laws.proofs.LateLaws.{late_begin_is_the_same}
 use Rattle.fol_laws.proofs.LongerRuns.{world_both}
@@ -117,15 +121,23 @@ module _ (m : Meaning) (r : ℕ) (t : Tick) (grid : IsGrid m.opening.grid) (run 
 
 -- ---- a tick that runs
 
+worker_begun : (w : World) (k r : ℕ) → (after w (Begin k r)).worker r ≡ k
+unfolding begun
+worker_begun w k r = at_here w.worker r k
+
+-- a region whose Begin no End follows ticks, for the worker of the Begin
+pub begun_ticks : (o : Opening) (h before since : List Entry) (by k r : ℕ) → IsGrid o.grid → Run o h → h ≡ before ++ (record { by = by; event = Begin k r }) ∷ since → NoEnd r since
+    → ((world o h).grid.state r ≡ Ticking) × ((world o h).worker r ≡ k)
+begun_ticks o h before since by k r grid run is runs_on =
+    let e : Entry = record { by = by; event = Begin k r } in
+    let whole : Run o (before ++ e ∷ (since ++ [])) = rw (is, ← append-nil since) at run in
+    let u = owned o before since [] e r grid (eq-eqb r r refl) runs_on whole in
+    let all : world o h ≡ after_all (after (world o before) e.event) since = ap (world o) is ∙ world_both (start o) before (e ∷ since) in
+    (ap (λ (x : World). x.grid.state r) all ∙ u.ticks, ap (λ (x : World). x.worker r) all ∙ (u.worker ∙ worker_begun (world o before) k r))
+
 -- its region ticks
 pub open_ticks : (m : Meaning) (t : Tick) → IsGrid m.opening.grid → Run m.opening m.history → IsOpen m t → (world_of m).grid.state t.region ≡ Ticking
-open_ticks m t grid run is =
-    let e : Entry = record { by = is.made.by; event = Begin t.worker t.region } in
-    let es : List Entry = is.made.before ++ is.made.between in
-    let whole : Run m.opening (es ++ e ∷ (is.made.since ++ [])) = rw (is.made.begin, ← append-nil is.made.since) at run in
-    let u = owned m.opening es is.made.since [] e t.region grid (eq-eqb t.region t.region refl) is.made.runs_on whole in
-    let all : world m.opening (es ++ e ∷ is.made.since) ≡ after_all (after (world m.opening es) e.event) is.made.since = world_both (start m.opening) es (e ∷ is.made.since) in
-    subst (λ (h : List Entry). (world m.opening h).grid.state t.region ≡ Ticking) (sym is.made.begin) (subst (λ (x : World). x.grid.state t.region ≡ Ticking) (sym all) u.ticks)
+open_ticks m t grid run is = (begun_ticks m.opening m.history (is.made.before ++ is.made.between) is.made.since is.made.by t.worker t.region grid run is.made.begin is.made.runs_on).0
 
 -- ---- slots
 

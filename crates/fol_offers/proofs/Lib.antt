@@ -5,6 +5,9 @@ pub mod FitTicks
 pub mod FreeSlots
 pub mod Matching
 pub mod MetTicks
+pub mod Offering
 pub mod Passing
+pub mod QuietTicks
+pub mod Turns
 pub mod Tying
 pub mod Wishes

@@ -1,5 +1,5 @@
 -- A worker that is met, and the End of its tick.
-use Rattle.std.proofs.Common.{◌≡◌, ◌≢◌, ℕ, ◌<◌, List, [], ◌∷◌, length, set, sym, refl, ap, ◌∙◌, subst, Option, Some, None, Bool, true, false, true≢false, arith, inl, inr, ◌||◌}
+use Rattle.std.proofs.Common.{◌≡◌, ◌≢◌, ℕ, ◌<◌, ◌≤◌, List, [], ◌∷◌, length, set, sym, refl, ap, ◌∙◌, subst, Option, Some, None, Bool, true, false, true≢false, arith, inl, inr, ◌||◌}
 use Rattle.std.specs.Prelude.{nat_eq}
 use Rattle.std.specs.List.{AllByRecursion}
 use Rattle.std.proofs.Math.ListN.{get_or-eq_default}
@@ -32,7 +32,7 @@ use Rattle.fol_core.proofs.ReleaseKept.{out_same}
 use Rattle.fol_tick_laws.specs.OpenTicks.{IsOpen}
 use Rattle.fol_tick_laws.proofs.OpenTicks.{out_when_run}
 use Rattle.fol_slots.specs.declared.view.Place.{Place}
-use Rattle.fol_slots.specs.Shown.{Keeper, Worker, finding, held_slot, keeping, place_at}
+use Rattle.fol_slots.specs.Shown.{FoundOnlyAt, Keeper, Worker, finding, held_slot, keeping, place_at}
 use Rattle.fol_slots.specs.Hands as hands
 use Rattle.fol_slots.proofs.Callers.{place_here}
 use Rattle.fol_offers.specs.declared.offer.Offer.{Offer}
@@ -42,6 +42,7 @@ use Rattle.fol_offers.specs.Shown.{Shown}
 use Rattle.fol_offers.specs.Tied.{InUse, Runs, Tied, Waits, nothing, of_tick}
 use Rattle.fol_offers.proofs.Facts.{prepared_on, prepared_ready}
 use Rattle.fol_offers.proofs.Passing.{passes_one}
+use Rattle.fol_offers.proofs.Turns.{turns_other}
 use Rattle.fol_offers.proofs.Tying.{one_more, tied_changes, tied_learns, ticked_more}
 use Rattle.fol_offers.proofs.Wishes.{over_ended, reaches, reaches_down, state_down, wishes_spare}
 
@@ -99,11 +100,11 @@ held m s xs i t tied gone offered =
     by_found (Some k) none some = some k refl
 
 -- the Begin was recorded when the worker was met
-pub met_learnt : (m n : Meaning) (s : Keeper Offer) (xs : List ℕ) (i k r : ℕ) (t : Tick) → Tied m s xs → (place_at s i).kept ≡ None → Some (of_tick t) ≡ (place_at s i).offered → t.region ≡ r → is_prepared m r ≡ true
+pub met_learnt : (m n : Meaning) (s : Keeper Offer) (xs : List ℕ) (i k r : ℕ) (t : Tick) → Tied m s xs → Run m.opening m.history → FoundOnlyAt s k i → (1 ≤ k) × (k ≤ s.workers) → (place_at s i).kept ≡ None → Some (of_tick t) ≡ (place_at s i).offered → t.region ≡ r → is_prepared m r ≡ true
     → Learns m n k k r → Tied n (finding s i k) xs
-met_learnt m n s xs i k r t tied gone offered of marked did =
+met_learnt m n s xs i k r t tied run only few gone offered of marked did =
     let h = held m s xs i t tied gone offered in
-    tied_learns m n s xs tied i r h.inside (subst (λ (x : ℕ). 0 < x) of h.some) k k (h.own ∙ of) marked (prepared_on m s xs r tied marked) did
+    tied_learns m n s xs tied i r h.inside (subst (λ (x : ℕ). 0 < x) of h.some) k k run only few (h.own ∙ of) marked (prepared_on m s xs r tied marked) did
 
 pub inside_places : (m : Meaning) (s : Keeper Offer) (xs : List ℕ) (i : ℕ) (t : Tick) → Tied m s xs → (place_at s i).kept ≡ None → Some (of_tick t) ≡ (place_at s i).offered → i < length s.places
 inside_places m s xs i t tied gone offered = let low = (held m s xs i t tied gone offered).inside in let l = tied.places in omega (arith, low, l)
@@ -196,6 +197,7 @@ module _ (m : Meaning) (s : Keeper Offer) (xs : List ℕ) (tied : Tied m s xs) (
       let a : wishes_touch (run_down w r ran) (ticked w r ran).wishes q ≡ false = ap (λ (ys : List Wish). wishes_touch (run_down w r ran) ys q) at.wishes ∙ spares q marked in
       rw (other, a) refl in
       tied_changes m n s xs tied i 0 p inside did.opening
+      (rw did.history (turns_other s.workers m.history tied.in_turn e (λ q. refl)))
       (λ ends q. marks q ∙ tied.calm (sym over ∙ ends) q)
       (λ _. refl)
       (λ z. absurd (omega (arith, z)))

@@ -16,7 +16,7 @@ use Rattle.fol_model.specs.OpenTick.{is_begin, is_end}
 use Rattle.fol_laws.specs.LateBegin.{is_stop, touches}
 use Rattle.fol_model.specs.QueuedTask.{begun}
 use Rattle.fol_model.specs.World.{World, start}
-use Rattle.fol_model.specs.Run.{Allowed, after, world}
+use Rattle.fol_model.specs.Run.{Allowed, Run, after, world}
 use Rattle.fol_laws.proofs.LongerRuns.{world_more}
 use Rattle.fol_laws.proofs.TickedBefore.{ticked_before}
 use Rattle.fol_core.specs.Answers.{is_over}
@@ -28,15 +28,17 @@ use Rattle.fol_core.specs.Meaning.{Meaning, Records, Stays, is_prepared, world_o
 use Rattle.std.specs.Prelude.{All, slice_get}
 use Rattle.atomic_table.specs.Seated.{TableId}
 use Rattle.fol_slots.specs.declared.view.Place.{Place}
-use Rattle.fol_slots.specs.Shown.{Keeper, knowing, place_at, keeping, offering, finding, new_keeper}
+use Rattle.fol_slots.specs.Shown.{FoundOnlyAt, Keeper, knowing, place_at, keeping, offering, finding, new_keeper}
 use Rattle.fol_slots.specs.Hands as hands
 use Rattle.fol_slots.proofs.Callers.{as_many, place_here, place_else, new_as_many, body_new}
 use Rattle.fol_offers.specs.declared.offer.Offer.{Offer}
+use Rattle.fol_offers.specs.InTurn.{TakeTurns}
 use Rattle.fol_offers.specs.Places.{region_at}
 use Rattle.fol_offers.specs.Starts.{NoneTicks}
 use Rattle.fol_offers.specs.Tied.{InUse, Runs, Tied, Waits, nothing, of_tick}
 use Rattle.fol_offers.proofs.Facts.{no_worker}
 use Rattle.fol_offers.proofs.FreeSlots.{none_at}
+use Rattle.fol_offers.proofs.Turns.{none_open, turns_begin, turns_other}
 use Rattle.fol_offers.proofs.Passing.{Passes, in_use_passes, passes_same, passes_one}
 
 none_some : {A : Type 0} (a : A) → None ≡ Some a → ⊥
@@ -51,7 +53,7 @@ set_twice (x ∷ xs) zero a b = refl
 set_twice (x ∷ xs) (suc i) a b = ap (λ (ys : List _). x ∷ ys) (set_twice xs i a b)
 
 -- whether the history is over does not change with what is prepared
-same_world : (m n : Meaning) → n.opening ≡ m.opening → n.history ≡ m.history → world_of n ≡ world_of m
+pub same_world : (m n : Meaning) → n.opening ≡ m.opening → n.history ≡ m.history → world_of n ≡ world_of m
 same_world m n opening history = λ k. world (opening k) (history k)
 
 same_over : (m n : Meaning) → n.opening ≡ m.opening → n.history ≡ m.history → is_over (world_of n) ≡ is_over (world_of m)
@@ -81,10 +83,11 @@ begun_over : (m n : Meaning) (by k r : ℕ) → n.opening ≡ m.opening → n.hi
 begun_over m n by k r opening history = ap is_over (one_more m n (record { by = by; event = Begin k r }) opening history) ∙ over_begun (world_of m) k r
 
 -- nothing is offered yet
-pub tied_first : (m : Meaning) (s : Keeper Offer) (n : ℕ) → IsGrid m.opening.grid → NonePrepared m → NoneTicks (world_of m) → s.slots.slots ≡ n → length s.places ≡ n → n < 65536
+pub tied_first : (m : Meaning) (s : Keeper Offer) (n : ℕ) → IsGrid m.opening.grid → TakeTurns s.workers m.history → NonePrepared m → NoneTicks (world_of m) → s.slots.slots ≡ n → length s.places ≡ n → n < 65536
     → ((i : ℕ) → i < n → (place_at s i).kept ≡ Some nothing) → Tied m s (replicate n 0)
-tied_first m s n grid none idle slots places few empty = let long : length {A = ℕ} (replicate n 0) ≡ n = length-replicate n 0 in record {
+tied_first m s n grid turns none idle slots places few empty = let long : length {A = ℕ} (replicate n 0) ≡ n = length-replicate n 0 in record {
   grid = grid;
+  in_turn = turns;
   calm = λ _. none;
   places = places ∙ sym long;
   slots = slots ∙ sym long;
@@ -97,9 +100,9 @@ tied_first m s n grid none idle slots places few empty = let long : length {A = 
 }
 
 -- in the slots of new seats, with bodies of which none has a tick
-pub tied_start : (m : Meaning) (z : TableId) (bodies : List Offer) (n : ℕ) → IsGrid m.opening.grid → NonePrepared m → NoneTicks (world_of m) → z.slots ≡ n → length bodies ≡ n → n < 65536
-    → All (λ b. b ≡ nothing) bodies → Tied m (new_keeper z bodies) (replicate n 0)
-tied_start m z bodies n grid none idle slots count few all = tied_first m (new_keeper z bodies) n grid none idle slots (new_as_many z bodies ∙ count) few
+pub tied_start : (m : Meaning) (z : TableId) (bodies : List Offer) (workers n : ℕ) → IsGrid m.opening.grid → TakeTurns workers m.history → NonePrepared m → NoneTicks (world_of m) → z.slots ≡ n → length bodies ≡ n → n < 65536
+    → All (λ b. b ≡ nothing) bodies → Tied m (new_keeper z bodies workers) (replicate n 0)
+tied_start m z bodies workers n grid turns none idle slots count few all = tied_first m (new_keeper z bodies workers) n grid turns none idle slots (new_as_many z bodies ∙ count) few
     (λ i low. let b : Offer = get_or bodies i nothing in
     let is : b ≡ nothing = all i nothing (rw count low) in
     ap (λ (p : Place Offer). p.kept) (body_new z bodies i nothing (get_at bodies i nothing (rw count low) is)))
@@ -113,6 +116,7 @@ tied_start m z bodies n grid none idle slots count few all = tied_first m (new_k
 pub tied_stays : (m n : Meaning) (s : Keeper Offer) (xs : List ℕ) → Stays m n → Tied m s xs → Tied n s xs
 tied_stays m n s xs same t = record {
   grid = rw same.opening t.grid;
+  in_turn = rw same.history t.in_turn;
   calm = λ over r. ap (λ (f : ℕ → Bool). f r) same.prepared ∙ t.calm (sym (stays_over m n same) ∙ over) r;
   places = t.places;
   slots = t.slots;
@@ -146,15 +150,16 @@ module _ (m n : Meaning) (s : Keeper Offer) (xs : List ℕ) (t : Tied m s xs) (i
   place = place_here s i p (let l = t.places in omega (arith, l, inside))
 
   -- where the slot is of region q then, and each other region's tick is where it was
-  pub tied_changes : n.opening ≡ m.opening → (is_over (world_of n) ≡ true → NonePrepared n) → (q ≡ 0 → p.kept ≡ Some nothing) → (0 < q → InUse n q p)
+  pub tied_changes : n.opening ≡ m.opening → TakeTurns s.workers n.history → (is_over (world_of n) ≡ true → NonePrepared n) → (q ≡ 0 → p.kept ≡ Some nothing) → (0 < q → InUse n q p)
       → ((j : ℕ) → j < length xs → j ≢ i → 0 < region_at xs j → Passes m n (region_at xs j))
       → (0 < q → (j : ℕ) → j < length xs → j ≢ i → region_at xs j ≢ q)
       → ((r : ℕ) → is_prepared n r ≡ true → (r ≡ q) ⊎ ((is_prepared m r ≡ true) × (r ≢ region_at xs i)))
       → (0 < q ⊎ ((r : ℕ) → is_prepared n r ≡ true → r ≢ q))
       → ((r : ℕ) → (world_of n).grid.state r ≡ Ticking → ((r ≡ q) × (0 < q) × (k : ℕ) × (p.found ≡ Some k)) ⊎ (((world_of m).grid.state r ≡ Ticking) × (r ≢ region_at xs i)))
       → Tied n (knowing s i p) (set xs i q)
-  tied_changes opening calm empty own others alone marked some ticks = record {
+  tied_changes opening turns calm empty own others alone marked some ticks = record {
     grid = rw opening t.grid;
+    in_turn = turns;
     calm = calm;
     places = as_many s i p ∙ t.places ∙ sym long;
     slots = t.slots ∙ sym long;
@@ -202,7 +207,7 @@ module _ (m n : Meaning) (s : Keeper Offer) (xs : List ℕ) (t : Tied m s xs) (i
 
 module _ (s : Keeper Offer) (i : ℕ) (inside : i < length s.places) where
   known_twice : (p q : Place Offer) → knowing (knowing s i p) i q ≡ knowing s i q
-  known_twice p q = λ k. record { slots = s.slots; places = set_twice s.places i p q k }
+  known_twice p q = λ k. record { slots = s.slots; places = set_twice s.places i p q k; workers = s.workers }
 
   -- a kept slot got a body, and was offered
   pub offered_after : (b : Offer) → offering (keeping s i (Some b)) i ≡ knowing s i (hands.place None (Some b) None)
@@ -230,7 +235,7 @@ module _ (m n : Meaning) (s : Keeper Offer) (xs : List ℕ) (t : Tied m s xs) (i
       → IsTick (world_of m) (length m.history) 0 r tick → length tick.due ≤ tick.body.queues.spare → Tied n (offering (keeping s i (Some (of_tick tick))) i) (set xs i r)
   tied_offers tick unused fresh on did allowed is room =
       let p : Place Offer = hands.place None (Some (of_tick tick)) None in
-      subst (λ (k : Keeper Offer). Tied n k (set xs i r)) (sym (offered_after s i there (of_tick tick))) (tied_changes m n s xs t i r p inside did.opening
+      subst (λ (k : Keeper Offer). Tied n k (set xs i r)) (sym (offered_after s i there (of_tick tick))) (tied_changes m n s xs t i r p inside did.opening (rw did.history t.in_turn)
       (λ over. absurd (true≢false (sym over ∙ (same_over m n did.opening did.history ∙ on))))
       (λ e. absurd (let z = some in omega (arith, e, z)))
       (λ _. record {
@@ -266,7 +271,7 @@ module _ (m n : Meaning) (s : Keeper Offer) (xs : List ℕ) (t : Tied m s xs) (i
   tied_withdraws kept own marked did =
       let p : Place Offer = hands.place (Some nothing) (place_at s i).offered None in
       let apart : (j : ℕ) → j < length xs → j ≢ i → region_at xs j ≢ r = λ j low ne e. ne (sym (t.apart i j inside low (subst (λ (x : ℕ). 0 < x) (sym own) some) (own ∙ sym e))) in
-      subst (λ (k : Keeper Offer). Tied n k (set xs i 0)) (sym (emptied_after s i there kept (Some nothing))) (tied_changes m n s xs t i 0 p inside did.opening
+      subst (λ (k : Keeper Offer). Tied n k (set xs i 0)) (sym (emptied_after s i there kept (Some nothing))) (tied_changes m n s xs t i 0 p inside did.opening (rw did.history t.in_turn)
       (λ over q. falls did.prepared q (t.calm (sym (same_over m n did.opening did.history) ∙ over) q))
       (λ _. refl)
       (λ z. absurd (omega (arith, z)))
@@ -289,9 +294,10 @@ module _ (m n : Meaning) (s : Keeper Offer) (xs : List ℕ) (t : Tied m s xs) (i
         | inr y ↦ (sym (at_other (is_prepared m) r false q (λ z. y.1 (sym z))) ∙ (ap (λ (f : ℕ → Bool). f q) (sym prepared) ∙ e), λ z. y.1 (sym z))
       ]
 
-  -- a worker was found to have the tick of a prepared region, and its Begin was recorded
-  pub tied_learns : (by k : ℕ) → region_at xs i ≡ r → is_prepared m r ≡ true → is_over (world_of m) ≡ false → Learns m n by k r → Tied n (finding s i k) xs
-  tied_learns by k own marked on did =
+  -- a worker was found to have the tick of a prepared region, and no other one, and its Begin was recorded
+  pub tied_learns : (by k : ℕ) → Run m.opening m.history → FoundOnlyAt s k i → (1 ≤ k) × (k ≤ s.workers) → region_at xs i ≡ r → is_prepared m r ≡ true → is_over (world_of m) ≡ false → Learns m n by k r → Tied n (finding s i k) xs
+  tied_learns by k run only few own marked on did =
+      let begins : TakeTurns s.workers (m.history ++ (record { by = by; event = Begin k r }) ∷ []) = turns_begin s.workers m.history t.in_turn by k r (none_open m s xs i k t run (ap (is_prepared m) own ∙ marked) only) few.0 few.1 in
       let old : Place Offer = place_at s i in
       let u : InUse m r old = subst (λ (x : ℕ). InUse m x old) own (t.used i inside (subst (λ (x : ℕ). 0 < x) (sym own) some)) in
       let p : Place Offer = hands.place old.kept old.offered (Some k) in
@@ -299,7 +305,7 @@ module _ (m n : Meaning) (s : Keeper Offer) (xs : List ℕ) (t : Tied m s xs) (i
       let waits : Waits m r u.tick = u.waits (no_worker old.found (λ j found. true≢false (sym marked ∙ (u.runs j found).unprepared))) in
       let made : Meaning = record m { history = waits.before } in
       let apart : (j : ℕ) → j < length xs → j ≢ i → region_at xs j ≢ r = λ j low ne z. ne (sym (t.apart i j inside low (subst (λ (x : ℕ). 0 < x) (sym own) some) (own ∙ sym z))) in
-      let changed : Tied n (knowing s i p) (set xs i r) = tied_changes m n s xs t i r p inside did.opening
+      let changed : Tied n (knowing s i p) (set xs i r) = tied_changes m n s xs t i r p inside did.opening (rw did.history begins)
       (λ over. absurd (true≢false (sym over ∙ (begun_over m n by k r did.opening did.history ∙ on))))
       (λ z. absurd (let y = some in omega (arith, z, y)))
       (λ _. record {
@@ -357,6 +363,7 @@ pub tied_event : (m n : Meaning) (s : Keeper Offer) (xs : List ℕ) (by : ℕ) (
     → (is_over (world_of n) ≡ true → NonePrepared m) → Tied n s xs
 tied_event m n s xs by event t did spares another calm = record {
   grid = rw did.opening t.grid;
+  in_turn = rw did.history (turns_other s.workers m.history t.in_turn (record { by = by; event = event }) (λ q. (another q).0));
   calm = λ over r. ap (λ (f : ℕ → Bool). f r) did.prepared ∙ calm over r;
   places = t.places;
   slots = t.slots;

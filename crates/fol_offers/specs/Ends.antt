@@ -36,6 +36,7 @@ pub record GivesBack (s : Worker Offer) (tick : Tick) : Type 0 where
 -- the worker recorded the Begin of its tick, unless that had been learnt
 pub record Meets (old new : Shown) (worker region : ℕ) : Type 0 where
   pub slots : new.slots ≡ old.slots
+  pub workers : new.workers ≡ old.workers
   pub learnt : is_prepared old.core region ≡ true → Learns old.core new.core worker worker region
   pub known : is_prepared old.core region ≡ false → new.core ≡ old.core
 
@@ -56,6 +57,7 @@ pub record Ends (old new : Shown) (tick : Tick) (r : Result ℕ AllocError) : Ty
   pub cleared : Shown
   pub clears : ClearsWishes met cleared tick.worker tick.log.wishes r
   pub slots : new.slots ≡ old.slots
+  pub workers : new.workers ≡ old.workers
   pub told : IfOk r (λ n. n ≡ length new.core.history)
   pub recorded : OnOk r (Records cleared.core new.core tick.worker (end_event (world_of cleared.core) tick.worker tick.region tick.log.ran))
   pub refused : OnErr r (Stays cleared.core new.core)

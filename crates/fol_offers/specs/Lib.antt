@@ -1,5 +1,6 @@
 pub mod Ends
 pub mod Fit
+pub mod InTurn
 pub mod Places
 pub mod Shown
 pub mod Starts

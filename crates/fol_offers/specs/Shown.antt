@@ -1,5 +1,5 @@
 -- What contracts see of a core whose ticks are offered.
-use Rattle.std.specs.Prelude.{ℕ, ◌≡◌, ◌⊎◌, ◌<◌, Bool, true, false, not, ◌&&◌, List, ◌++◌, Option, Some, None, Result, IfOk, IsErr, OnErr}
+use Rattle.std.specs.Prelude.{ℕ, ◌≡◌, ◌⊎◌, ◌<◌, Bool, true, false, not, ◌&&◌, List, ◌++◌, nat_eq, Option, Some, None, Result, IfOk, IsErr, OnErr}
 use Rattle.std.specs.List.{AllByRecursion}
 use Rattle.std.specs.declared.alloc.AllocError.{AllocError}
 use Rattle.atomic_table.specs.Seated.{TableId}
@@ -14,11 +14,13 @@ use Rattle.fol_core.specs.declared.answers.Posting.{Posting}
 use Rattle.fol_core.specs.Ahead.{Prepares, may_touch}
 use Rattle.fol_core.specs.Answers.{LoadRecords, PostRecords, StopRecords, UnloadRecords, is_free, is_over, load_result, post_result, unload_result}
 use Rattle.fol_core.specs.Meaning.{Meaning, Stays, is_prepared, world_of}
+use Rattle.fol_core.specs.Quiet.{Passes}
 
--- the core, and which slots its ticks are offered in
+-- the core, which slots its ticks are offered in, and how many workers have seats there, which are numbered from 1
 pub record Shown : Type 0 where
   pub core : Meaning
   pub slots : TableId
+  pub workers : ℕ
 
 -- one of these regions was prepared, and this seat recorded the Begin of the worker that has its tick
 pub record IsLearnt (m : Meaning) (called : ℕ → Bool) (by : ℕ) (e : Entry) : Type 0 where
@@ -32,6 +34,7 @@ pub record IsLearnt (m : Meaning) (called : ℕ → Bool) (by : ℕ) (e : Entry)
 -- tick was called back
 pub record CallsBack (old new : Shown) (by : ℕ) (called : ℕ → Bool) : Type 0 where
   pub slots : new.slots ≡ old.slots
+  pub workers : new.workers ≡ old.workers
   pub opening : new.core.opening ≡ old.core.opening
   pub learnt : List Entry
   pub history : new.core.history ≡ old.core.history ++ learnt
@@ -47,6 +50,7 @@ pub record Follows {A E : Type 0} (old new : Shown) (by : ℕ) (called : ℕ →
   pub cleared : Shown
   pub clears : CallsBack old cleared by called ⊎ (IsErr r × (cleared ≡ old))
   pub slots : new.slots ≡ old.slots
+  pub workers : new.workers ≡ old.workers
   pub answer : IfOk r (λ a. a ≡ gives (world_of cleared.core))
   pub recorded : IfOk r (λ a. records cleared.core new.core a)
   pub refused : OnErr r (Stays cleared.core new.core)
@@ -63,14 +67,36 @@ Unloads old new by c = Follows old new by (may_touch (world_of old.core) c) (λ 
 abbrev pub Posts : Shown → Shown → ℕ → ChunkPos → ℕ → Action → Result Posting Action → Type 0
 Posts old new by c d x = Follows old new by (may_touch (world_of old.core) c) (λ w. post_result w c x) (λ m n a. PostRecords m n by c d x a)
 
+-- no tick is left to be offered: the history is over, or no region is Ready, owes a tick and is not prepared
+abbrev pub NoneFree : Meaning → Type 0
+NoneFree m = (is_over (world_of m) ≡ true) ⊎ ((r : ℕ) → 0 < r → r < (world_of m).grid.next → is_free m r ≡ false)
+
 -- a region that is Ready, owes a tick and was not prepared is prepared now; or there was none, or the history is over
 abbrev pub OffersNext : Meaning → Meaning → Option ℕ → Type 0
 OffersNext old new (Some r) = (is_over (world_of old) ≡ false) × (is_free old r ≡ true) × Prepares old new r
-OffersNext old new None = Stays old new × ((is_over (world_of old) ≡ true) ⊎ ((r : ℕ) → 0 < r → r < (world_of old).grid.next → is_free old r ≡ false))
+OffersNext old new None = Stays old new × NoneFree old
+
+-- some regions that were Ready, owed a tick and were not prepared are so now, and nothing else has changed
+pub record OffersMore (old new : Shown) : Type 0 where
+  pub slots : new.slots ≡ old.slots
+  pub workers : new.workers ≡ old.workers
+  pub opening : new.core.opening ≡ old.core.opening
+  pub history : new.core.history ≡ old.core.history
+  pub prepared : (r : ℕ) → is_prepared old.core r ≡ true → is_prepared new.core r ≡ true
+  pub free : (r : ℕ) → is_prepared new.core r ≡ true → (is_prepared old.core r ≡ true) ⊎ (is_free old.core r ≡ true)
+
+-- the tick of the region was called back, if it was offered, and then the worker passed so many ticks of it in which nothing happened
+pub record PassesOver (old new : Shown) (by region n : ℕ) : Type 0 where
+  pub cleared : Shown
+  pub clears : CallsBack old cleared by (nat_eq region)
+  pub slots : new.slots ≡ old.slots
+  pub workers : new.workers ≡ old.workers
+  pub passes : Passes cleared.core new.core by region n
 
 -- a Stop was recorded, unless the history was over, once every offered tick was called back
 pub record Stops (old new : Shown) (by : ℕ) : Type 0 where
   pub recalled : Shown
   pub recalls : CallsBack old recalled by every
   pub slots : new.slots ≡ old.slots
+  pub workers : new.workers ≡ old.workers
   pub recorded : StopRecords recalled.core new.core by (is_over (world_of old.core))

@@ -18,6 +18,6 @@ pub record AreNewSlots (count workers : ℕ) (made : SlotsAndSeats Offer × List
   pub length_is : length bodies ≡ count
   pub none : All (λ b. b ≡ nothing) bodies
   pub count_is : slot_count made.0.slots ≡ count
-  pub keeper : made.0.keeper ≡ new_keeper (slots_id made.0.slots) bodies
+  pub keeper : made.0.keeper ≡ new_keeper (slots_id made.0.slots) bodies workers
   pub seats : AreNew (slots_id made.0.slots) workers made.0.seats
   pub places : made.1 ≡ replicate count 0

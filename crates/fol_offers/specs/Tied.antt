@@ -15,6 +15,7 @@ use Rattle.fol_tick_laws.specs.OpenTicks.{IsOpen}
 use Rattle.fol_slots.specs.declared.view.Place.{Place}
 use Rattle.fol_slots.specs.Shown.{Keeper, place_at}
 use Rattle.fol_offers.specs.declared.offer.Offer.{Offer}
+use Rattle.fol_offers.specs.InTurn.{TakeTurns}
 use Rattle.fol_offers.specs.Places.{region_at}
 
 -- a body with no tick
@@ -51,9 +52,10 @@ pub record InUse (m : Meaning) (r : ℕ) (p : Place Offer) : Type 0 where
   pub runs : (k : ℕ) → p.found ≡ Some k → Runs m r k tick
 
 -- the slots in use are those of the regions in the list, all others are kept with nothing in them, each prepared region has one, and each
--- Ticking region has one in which the worker that has its tick was found
+-- Ticking region has one in which the worker that has its tick was found. The workers that have seats take turns
 pub record Tied (m : Meaning) (s : Keeper Offer) (regions : List ℕ) : Type 0 where
   pub grid : IsGrid m.opening.grid
+  pub in_turn : TakeTurns s.workers m.history
   -- once the history is over, no region is prepared
   pub calm : is_over (world_of m) ≡ true → NonePrepared m
   pub places : length s.places ≡ length regions

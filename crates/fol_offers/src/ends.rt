@@ -37,6 +37,7 @@ impl Offers {
             → IsOpen self.new.core (record t { worker = seat.number }) }
         ensures seat { result ≡ seat }
     {
+        let _entries = self.core.history();
         let worker = seat.number();
         let seat = slots.meet(seat, &mut self.keeper);
         if self.core.is_prepared(region) {
@@ -107,6 +108,7 @@ impl Offers {
         requires cleared { Spares self.old.core
             (wishes_may_touch (world_of self.old.core) tick.old.log.wishes) }
         ensures slots { self.new.slots ≡ self.old.slots }
+        ensures workers { self.new.workers ≡ self.old.workers }
         ensures length { IfOk result.1 (λ n. n ≡ length self.new.core.history) }
         ensures recorded { OnOk result.1 (Records self.old.core self.new.core tick.old.worker
             (end_event (world_of self.old.core) tick.old.worker tick.old.region tick.old.log.ran)) }

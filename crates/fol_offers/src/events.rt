@@ -75,6 +75,7 @@ impl Offers {
         requires some { 1 ≤ n }
         requires within { (world_of self.old.core).sum + n ≤ 10000 }
         ensures slots { self.new.slots ≡ self.old.slots }
+        ensures workers { self.new.workers ≡ self.old.workers }
         ensures answer { IfOk result (λ a. a ≡ phase_result (world_of self.old.core)) }
         ensures recorded { IfOk result (PhaseRecords self.old.core self.new.core by n) }
         ensures refused { OnErr result (Stays self.old.core self.new.core) }
@@ -85,6 +86,7 @@ impl Offers {
     /// Closes the phase, as `Core::close_phase`. Where it is Closed no tick is offered, since no region owes one.
     pub fn close_phase(&mut self, by: u32) -> Result<Close, AllocError>
         ensures slots { self.new.slots ≡ self.old.slots }
+        ensures workers { self.new.workers ≡ self.old.workers }
         ensures answer { IfOk result (λ a. a ≡ close_result (world_of self.old.core)) }
         ensures recorded { IfOk result (λ a. CloseRecords self.old.core self.new.core by a) }
         ensures refused { OnErr result (Stays self.old.core self.new.core) }
@@ -95,6 +97,7 @@ impl Offers {
     /// Finishes the history, as `Core::finish`. Where it is Finished no tick is offered, since no region owes one outside phases.
     pub fn finish(&mut self, by: u32) -> Result<Finish, AllocError>
         ensures slots { self.new.slots ≡ self.old.slots }
+        ensures workers { self.new.workers ≡ self.old.workers }
         ensures answer { IfOk result (λ a. a ≡ finish_result (world_of self.old.core)) }
         ensures recorded { IfOk result (λ a. FinishRecords self.old.core self.new.core by a) }
         ensures refused { OnErr result (Stays self.old.core self.new.core) }

@@ -15,6 +15,7 @@ mod events;
 mod offer;
 mod offers;
 mod places;
+mod quiet;
 mod recalls;
 #[cfg(test)]
 mod tests;

@@ -2,10 +2,13 @@
 
 ghost use Rattle.std.specs.Prelude.{◌≡◌, ◌≤◌, ◌<◌, ℕ, true, false, IfSome, IfNone, IsTrue, OnErr, OnOk, length, nat_eq};
 ghost use Rattle.fol_model.specs.Geometry.{is_chunk};
+ghost use Rattle.fol_model.specs.GridNumbers.{IsGrid};
+ghost use Rattle.fol_model.specs.Run.{Run};
 ghost use Rattle.fol_slots.specs.Table.{slots_id};
 ghost use Rattle.fol_core.specs.Ahead.{NonePrepared, may_touch};
 ghost use Rattle.fol_core.specs.Meaning.{is_prepared, world_of};
 ghost use Rattle.fol_tick_laws.specs.Touching.{lists};
+ghost use Rattle.fol_offers.specs.InTurn.{TakeTurns};
 ghost use Rattle.fol_offers.specs.Places.{region_at};
 ghost use Rattle.fol_offers.specs.Shown.{CallsBack, every};
 
@@ -51,7 +54,7 @@ impl Offers {
     }
 
     /// Calls a region back, if its tick is offered.
-    fn call_back_one(&mut self, slots: &Slots<Offer>, by: u32, region: u64)
+    pub(crate) fn call_back_one(&mut self, slots: &Slots<Offer>, by: u32, region: u64)
         requires own { self.old.slots ≡ slots_id slots.now }
         ensures { CallsBack self.old self.new by (nat_eq region) }
     {
@@ -71,6 +74,26 @@ impl Offers {
             self.call_back(slots, by, region);
             from = i;
         }
+    }
+
+    /// Calls back each region whose tick is offered, and gives the core. The seats of the workers are of no use then. Takes no memory.
+    pub fn into_core(self, slots: &Slots<Offer>, by: u32) -> Core
+        requires own { self.slots ≡ slots_id slots.now }
+        ensures back { CallsBack self (record self { core = result }) by every }
+        ensures none { NonePrepared result }
+        ensures grid { IsGrid result.opening.grid }
+        ensures run { Run result.opening result.history }
+        ensures turns { TakeTurns self.workers result.history }
+    {
+        let mut offers = self;
+        offers.recall(slots, by);
+        let Offers {
+            core,
+            keeper: _,
+            places: _,
+        } = offers;
+        let _entries = core.history();
+        core
     }
 
     /// A slot with the region whose tick is offered there: the first one from this slot on, or else the first one before it.

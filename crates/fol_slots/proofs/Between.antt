@@ -1,13 +1,13 @@
 -- What is known between the steps of `meet` and of `take_in`.
-use Rattle.std.proofs.Common.{◌≡◌, ℕ, ◌<◌, List, [], ◌∷◌, sym, ap, ◌∙◌, subst, Option, Some, None, IsSomeAnd}
+use Rattle.std.proofs.Common.{◌≡◌, ℕ, ◌<◌, List, [], ◌∷◌, sym, ap, ◌∙◌, subst, Option, Some, None}
 use Rattle.std.specs.Option.{unwrap_or}
 use Rattle.atomic_table.specs.Table.{Me, rest}
 use Rattle.atomic_table.specs.Seated.{TableId}
 use Rattle.fol_slots.specs.declared.view.View.{View}
 use Rattle.fol_slots.specs.Hands.{place}
 use Rattle.fol_slots.specs.Hands as hands
-use Rattle.fol_slots.specs.Steps.{Met, out_at, taking_in, both_of, parted_left, parted_right}
-use Rattle.fol_slots.specs.Shown.{Worker, Keeper, worker, keeper, IsWorker, IsKeeper, place_at, held_slot, freed, keeping}
+use Rattle.fol_slots.specs.Steps.{out_at, taking_in, both_of, parted_left, parted_right}
+use Rattle.fol_slots.specs.Shown.{Worker, Keeper, worker, keeper, IsWorker, IsKeeper, held_slot, freed, keeping}
 use Rattle.fol_slots.proofs.MeetSteps.{Joined}
 
 -- the view of a seat, and the slots that it has out
@@ -59,5 +59,5 @@ module _ {T : Type 0} where
 
   pub is_keeping : (i j : ℕ) (y z : TableId) (k w u : View T) (x : T) (ks : Keeper T) → y ≡ z → u ≡ parted_left (at_end k w i x) → keeper z k ≡ ks → j ≡ i → keeper y u ≡ keeping ks j (Some x)
   is_keeping i j y z k w u x ks table is ke same =
-      let a : keeper y u ≡ keeping (keeper z k) i (Some x) = λ n. record { slots = table n; places = (is n).places } in
+      let a : keeper y u ≡ keeping (keeper z k) i (Some x) = λ n. record { slots = table n; places = (is n).places; workers = (is n).made } in
       a ∙ ap (λ (t : Keeper T × ℕ). keeping t.0 t.1 (Some x)) (λ n. (ke n, sym same n))

@@ -18,18 +18,18 @@ module _ {T : Type 0} where
   pub place_else : (k : Keeper T) (i j : ℕ) (p : Place T) → j ≢ i → place_at (knowing k i p) j ≡ place_at k j
   place_else k i j p other = get_or-set_other k.places i j p (place None None None) other
 
-  -- the keeper's seat of new slots has a place for each body, and keeps it
-  pub new_as_many : (z : TableId) (bodies : List T) → length (new_keeper z bodies).places ≡ length bodies
+  -- The keeper's seat of new slots, for however many workers, has a place for each body, and keeps it.
+  pub new_as_many : (z : TableId) (bodies : List T) → length (new_keeper z bodies 0).places ≡ length bodies
   new_as_many z [] = refl
   new_as_many z (x ∷ xs) = ap suc (new_as_many z xs)
 
-  pub kept_new : (z : TableId) (bodies : List T) (i : ℕ) → i < length bodies → IsSome (place_at (new_keeper z bodies) i).kept
+  pub kept_new : (z : TableId) (bodies : List T) (i : ℕ) → i < length bodies → IsSome (place_at (new_keeper z bodies 0) i).kept
   kept_new z [] i low = absurd (omega arith)
   kept_new z (x ∷ xs) zero low = refl
   kept_new z (x ∷ xs) (suc i) low = kept_new z xs i (omega arith)
 
   -- with the first of the bodies, and so on
-  pub body_new : (z : TableId) (bodies : List T) (i : ℕ) (b : T) → slice_get bodies i ≡ Some b → place_at (new_keeper z bodies) i ≡ place (Some b) None None
+  pub body_new : (z : TableId) (bodies : List T) (i : ℕ) (b : T) → slice_get bodies i ≡ Some b → place_at (new_keeper z bodies 0) i ≡ place (Some b) None None
   body_new z [] i b e = absurd (cc)
   body_new z (x ∷ xs) zero b e = ap (λ o. place o None None) e
   body_new z (x ∷ xs) (suc i) b e = body_new z xs i b e

@@ -1,5 +1,7 @@
 -- The steps of the keeper without a worker keep the rule.
 use Rattle.std.proofs.Common.{◌≡◌, ◌≢◌, ◌⊎◌, ℕ, ◌+◌, ◌-◌, ◌<◌, ◌≤◌, List, [], ◌∷◌, length, get_or, set, eqb, sym, refl, ap, ◌∙◌, subst, inl, inr, ⊎_elim, arith, length-set, get_or-set_other, get_or-set_same, Option, Some, None, IsSome, IsSomeAnd, true, false}
+use Rattle.std.proofs.Math.ListN.{get_or-eq_default}
+use Rattle.std.proofs.lemmas.Bool.Decides.{leb_tells}
 use mathlib.Core.Logic.{dite}
 use mathlib.Core.Option.{some, none}
 use mathlib.Core.Option as maybe
@@ -10,7 +12,7 @@ use Rattle.atomic_table.specs.Table.{State, Me, Step, Act, keeps, takes, gives, 
 use Rattle.atomic_table.proofs.Lists.{at_index, exchanged}
 use Rattle.fol_slots.specs.declared.view.Place.{Place}
 use Rattle.fol_slots.specs.declared.view.View.{View}
-use Rattle.fol_slots.specs.Hands.{place, place_at, SlotFits, SeatFits, Ruled}
+use Rattle.fol_slots.specs.Hands.{place, place_at, FoundOnlyAt, SlotFits, SeatFits, Ruled}
 use Rattle.fol_slots.specs.Steps.{knows, out_at}
 use Rattle.fol_slots.specs.Steps as tells
 use Rattle.fol_slots.proofs.Changes.{not_true, none_some, some_same, none_of, some_of, is_some, some_and, some_fit, fit_some, same_default, put, put_here, put_else}
@@ -58,6 +60,26 @@ module _ {T : Type 0} (fit : T → Type 0) (n : ℕ) where
         long = ap length my.1 ∙ r.long;
         slot = subst (λ (ps : List (Place T)). SlotFits fit r.keeper r.owner r.hold r.outer i (get_or s.words i 0) (get_elem? s.homes i) (place_at ps i)) (sym my.1) (r.each_slot i inside);
       }
+
+  -- a worker that holds a slot has a number that was given out
+  pub given_out : (s : State (Option T) V) (r : Ruled fit n s) (k i : ℕ) → r.hold k ≡ Some i → k ≤ r.made
+  given_out s r k i holds = elim (leb_tells k r.made) [
+    | inl y ↦ y.1
+    | inr y ↦ absurd (none_some i (sym (r.unmade k y.1) ∙ holds))
+  ]
+
+  -- and was found at no other slot
+  pub found_only : (s : State (Option T) V) (r : Ruled fit n s) (k i : ℕ) → r.hold k ≡ Some i → FoundOnlyAt r.ps k i
+  found_only s r k i holds j e = elim (leb_tells n j) [
+    | inl y ↦ let long = r.long in absurd (none_some k (ap (λ (p : Place T). p.found) (sym (get_or-eq_default r.ps nowhere {n = j} (let z = y.1 in omega (arith, long, z)))) ∙ e))
+    | inr y ↦
+        let slot = r.each_slot j y.1 in
+        let is = slot.found k e in
+        let word = is.0 in
+        let one = is.1 in
+        let same : get_or s.words j 0 - 1 ≡ k = omega (arith, word) in
+        sym (some_same i j (sym holds ∙ (ap r.hold (sym same) ∙ slot.ticks (omega (arith, word, one)))))
+  ]
 
   -- a kept slot that the keeper does not have out is at home
   kept_home : (s : State (Option T) V) (r : Ruled fit n s) (id : ℕ) (v : V) (i : ℕ) → Known s r id v i → get_or s.words i 0 ≡ 0 → v.out ≡ None → r.outer i ≡ None
@@ -125,6 +147,9 @@ module _ {T : Type 0} (fit : T → Type 0) (n : ℕ) where
       (λ other.
       let two : 1 < w = dite (ℕ_discrete w 0) (λ z. absurd (not_true (subst (λ (o : Option T). IsSome o) not_kept (ok.kept z)))) (λ nz. omega arith) in
       let p : Place T = place old.kept old.offered (Some (w - 1)) in
+      let holds : r.hold (w - 1) ≡ Some i = ok.ticks (omega (arith, two)) in
+      let few = given_out s r (w - 1) i holds in
+      let all = known_now.made in
       let h : maybe.Option (Option T) = get_or s.homes i none in
       let at_home : get_elem? s.homes i ≡ some h = at_index s.homes i h (omega arith) (same_default s.homes i none (omega arith)) in (
         knows v i p,
@@ -143,7 +168,17 @@ module _ {T : Type 0} (fit : T → Type 0) (n : ℕ) where
           found = λ k e. let same : w - 1 ≡ k = some_same (w - 1) k e in (omega arith, omega arith);
           out_by = ok.out_by;
         },
-        ((λ is. absurd (other is)), λ _. (two, small_word fit n s r i inside, refl)),
+        (
+          λ is. absurd (other is),
+          λ _. (
+            two,
+            small_word fit n s r i inside,
+            omega (arith, few, all),
+            subst (λ (ps : List (Place T)). FoundOnlyAt ps (w - 1) i) (sym is) (found_only s r (w - 1) i holds),
+            some_fit old.offered fit (ok.offered (omega (arith, two))) ok.fits,
+            refl,
+          ),
+        ),
       ))
 
   pub offers : (st : Step (Option T)) (slots id : ℕ) (m : M) → st.word < n → Alone m.0 → m.0.out ≡ None → IsSomeAnd (place_at m.0.places st.word).kept fit

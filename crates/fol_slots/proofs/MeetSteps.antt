@@ -7,12 +7,12 @@ use lib.ListN.{get_elem?}
 use Rattle.atomic_table.specs.Table.{State, Me, Step, keeps, takes, gives, Allows}
 use Rattle.fol_slots.specs.declared.view.Place.{Place}
 use Rattle.fol_slots.specs.declared.view.View.{View}
-use Rattle.fol_slots.specs.Hands.{place, place_at, Ruled}
+use Rattle.fol_slots.specs.Hands.{place, place_at, FoundOnlyAt, Ruled}
 use Rattle.fol_slots.specs.Steps.{knows, out_at, taking_in, Met}
 use Rattle.fol_slots.specs.Steps as tells
 use Rattle.fol_slots.proofs.Changes.{none_some, some_same, none_of, some_of, some_fit, put, put_here, put_else}
 use Rattle.fol_slots.proofs.AtSlot.{at_slot, same_homes}
-use Rattle.fol_slots.proofs.KeepSteps.{Known, known}
+use Rattle.fol_slots.proofs.KeepSteps.{Known, found_only, known}
 
 abbrev nowhere : {T : Type 0} → Place T
 nowhere = place None None None
@@ -63,6 +63,9 @@ module _ {T : Type 0} (fit : T → Type 0) (n : ℕ) where
       let slot = h.known_now.slot in
       let w_is = h.word in record {
         word = h.word;
+        positive = h.positive;
+        few = (let most = h.given_out in let all = h.known_now.made in omega (arith, most, all));
+        only = subst (λ (ps : List (Place T)). FoundOnlyAt ps v.number i) (sym h.known_now.places) (found_only fit n s r v.number i h.holds);
         found = λ k e. let z = slot.found k e in let y = z.0 in omega arith;
         not_kept = none_of (place_at v.places i).kept (λ e. let z = slot.keeps e in omega arith);
         claimed = h.claimed;

@@ -59,9 +59,9 @@ module _ {T : Type 0} (fit : T → Type 0) where
   word_finding k l i w low is = subst (λ (x : Keeper T). WordIs fit x i (Ticking w)) (sym is)
       (word_found (finding k i w) i w low (λ inside. ap (λ (p : Place T). p.found) (at_once k i (place (place_at k i).kept (place_at k i).offered (Some w)) inside)))
 
-  pub word_new : (k : Keeper T) (z : TableId) (bodies : List T) (i : ℕ) → k ≡ new_keeper z bodies → i < z.slots → WordIs fit k i Kept
-  word_new k z bodies i is low = subst (λ (x : Keeper T). WordIs fit x i Kept) (sym is) (word_kept (new_keeper z bodies) i low (λ inside. let long = new_as_many z bodies in kept_new z bodies i (omega arith)))
+  pub word_new : (k : Keeper T) (z : TableId) (bodies : List T) (workers i : ℕ) → k ≡ new_keeper z bodies workers → i < z.slots → WordIs fit k i Kept
+  word_new k z bodies workers i is low = subst (λ (x : Keeper T). WordIs fit x i Kept) (sym is) (word_kept (new_keeper z bodies workers) i low (λ inside. let long = new_as_many z bodies in kept_new z bodies i (omega arith)))
 
   pub word_after : (k l : Keeper T) (i : ℕ) (answer : Keep) → i < k.slots.slots → Keeps fit k i answer l → WordAfter fit answer i l
   word_after k l i answers.Kept low h = let body = some_and (place_at k i).offered fit h.0 in word_keeping k l i (place_at k i).offered low (is_some (place_at k i).offered body.0 body.1) h.1
-  word_after k l i (answers.Busy w) low h = word_finding k l i w low h
+  word_after k l i (answers.Busy w) low h = word_finding k l i w low h.4

@@ -17,6 +17,10 @@ module _ {T : Type 0} where
   abbrev pub place_at : List (Place T) → ℕ → Place T
   place_at ps i = slice_index_or ps i (place None None None)
 
+  -- no slot but i shows worker k as found
+  abbrev pub FoundOnlyAt : List (Place T) → ℕ → ℕ → Type 0
+  FoundOnlyAt ps k i = (j : ℕ) → (place_at ps j).found ≡ Some k → j ≡ i
+
 -- What holds of slot i, where its word is w, what lies in it is h, and the keeper knows it as p.
 -- `owner` is the seat that has a worker's number, `hold` the slot that a worker holds, `outer` the seat that has a slot out.
 module _ {T : Type 0} (fit : T → Type 0) (keeper : ℕ) (owner : ℕ → ℕ) (hold outer : ℕ → Option ℕ) (i : ℕ) where

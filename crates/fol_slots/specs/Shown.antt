@@ -18,21 +18,26 @@ pub record Worker (T : Type 0) : Type 0 where
   pub claimed : Option T
   pub found : List (ℕ × Word)
 
--- The keeper's seat: whose it is, and what it knows of each slot.
+-- The keeper's seat: whose it is, what it knows of each slot, and how many workers have seats, which are numbered from 1.
 pub record Keeper (T : Type 0) : Type 0 where
   pub slots : TableId
   pub places : List (Place T)
+  pub workers : ℕ
 
 module _ {T : Type 0} where
   abbrev pub worker : TableId → View T → Worker T
   worker z v = record { slots = z; number = v.number; slot = v.slot; claimed = v.claimed; found = v.found }
 
   abbrev pub keeper : TableId → View T → Keeper T
-  keeper z v = record { slots = z; places = v.places }
+  keeper z v = record { slots = z; places = v.places; workers = v.made }
 
   -- what the keeper knows of slot i
   abbrev pub place_at : Keeper T → ℕ → Place T
   place_at k i = hands.place_at k.places i
+
+  -- no slot but i shows worker w as found
+  abbrev pub FoundOnlyAt : Keeper T → ℕ → ℕ → Type 0
+  FoundOnlyAt k w i = hands.FoundOnlyAt k.places w i
 
   -- the slot that a worker's seat holds, and 0 where it holds none
   abbrev pub held_slot : Worker T → ℕ
@@ -55,9 +60,9 @@ module _ {T : Type 0} where
     pub out : m.0.out ≡ None
     pub empty : m.1 ≡ []
 
-  -- the keeper's seat of new slots keeps each, with these bodies
-  abbrev pub new_keeper : TableId → List T → Keeper T
-  new_keeper z bodies = record { slots = z; places = all_kept bodies }
+  -- the keeper's seat of new slots keeps each, with these bodies, and there are so many workers
+  abbrev pub new_keeper : TableId → List T → ℕ → Keeper T
+  new_keeper z bodies workers = record { slots = z; places = all_kept bodies; workers = workers }
 
   abbrev pub new_worker : TableId → ℕ → Worker T
   new_worker z k = record { slots = z; number = k; slot = None; claimed = None; found = [] }
@@ -81,7 +86,7 @@ module _ {T : Type 0} where
 
   -- the keeper knows slot i as p, and each other as before
   abbrev pub knowing : Keeper T → ℕ → Place T → Keeper T
-  knowing k i p = record { slots = k.slots; places = slice_set k.places i p }
+  knowing k i p = record { slots = k.slots; places = slice_set k.places i p; workers = k.workers }
 
   -- the keeper keeps slot i with this body
   abbrev pub keeping : Keeper T → ℕ → Option T → Keeper T

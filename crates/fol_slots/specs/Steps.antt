@@ -1,12 +1,12 @@
 -- The views, and what each atomic step tells the seat that makes it.
-use Rattle.std.specs.Prelude.{◌≡◌, ◌≢◌, ℕ, ◌+◌, ◌-◌, ◌<◌, List, [], ◌∷◌, ◌++◌, map, slice_set, Option, Some, None, IsSomeAnd, Bool, true, false}
+use Rattle.std.specs.Prelude.{◌≡◌, ◌≢◌, ℕ, ◌+◌, ◌-◌, ◌<◌, ◌≤◌, List, [], ◌∷◌, ◌++◌, map, slice_set, Option, Some, None, IsSomeAnd, Bool, true, false}
 use Rattle.std.specs.Option.{ForSome}
 use Rattle.atomic_table.specs.Table.{Me, Step}
 use Rattle.fol_slots.specs.declared.view.Place.{Place}
 use Rattle.fol_slots.specs.declared.view.View.{View}
 use Rattle.fol_slots.specs.declared.word.Word.{Word}
 use Rattle.fol_slots.specs.Words.{word_of}
-use Rattle.fol_slots.specs.Hands.{place, place_at}
+use Rattle.fol_slots.specs.Hands.{place, place_at, FoundOnlyAt}
 
 module _ {T : Type 0} where
   abbrev pub view : Bool → Bool → ℕ → ℕ → Option ℕ → Option T → List (ℕ × Word) → Option ℕ → List (Place T) → View T
@@ -75,12 +75,12 @@ module _ {T : Type 0} where
   abbrev pub empties : Tells T
   empties st m r n = n ≡ (out_at m.0 None, [])
 
-  -- The keeper's try: Ready becomes Kept, with the body last offered; or the worker that it met is noted.
+  -- The keeper's try: Ready becomes Kept, with the body last offered; or the worker that it met is noted, which no other slot shows.
   abbrev pub keeps : (T → Type 0) → Tells T
   keeps fit st m r n =
       let p = place_at m.0.places st.word in
       (r ≡ 1 → IsSomeAnd p.offered fit × (n ≡ (knows m.0 st.word (place p.offered p.offered None), m.1)))
-      × (r ≢ 1 → (1 < r) × (r < 4294967296) × (n ≡ (knows m.0 st.word (place p.kept p.offered (Some (r - 1))), m.1)))
+      × (r ≢ 1 → (1 < r) × (r < 4294967296) × (r - 1 ≤ m.0.made) × FoundOnlyAt m.0.places (r - 1) st.word × IsSomeAnd p.offered fit × (n ≡ (knows m.0 st.word (place p.kept p.offered (Some (r - 1))), m.1)))
 
   -- The keeper's offer: Kept becomes Ready, with the body that the slot has.
   abbrev pub offers : Tells T
@@ -97,6 +97,9 @@ module _ {T : Type 0} where
   -- What the keeper's seat learns of a slot whose worker's seat was joined into it, where the word is r.
   pub record Met (fit : T → Type 0) (v : View T) (i r : ℕ) : Type 0 where
     pub word : r ≡ v.number + 1
+    pub positive : 1 ≤ v.number
+    pub few : v.number ≤ v.made
+    pub only : FoundOnlyAt v.places v.number i
     pub found : (k : ℕ) → (place_at v.places i).found ≡ Some k → k ≡ v.number
     pub not_kept : (place_at v.places i).kept ≡ None
     pub claimed : v.claimed ≡ (place_at v.places i).offered

@@ -16,8 +16,9 @@ impl<T: Body> Slots<T> {
     ghost use Rattle.fol_slots.specs.Moments.{WordIs};
     ghost use Rattle.fol_slots.specs.Shown.{place_at, keeping, offering};
 
-    /// Tries to keep slot `i`, which the keeper does not keep, by one compare and exchange from Ready to Kept. After
-    /// Kept the body of the slot is the one last offered. Busy has the worker that was found, and the seat then shows it.
+    /// Tries to keep slot `i`, which the keeper does not keep, by one compare and exchange from Ready to Kept. The body
+    /// last offered there is fit. After Kept it is the body of the slot. Busy has the worker that was found, which is one
+    /// of those of `new` and was found at no other slot, and the seat then shows it.
     pub fn try_keep(&self, seat: &mut KeeperSeat<T>, i: u32) -> Keep
         requires slots { seat.old.slots ≡ slots_id self.now }
         requires not_kept { (place_at seat.old i).kept ≡ None }

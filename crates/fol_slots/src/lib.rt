@@ -5,9 +5,9 @@
 //! (Ready to Kept), meets workers that hold a slot and takes bodies in from them (Ticking to Kept).
 //!
 //! The promise is one pair of hands, at each atomic step: a body is at home in its slot, or with the one worker whose
-//! number stands in the word, or with the keeper within one of its calls. Each claimed body is fit. Where the seats of
-//! a worker and of the keeper meet, the claimed body is the one last offered there. Only `Slots::new` takes memory,
-//! and no call waits.
+//! number stands in the word, or with the keeper within one of its calls. Each body that is noted as offered is fit,
+//! whatever became of it, and so is each claimed one. Where the seats of a worker and of the keeper meet, the claimed
+//! body is the one last offered there. Only `Slots::new` takes memory, and no call waits.
 //!
 //! A slot can be a place for a region, and a body the tick of that region.
 #![tactic(auto)]

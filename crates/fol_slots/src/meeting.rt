@@ -1,5 +1,5 @@
 //! What the keeper does with the seat of a worker that holds a slot.
-ghost use Rattle.std.specs.Prelude.{◌≡◌, ℕ, Some, None, IsSome, IsSomeAnd};
+ghost use Rattle.std.specs.Prelude.{◌≡◌, ◌≤◌, ℕ, Some, None, IsSome, IsSomeAnd};
 ghost use Rattle.fol_slots.specs.declared.word.Word.TheVariants.{Kept, Ticking};
 
 use crate::body::Body;
@@ -11,11 +11,12 @@ use crate::word::KEPT;
 impl<T: Body> Slots<T> {
     ghost use Rattle.fol_slots.specs.Table.{slots_id};
     ghost use Rattle.fol_slots.specs.Moments.{WordIs, WordIsOf};
-    ghost use Rattle.fol_slots.specs.Shown.{place_at, held_slot, finding, freed, keeping};
+    ghost use Rattle.fol_slots.specs.Shown.{FoundOnlyAt, place_at, held_slot, finding, freed, keeping};
 
     /// Shows what is known of the slot that the worker's seat holds: its word was Ticking with the worker's number, a
-    /// worker that the keeper's seat showed as found there was this one, the keeper does not keep the slot, and the
-    /// claimed body is fit, and the one last offered there. The keeper's seat then shows the worker as found.
+    /// worker that the keeper's seat showed as found there was this one, which it showed at no other slot, the keeper does
+    /// not keep the slot, and the claimed body is fit, and the one last offered there. The worker's number is one of those
+    /// of `new`. The keeper's seat then shows the worker as found.
     pub fn meet(&self, seat: WorkerSeat<T>, keeper: &mut KeeperSeat<T>) -> WorkerSeat<T>
         requires seat { seat.slots ≡ slots_id self.now }
         requires keeper { keeper.old.slots ≡ slots_id self.now }
@@ -23,6 +24,8 @@ impl<T: Body> Slots<T> {
         ensures word { WordIsOf T.fit keeper.old seat (held_slot seat) (Ticking seat.number) }
         ensures found { (k : ℕ) → (place_at keeper.old (held_slot seat)).found ≡ Some k
             → k ≡ seat.number }
+        ensures only { FoundOnlyAt keeper.old seat.number (held_slot seat) }
+        ensures number { (1 ≤ seat.number) × (seat.number ≤ keeper.old.workers) }
         ensures not_kept { (place_at keeper.old (held_slot seat)).kept ≡ None }
         ensures claimed { seat.claimed ≡ (place_at keeper.old (held_slot seat)).offered }
         ensures fits { IsSomeAnd seat.claimed T.fit }
@@ -48,6 +51,8 @@ impl<T: Body> Slots<T> {
         ensures word { WordIsOf T.fit keeper.old seat (held_slot seat) (Ticking seat.number) }
         ensures found { (k : ℕ) → (place_at keeper.old (held_slot seat)).found ≡ Some k
             → k ≡ seat.number }
+        ensures only { FoundOnlyAt keeper.old seat.number (held_slot seat) }
+        ensures number { (1 ≤ seat.number) × (seat.number ≤ keeper.old.workers) }
         ensures not_kept { (place_at keeper.old (held_slot seat)).kept ≡ None }
         ensures claimed { seat.claimed ≡ (place_at keeper.old (held_slot seat)).offered }
         ensures fits { IsSomeAnd seat.claimed T.fit }

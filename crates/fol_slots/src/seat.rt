@@ -40,7 +40,7 @@ impl<T> WorkerSeat<T> {
 /// The one right to offer slots, to keep them and to take bodies in.
 ///
 /// Contracts see of each slot the body that it has, where the keeper keeps it, the body that the keeper last offered
-/// there, and the worker that it found there since.
+/// there, which is fit, and the worker that it found there since; and how many workers have seats.
 #[derive(Drop)]
 pub struct KeeperSeat<T> {
     pub(crate) pass: atomic_table::Seat<Option<T>, View<T>>,

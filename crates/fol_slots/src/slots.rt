@@ -56,7 +56,7 @@ impl<T: Body> Slots<T> {
         requires workers { workers ≤ 64 }
         ensures slots { IfOk result (λ made. slot_count made.slots ≡ vec_len bodies) }
         ensures keeper { IfOk result (λ made. made.keeper
-            ≡ new_keeper (slots_id made.slots) bodies.items) }
+            ≡ new_keeper (slots_id made.slots) bodies.items workers) }
         ensures seats { IfOk result (λ made. AreNew (slots_id made.slots) workers made.seats) }
         ensures words { IfOk result (λ made. (i : ℕ) → i < vec_len bodies
             → WordIs T.fit made.keeper i Kept) }
@@ -93,7 +93,7 @@ impl<T: Body> Slots<T> {
             × (first.me ≡ (first_view self.now.table.shared.key.bodies.value.items, [])) }
         requires room { (seats.items ≡ []) × (workers ≤ vec_capacity seats) }
         ensures keeper { result.0
-            ≡ new_keeper (slots_id self.now) self.now.table.shared.key.bodies.value.items }
+            ≡ new_keeper (slots_id self.now) self.now.table.shared.key.bodies.value.items workers }
         ensures seats { AreNew (slots_id self.now) workers result.1.items }
         ensures words { (i : ℕ) → i < slot_count self.now → WordIs T.fit result.0 i Kept }
     {

@@ -52,8 +52,8 @@ invariant_of-self-in-Busy c =
     let m : Meaning = c.self.inside.core in
     let n : Meaning = c.learn.new.self in
     let marked : is_prepared m c.args.region ≡ true = subst (λ (v : Shown). is_prepared v.core c.args.region ≡ true) (sym c.self.view_is) c.requires.prepared in
-    subst (λ (x : Keeper Offer). Tied n x c.self.inside.places) (sym c.in-Busy.ensures.answer)
-    (tied_learns m n c.self.inside.keeper c.self.inside.places c.self.invariant c.in-Some.i c.args.region c.in-Some.ensures.some.0 (c.self.invariant.prepared c.args.region marked).1 c.args.by c.in-Busy.worker c.in-Some.ensures.some.1 marked (prepared_on m c.self.inside.keeper c.self.inside.places c.args.region c.self.invariant marked) c.learn.ensures)
+    subst (λ (x : Keeper Offer). Tied n x c.self.inside.places) (sym c.in-Busy.ensures.answer.4)
+    (tied_learns m n c.self.inside.keeper c.self.inside.places c.self.invariant c.in-Some.i c.args.region c.in-Some.ensures.some.0 (c.self.invariant.prepared c.args.region marked).1 c.args.by c.in-Busy.worker (search rules) c.in-Busy.ensures.answer.3 (c.in-Busy.ensures.answer.1, c.in-Busy.ensures.answer.2) c.in-Some.ensures.some.1 marked (prepared_on m c.self.inside.keeper c.self.inside.places c.args.region c.self.invariant marked) c.learn.ensures)
 
 pub learn-requires-clause-on : goal.learn-requires-clause-on
 learn-requires-clause-on c =
@@ -65,21 +65,23 @@ returns-in-Kept c =
     let m : Meaning = c.self.inside.core in
     let n : Meaning = c.withdraw-is_ready.new.self in
     let k : Keeper Offer = c.body.new.seat in
-    let old : Shown = record { core = m; slots = c.self.inside.keeper.slots } in
-    let new : Shown = record { core = n; slots = k.slots } in
+    let old : Shown = record { core = m; slots = c.self.inside.keeper.slots; workers = c.self.inside.keeper.workers } in
+    let new : Shown = record { core = n; slots = k.slots; workers = k.workers } in
     let marked : is_prepared m c.args.region ≡ true = subst (λ (v : Shown). is_prepared v.core c.args.region ≡ true) (sym c.self.view_is) c.requires.prepared in
     let w = came_back m c.self.inside.keeper c.try_keep.new.seat c.self.inside.places c.in-Some.i c.args.region c.body.result c.into_tick-tick.result c.self.invariant c.in-Some.ensures.some.0 c.in-Some.ensures.some.1 marked c.in-Kept.ensures.answer.1 c.body.ensures.old c.into_tick-tick.ensures in
     let did : Withdraws m n c.args.region = subst (λ (r : ℕ). Withdraws m n r) w.is.region c.withdraw-is_ready.ensures.withdrawn in
     let slots : k.slots ≡ c.self.inside.keeper.slots = ap (λ (x : Keeper Offer). x.slots) c.body.ensures.seat ∙ ap (λ (x : Keeper Offer). x.slots) c.in-Kept.ensures.answer.1 in
-    subst (λ (v : Shown). CallsBack v new c.args.by (nat_eq c.args.region)) c.self.view_is (back_withdrawn old new c.args.by c.args.region slots did)
+    let workers : k.workers ≡ c.self.inside.keeper.workers = ap (λ (x : Keeper Offer). x.workers) c.body.ensures.seat ∙ ap (λ (x : Keeper Offer). x.workers) c.in-Kept.ensures.answer.1 in
+    subst (λ (v : Shown). CallsBack v new c.args.by (nat_eq c.args.region)) c.self.view_is (back_withdrawn old new c.args.by c.args.region slots workers did)
 
 pub returns-in-Busy : goal.returns-in-Busy
 returns-in-Busy c =
     let m : Meaning = c.self.inside.core in
     let n : Meaning = c.learn.new.self in
     let k : Keeper Offer = c.try_keep.new.seat in
-    let old : Shown = record { core = m; slots = c.self.inside.keeper.slots } in
-    let new : Shown = record { core = n; slots = k.slots } in
+    let old : Shown = record { core = m; slots = c.self.inside.keeper.slots; workers = c.self.inside.keeper.workers } in
+    let new : Shown = record { core = n; slots = k.slots; workers = k.workers } in
     let marked : is_prepared m c.args.region ≡ true = subst (λ (v : Shown). is_prepared v.core c.args.region ≡ true) (sym c.self.view_is) c.requires.prepared in
-    let slots : k.slots ≡ c.self.inside.keeper.slots = ap (λ (x : Keeper Offer). x.slots) c.in-Busy.ensures.answer in
-    subst (λ (v : Shown). CallsBack v new c.args.by (nat_eq c.args.region)) c.self.view_is (back_learnt old new c.args.by c.in-Busy.worker c.args.region slots marked c.learn.ensures)
+    let slots : k.slots ≡ c.self.inside.keeper.slots = ap (λ (x : Keeper Offer). x.slots) c.in-Busy.ensures.answer.4 in
+    let workers : k.workers ≡ c.self.inside.keeper.workers = ap (λ (x : Keeper Offer). x.workers) c.in-Busy.ensures.answer.4 in
+    subst (λ (v : Shown). CallsBack v new c.args.by (nat_eq c.args.region)) c.self.view_is (back_learnt old new c.args.by c.in-Busy.worker c.args.region slots workers marked c.learn.ensures)

@@ -20,7 +20,7 @@ invariant_of-self c =
     let worker = c.number-worker.ensures.number in
     let did : Learns m c.learn.new.self k k c.args.region = rw worker at c.learn.ensures in
     subst (λ (x : Keeper Offer). Tied c.learn.new.self x c.self.inside.places) (sym c.meet-seat.ensures.keeper)
-    (met_learnt m c.learn.new.self s c.self.inside.places i k c.args.region c.requires.has.tick c.self.invariant c.meet-seat.ensures.not_kept (sym c.requires.has.claimed ∙ c.meet-seat.ensures.claimed) c.requires.has.of (search rules) did)
+    (met_learnt m c.learn.new.self s c.self.inside.places i k c.args.region c.requires.has.tick c.self.invariant (search rules) c.meet-seat.ensures.only c.meet-seat.ensures.number c.meet-seat.ensures.not_kept (sym c.requires.has.claimed ∙ c.meet-seat.ensures.claimed) c.requires.has.of (search rules) did)
 
 pub returns-then-is_prepared-clause-open : goal.returns-then-is_prepared-clause-open
 returns-then-is_prepared-clause-open c = λ t e.
@@ -33,4 +33,4 @@ returns-then-is_prepared-clause-open c = λ t e.
     let gone = c.meet-seat.ensures.not_kept in
     let offered : Some (of_tick t) ≡ (place_at s i).offered = sym e ∙ c.meet-seat.ensures.claimed in
     open_met c.learn.new.self s c.self.inside.places i k t (inside_places m s c.self.inside.places i t c.self.invariant gone offered) gone offered
-    (met_learnt m c.learn.new.self s c.self.inside.places i k c.args.region c.requires.has.tick c.self.invariant gone (sym c.requires.has.claimed ∙ c.meet-seat.ensures.claimed) c.requires.has.of (search rules) did)
+    (met_learnt m c.learn.new.self s c.self.inside.places i k c.args.region c.requires.has.tick c.self.invariant (search rules) c.meet-seat.ensures.only c.meet-seat.ensures.number gone (sym c.requires.has.claimed ∙ c.meet-seat.ensures.claimed) c.requires.has.of (search rules) did)

@@ -11,5 +11,5 @@ invariant_of-offers c =
     let made = c.in-Ok.ensures in
     let z = slots_id c.in-Ok.slots.slots in
     subst (λ (k : Keeper Offer). Tied c.args.core k c.in-Ok.places) (sym made.keeper)
-    (subst (λ (xs : List ℕ). Tied c.args.core (new_keeper z made.bodies) xs) (sym made.places)
-    (tied_start c.args.core z made.bodies c.args.count c.requires.grid c.requires.none c.requires.idle made.count_is made.length_is c.requires.count.1 made.none))
+    (subst (λ (xs : List ℕ). Tied c.args.core (new_keeper z made.bodies c.args.workers) xs) (sym made.places)
+    (tied_start c.args.core z made.bodies c.args.workers c.args.count c.requires.grid c.requires.turns c.requires.none c.requires.idle made.count_is made.length_is c.requires.count.1 made.none))

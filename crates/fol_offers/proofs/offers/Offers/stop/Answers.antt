@@ -21,6 +21,7 @@ returns c =
       recalled = mid;
       recalls = back;
       slots = ap (λ (v : Shown). v.slots) c.self.view_is ∙ back.slots;
+      workers = ap (λ (v : Shown). v.workers) c.self.view_is ∙ back.workers;
       recorded = subst (λ (b : Bool). StopRecords mid.core c.stop.new.self c.args.by b) (back_over old mid c.args.by every back)
           (subst (λ (v : Shown). StopRecords v.core c.stop.new.self c.args.by (is_over (world_of v.core))) c.self.view_is c.stop.ensures);
     }

@@ -32,4 +32,4 @@ loop-made-preserved g c =
     }
 
 pub returns-clause-words : goal.returns-clause-words
-returns-clause-words g c = λ i low. word_new g.T.Body.fit _ (slots_id c.args.self.now) c.args.self.now.table.shared.key.bodies.value.items i (search rules) low
+returns-clause-words g c = λ i low. word_new g.T.Body.fit _ (slots_id c.args.self.now) c.args.self.now.table.shared.key.bodies.value.items c.args.workers i (search rules) low
