@@ -1,0 +1,17 @@
+pub mod Bare
+pub mod LateBegins
+pub mod Keeping
+pub mod Answering
+pub mod Ending
+pub mod Moved
+pub mod Trying
+pub mod Holding
+pub mod Taken
+pub mod Called
+pub mod Grown
+pub mod OwnTurns
+pub mod HeldTicks
+pub mod Hosted
+pub mod Releasing
+pub mod Dealing
+pub mod Gathering

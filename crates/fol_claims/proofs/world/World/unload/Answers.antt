@@ -1,0 +1,22 @@
+use Rattle.std.proofs.Common.{◌≡◌, ◌∙◌, ap, subst}
+use Rattle.fol_core.specs.Answers.{UnloadRecords, unload_result}
+use Rattle.fol_offers.specs.Shown as offers
+use Rattle.fol_claims.specs.Kept.{IsKept}
+use Rattle.fol_claims.specs.Shown.{shown}
+use Rattle.fol_claims.specs.Turns.{Unloads}
+use Rattle.fol_claims.proofs.Answering.{Tells, answers_back, grows_unload}
+use Rattle.fol_claims.proofs.Bare.{bare_unload}
+use Rattle.fol_claims.proofs.Moved.{carried}
+use Rattle.fol_claims.proofs.world.World.unload.Goals as goal
+
+pub returns : goal.returns
+returns c =
+    let old : offers.Shown = c.deref_mut.result.now in
+    let new : offers.Shown = c.unload-answer.new.self in
+    let told = c.unload-answer.ensures in
+    let kept : IsKept (shown old) = rw c.deref_mut.ensures.value c.self.invariant.0 in
+    let there : Tells c.deref.result.now = record { grid = c.keeps.ensures.grid; run = c.keeps.ensures.run; turns = c.keeps.ensures.in_turn } in
+    let tells : Tells new = subst Tells c.deref.ensures there in
+    carried (λ a b. Unloads a b c.args.by c.args.c c.unload-answer.result) (ap shown c.deref_mut.ensures.value ∙ c.self.view_is) c.offer_rest.ensures
+    (answers_back old new c.args.by (λ w. unload_result w c.args.c) (λ m n a. UnloadRecords m n c.args.by c.args.c a) c.unload-answer.result (λ m n a. grows_unload m n c.args.by c.args.c a)
+    (λ m n a. bare_unload m n c.args.by c.args.c a) kept tells told.workers told.slots told)
