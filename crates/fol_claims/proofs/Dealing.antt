@@ -1,20 +1,23 @@
 -- The seats of a world and the seats of its lock.
-use Rattle.std.proofs.Common.{◌≡◌, ◌<◌, ◌≤◌, ◌+◌, ℕ, zero, suc, refl, sym, ◌∙◌, ap, List, [], ◌∷◌, ◌++◌, length, arith, append-nil, Some}
+use Rattle.std.proofs.Common.{◌≡◌, ◌<◌, ◌≤◌, ◌+◌, ◌-◌, ℕ, zero, suc, refl, sym, ◌∙◌, ap, subst, List, [], ◌∷◌, ◌++◌, length, arith, append-nil, Some}
 use Rattle.std.specs.Prelude.{slice_get, Option, None}
 use Rattle.std.specs.Option.{unwrap_or}
 use Rattle.std.specs.List.{AllByRecursion}
+use Rattle.atomic_table.specs.Seated.{TableId}
+use Rattle.fol_model.specs.declared.openings.Opening.{Opening}
 use Rattle.fol_lock.specs.Seat.{LockId}
 use Rattle.fol_lock.specs.Seat as locks
 use Rattle.fol_slots.specs.Shown.{AreNew, Worker, new_worker}
 use Rattle.fol_offers.specs.declared.offer.Offer.{Offer}
 use Rattle.fol_claims.specs.declared.origin.Origin.{Origin}
-use Rattle.fol_claims.specs.Seat.{HasFront, HasHand, LiveId, Shown, origin_of}
-use Rattle.fol_claims.specs.Seats.{AreFresh, DealsAll, new_hand, newcomer}
-use Rattle.fol_claims.proofs.Taken.{Hand, IsIdleSeat, SeatOfLock, id_of, view}
+use Rattle.fol_claims.specs.Seat.{HasFront, HasHand, Shown, origin_of}
+use Rattle.fol_claims.specs.Seats.{AreFresh, AreNewSeats, DealsAll, new_hand, newcomer}
+use Rattle.fol_claims.specs.Shown as worlds
+use Rattle.fol_claims.proofs.Taken.{Hand, IsIdleSeat, SeatOfLock, began, id_of, view}
 
 -- ---- lists whose elements are known by their place
 
-AreFrom : {X : Type 0} → (ℕ → X) → ℕ → List X → Type 0
+abbrev pub AreFrom : {X : Type 0} → (ℕ → X) → ℕ → List X → Type 0
 AreFrom f k [] = Unit {0}
 AreFrom f k (x ∷ xs) = (x ≡ f k) × AreFrom f (suc k) xs
 
@@ -34,16 +37,16 @@ get_from f k (x ∷ xs) are (suc j) low = let there : suc k + j ≡ k + suc j = 
 
 -- ---- each seat of the lock with what it gets
 
-pub first_of : List (Worker Offer) → Hand
+abbrev pub first_of : List (Worker Offer) → Hand
 first_of [] = None
 first_of (w ∷ ws) = Some w
 
-pub rest_of : List (Worker Offer) → List (Worker Offer)
+abbrev pub rest_of : List (Worker Offer) → List (Worker Offer)
 rest_of [] = []
 rest_of (w ∷ ws) = ws
 
 -- the first of these seats gets this, and each other one the next worker
-pub paired : Hand → List SeatOfLock → List (Worker Offer) → List Shown
+abbrev pub paired : Hand → List SeatOfLock → List (Worker Offer) → List Shown
 paired hand [] ws = []
 paired hand (s ∷ ss) ws = view s hand ∷ paired (first_of ws) ss (rest_of ws)
 
@@ -53,7 +56,7 @@ pub record CanSit (s : SeatOfLock) (hand : Hand) : Type 0 where
   pub has : HasHand (origin_of s.origin) s.number hand
   pub front : HasFront 0 s
 
-pub CanAllSit : Hand → List SeatOfLock → List (Worker Offer) → Type 0
+abbrev pub CanAllSit : Hand → List SeatOfLock → List (Worker Offer) → Type 0
 CanAllSit hand [] ws = Unit {0}
 CanAllSit hand (s ∷ ss) ws = CanSit s hand × CanAllSit (first_of ws) ss (rest_of ws)
 
@@ -147,3 +150,18 @@ fresh_free seats workers fresh = all_free fresh.lock fresh.origin 1 workers (wor
 pub all_dealt : (dealt whole : List Shown) (hand : Hand) (left : List SeatOfLock) (ws : List (Worker Offer)) → length left ≡ 0 → dealt ++ paired hand left ws ≡ whole → dealt ≡ whole
 all_dealt dealt whole hand [] ws none e = sym (append-nil dealt) ∙ e
 all_dealt dealt whole hand (x ∷ left) ws none e = absurd (omega (arith, none))
+
+pub none_left : (ws : List (Worker Offer)) → length ws ≡ 0 → ws ≡ []
+none_left [] none = refl
+none_left (w ∷ ws) none = absurd (omega (arith, none))
+
+-- the seats of a world that is started
+pub starts : (lock : LockId) (slots : TableId) (opening : Opening) (callers count : ℕ) (z : worlds.Shown) (seats : List SeatOfLock) (workers : List (Worker Offer)) (dealt : List Shown)
+    → z ≡ worlds.first opening slots (callers - 1) → 0 < callers → count ≡ callers → locks.AreNew lock (began z) callers seats → AreNew slots (callers - 1) workers
+    → DealsAll seats workers dealt → AreNewSeats (record { lock = lock; slots = slots; workers = count - 1 }) opening callers dealt
+starts lock slots opening callers count z seats workers dealt world some counted new free deals =
+    let more : callers - 1 + 1 ≡ callers = omega (arith, some) in
+    let o : Origin = began (worlds.first opening slots (callers - 1)) in
+    let of_lock : locks.AreNew lock o callers seats = subst (λ (w : worlds.Shown). locks.AreNew lock (began w) callers seats) world new in
+    let all : AreNewSeats (id_of lock o) opening (callers - 1 + 1) dealt = deals lock o (callers - 1) (subst (λ (n : ℕ). locks.AreNew lock o n seats) (sym more) of_lock) free in
+    rw counted (subst (λ (n : ℕ). AreNewSeats (id_of lock o) opening n dealt) more all)

@@ -3,7 +3,7 @@ use Rattle.std.proofs.Common.{◌≡◌, ◌<◌, ℕ, refl, sym, ◌∙◌, ap,
 use Rattle.std.specs.Prelude.{Result, Ok, Err, IfOk, IfErr, OnOk, None}
 use Rattle.std.specs.List.{AllByRecursion}
 use Rattle.std.proofs.lemmas.Bool.{eq-eqb}
-use Rattle.std.proofs.lemmas.List.Elements.{All-nil, All-cons, All-head, All-tail}
+use Rattle.std.proofs.lemmas.List.Elements.{All-append, All-nil, All-cons, All-head, All-tail}
 use Rattle.fol_model.specs.declared.openings.Opening.{Opening}
 use Rattle.fol_model.specs.declared.closings.Closing.{Closing}
 use Rattle.fol_model.specs.declared.events.Entry.{Entry}
@@ -29,12 +29,12 @@ use Rattle.fol_lock.specs.Seat.{Continues, IsIdle}
 use Rattle.fol_lock.specs.Seat as locks
 use Rattle.fol_seat_laws.specs.Signed.{is_start}
 use Rattle.fol_claims.specs.Kept.{Keeps}
-use Rattle.fol_claims.specs.Seat.{LiveId, Shown, origin_of}
+use Rattle.fol_claims.specs.Seat.{LiveId, Shown}
 use Rattle.fol_claims.specs.Seats.{AreOf, ClosesAll, ClosingFault, Knows, numbers_of}
 use Rattle.fol_claims.specs.Shown as worlds
 use Rattle.fol_claims.specs.Turns.{IsLate, Learns}
 use Rattle.fol_claims.proofs.Keeping.{keeps_first}
-use Rattle.fol_claims.proofs.Taken.{IsIdleSeat, SeatOfLock, began, by_of, log_of, origin_of_turn, view}
+use Rattle.fol_claims.proofs.Taken.{Hand, IsIdleSeat, SeatOfLock, began, by_of, log_of, origin_of_turn, view}
 
 -- a seat, but for what it has of the slots
 abbrev pub bare : Shown → Shown
@@ -47,6 +47,18 @@ plain s = view s None
 pub all_taken : (inner : List SeatOfLock) (left seats : List Shown) → length left ≡ 0 → map plain inner ++ map bare left ≡ map bare seats → map plain inner ≡ map bare seats
 all_taken inner [] seats none e = sym (append-nil (map plain inner)) ∙ e
 all_taken inner (x ∷ left) seats none e = absurd (omega (arith, none))
+
+took_is : (inner : List SeatOfLock) (s : SeatOfLock) (hand : Hand) (left : List Shown) → map plain (inner ++ s ∷ []) ++ map bare left ≡ map plain inner ++ map bare (view s hand ∷ left)
+took_is [] s hand left = refl
+took_is (y ∷ inner) s hand left = ap (λ (xs : List Shown). plain y ∷ xs) (took_is inner s hand left)
+
+-- one seat more is taken
+pub took : (inner : List SeatOfLock) (s : SeatOfLock) (hand : Hand) (x : Shown) (left whole : List Shown) → view s hand ≡ x → map plain inner ++ map bare (x ∷ left) ≡ whole
+    → map plain (inner ++ s ∷ []) ++ map bare left ≡ whole
+took inner s hand x left whole is e = took_is inner s hand left ∙ ap (λ (y : Shown). map plain inner ++ map bare (y ∷ left)) is ∙ e
+
+pub idle_more : (inner : List SeatOfLock) (s : SeatOfLock) → All IsIdleSeat inner → IsIdleSeat s → All IsIdleSeat (inner ++ s ∷ [])
+idle_more inner s all idle = All-append IsIdleSeat inner (s ∷ []) all (All-cons IsIdleSeat s [] idle (All-nil IsIdleSeat))
 
 -- ---- what the lock asks for
 
