@@ -1,8 +1,7 @@
 -- What a world answers, from what the core with its offers did.
-use Rattle.std.proofs.Common.{◌≡◌, ℕ, refl, sym, ◌∙◌, ap, subst, inl, inr, List, [], ◌∷◌, ◌++◌, append_assoc, Bool, true, false}
-use Rattle.std.specs.Prelude.{Result, Ok, Err, IfOk, IsErr, OnErr, OnOk}
+use Rattle.std.proofs.Common.{◌≡◌, ℕ, refl, sym, ◌∙◌, ap, subst, inl, inr, List, [], ◌∷◌, ◌++◌, Bool, true, false}
+use Rattle.std.specs.Prelude.{Result, Ok, Err, IfOk, OnErr}
 use Rattle.std.specs.List.{AllByRecursion}
-use Rattle.std.specs.declared.alloc.AllocError.{AllocError}
 use Rattle.std.proofs.lemmas.List.{append-nil}
 use Rattle.fol_laws.proofs.SortedRows.{all_append}
 use Rattle.fol_model.specs.declared.places.ChunkPos.{ChunkPos}
@@ -31,8 +30,8 @@ use Rattle.fol_offers.specs.InTurn.{InTurn}
 use Rattle.fol_offers.specs.Shown.{CallsBack, Follows, IsLearnt, every}
 use Rattle.fol_offers.specs.Shown as offers
 use Rattle.fol_offers.proofs.CalledBack.{back_over}
-use Rattle.fol_claims.specs.Kept.{IsKept, Keeps}
-use Rattle.fol_claims.specs.Shown.{Shown, meaning_of, shown}
+use Rattle.fol_claims.specs.Kept.{IsKept}
+use Rattle.fol_claims.specs.Shown.{shown}
 use Rattle.fol_claims.specs.Turns.{Answers, IsLate, Learns, SameWorld, Stops}
 use Rattle.fol_claims.proofs.Bare.{bare, bare_stays, bare_stop, err_map, ok_map}
 use Rattle.fol_claims.proofs.Keeping.{keeps_first}

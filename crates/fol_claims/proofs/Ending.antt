@@ -1,6 +1,6 @@
 -- The End of a tick, from what the core with its offers did.
-use Rattle.std.proofs.Common.{◌≡◌, ℕ, refl, sym, ◌∙◌, ap, inl, inr, List, [], ◌∷◌, ◌++◌, append_assoc, Bool, true, false}
-use Rattle.std.specs.Prelude.{Result, Ok, Err, IfOk, OnErr, OnOk}
+use Rattle.std.proofs.Common.{◌≡◌, ℕ, refl, sym, ◌∙◌, ap, inl, inr, List, [], ◌∷◌, ◌++◌, append_assoc, Bool}
+use Rattle.std.specs.Prelude.{Result, Ok, Err, OnErr, OnOk}
 use Rattle.std.specs.List.{AllByRecursion}
 use Rattle.std.specs.declared.alloc.AllocError.{AllocError}
 use Rattle.std.proofs.lemmas.Bool.{cases_Bool}
@@ -12,14 +12,13 @@ use Rattle.fol_model.specs.World.{World}
 use Rattle.fol_data.specs.declared.tick.Tick.{Tick}
 use Rattle.fol_core.specs.Meaning.{Meaning, Records, Stays, is_prepared, world_of}
 use Rattle.fol_world.specs.AtEnd.{end_event}
-use Rattle.fol_seat_laws.specs.Signed.{is_start}
 use Rattle.fol_offers.specs.Ends.{Meets, wishes_may_touch}
 use Rattle.fol_offers.specs.Ends as offers_ends
 use Rattle.fol_offers.specs.Shown as offers
 use Rattle.fol_claims.specs.Kept.{IsKept}
-use Rattle.fol_claims.specs.Shown.{Shown, shown}
+use Rattle.fol_claims.specs.Shown.{shown}
 use Rattle.fol_claims.specs.Turns.{Ends, IsLate, Learns, SameWorld}
-use Rattle.fol_claims.proofs.Answering.{Grows, Tells, grows_one, grows_same, late_of, learns_by, learns_still}
+use Rattle.fol_claims.proofs.Answering.{Grows, Tells, grows_one, grows_same, late_of, learns_by}
 use Rattle.fol_claims.proofs.Bare.{bare, bare_records, bare_stays, err_map, on_ok_map}
 
 -- the Begins that were recorded up to some point, by one seat

@@ -1,7 +1,6 @@
 -- How each call of a world lengthens its history.
 use Rattle.std.proofs.Common.{◌≡◌, ℕ, refl, sym, ◌∙◌, List, [], ◌∷◌, ◌++◌, Bool, true, false}
 use Rattle.std.specs.Prelude.{All, Result, Ok, Err, IfOk, OnErr, OnOk}
-use Rattle.std.specs.declared.alloc.AllocError.{AllocError}
 use Rattle.std.proofs.lemmas.List.{append-nil}
 use Rattle.std.proofs.lemmas.List.Elements.{All-nil, All-cons}
 use Rattle.fol_model.specs.declared.places.ChunkPos.{ChunkPos}

@@ -1,5 +1,5 @@
 -- The tick that a worker holds.
-use Rattle.std.proofs.Common.{◌≡◌, ◌∙◌, sym, ap, refl, ℕ}
+use Rattle.std.proofs.Common.{◌≡◌, ap, refl, ℕ}
 use Rattle.std.specs.Prelude.{Option, None, Some}
 use Rattle.fol_data.specs.declared.tick.Tick.{Tick}
 use Rattle.fol_slots.specs.Shown.{Worker}

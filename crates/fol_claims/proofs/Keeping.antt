@@ -1,16 +1,9 @@
 -- What holds of a history holds of its beginnings, and what its seats add to it.
-use Rattle.std.proofs.Common.{◌≡◌, ℕ, refl, sym, ◌∙◌, ap, List, [], ◌∷◌, ◌++◌, append_assoc, true}
-use Rattle.std.specs.Prelude.{Result, Ok, Err, IfOk, OnErr, OnOk, Bool, true, false}
+use Rattle.std.proofs.Common.{ℕ, ◌∙◌, ap, List, [], ◌∷◌, ◌++◌, append_assoc}
 use Rattle.std.specs.List.{AllByRecursion}
-use Rattle.std.specs.declared.alloc.AllocError.{AllocError}
-use Rattle.std.proofs.lemmas.List.{append-nil}
 use Rattle.fol_model.specs.declared.openings.Opening.{Opening}
 use Rattle.fol_model.specs.declared.events.Entry.{Entry}
-use Rattle.fol_model.specs.declared.events.Event.{Event}
-use Rattle.fol_model.specs.declared.events.Event.TheVariants.{Begin}
-use Rattle.fol_model.specs.GridNumbers.{IsGrid}
 use Rattle.fol_model.specs.World.{start}
-use Rattle.fol_model.specs.Run.{Run}
 use Rattle.fol_core.proofs.FinishedRun.{before_entry}
 use Rattle.fol_seat_laws.specs.Signed.{IsSigned}
 use Rattle.fol_offers.specs.InTurn.{TakeTurns}

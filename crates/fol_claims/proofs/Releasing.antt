@@ -1,20 +1,17 @@
 -- A seat gives its tick back.
-use Rattle.std.proofs.Common.{◌≡◌, ◌∙◌, ℕ, sym, ap, refl, subst, length}
-use Rattle.std.specs.Prelude.{Result, Ok, Err, IfOk, OnErr, OnOk, Option, None, Some}
+use Rattle.std.proofs.Common.{◌≡◌, ◌∙◌, ℕ, sym, ap, refl, subst}
+use Rattle.std.specs.Prelude.{Result, Ok, Err, OnErr, OnOk, None, Some}
 use Rattle.std.specs.Option.{ForSome}
 use Rattle.std.specs.declared.alloc.AllocError.{AllocError}
 use Rattle.fol_data.specs.declared.tick.Tick.{Tick}
-use Rattle.fol_core.specs.Meaning.{Records, Stays, world_of}
 use Rattle.fol_core.specs.Ticks.{SameTick}
-use Rattle.fol_world.specs.AtEnd.{end_event}
-use Rattle.fol_slots.specs.Shown.{Worker, freed}
-use Rattle.fol_offers.specs.declared.offer.Offer.{Offer}
+use Rattle.fol_slots.specs.Shown.{freed}
 use Rattle.fol_tick.specs.Runs.{Finishes}
 use Rattle.fol_claims.specs.declared.origin.Origin.{Origin}
 use Rattle.fol_claims.specs.Calls.{Releases}
 use Rattle.fol_claims.specs.Held.{HoldsRun}
 use Rattle.fol_claims.specs.Results.{released_of}
-use Rattle.fol_claims.specs.Seat.{HasHand, Shown, held, held_in}
+use Rattle.fol_claims.specs.Seat.{HasHand, Shown, held_in}
 use Rattle.fol_claims.specs.Shown as worlds
 use Rattle.fol_claims.specs.Turned.{GivesIn}
 use Rattle.fol_claims.specs.Turns.{Ends}

@@ -4,7 +4,6 @@ use Rattle.std.specs.Prelude.{All, None, Some, Option, nat_eq}
 use Rattle.std.specs.Option.{unwrap_or}
 use Rattle.std.specs.List.{AllByRecursion}
 use Rattle.std.proofs.lemmas.Bool.{eq-eqb}
-use Rattle.std.proofs.lemmas.List.{append-nil}
 use Rattle.std.proofs.lemmas.List.Elements.{All-append, All-cons, All-nil}
 use Rattle.fol_model.specs.declared.events.Entry.{Entry}
 use Rattle.fol_data.specs.declared.tick.Tick.{Tick}
@@ -22,10 +21,10 @@ use Rattle.fol_tick_laws.specs.OpenTicks.{IsOpen}
 use Rattle.fol_claims.specs.declared.origin.Origin.{Origin}
 use Rattle.fol_claims.specs.Kept.{IsKept, Keeps}
 use Rattle.fol_claims.specs.Shown as worlds
-use Rattle.fol_claims.specs.Turns.{HasOpen, IsLate, Learns}
+use Rattle.fol_claims.specs.Turns.{IsLate, Learns}
 use Rattle.fol_claims.proofs.LateBegins.{late_keep_open, learns_both}
 use Rattle.fol_claims.specs.Calls.{Turn}
-use Rattle.fol_claims.specs.Seat.{HasFront, HasHand, IsOf, IsSeat, LiveId, Shown, held_in, meaning_of, origin_of, shown}
+use Rattle.fol_claims.specs.Seat.{HasFront, HasHand, IsSeat, LiveId, Shown, held_in, meaning_of, origin_of, shown}
 use Rattle.fol_claims.specs.Turned.{Adds, Looks, Meets}
 use Rattle.fol_claims.proofs.Holding.{held_open}
 

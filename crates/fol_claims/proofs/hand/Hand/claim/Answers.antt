@@ -1,5 +1,4 @@
-use Rattle.std.proofs.Common.{◌≡◌, ◌∙◌, sym, ap}
-use Rattle.std.specs.Prelude.{None}
+use Rattle.std.proofs.Common.{◌∙◌, sym, ap}
 use Rattle.fol_slots.specs.Shown.{Worker}
 use Rattle.fol_offers.specs.declared.offer.Offer.{Offer}
 use Rattle.fol_claims.specs.Hands.{tick_in}

@@ -1,8 +1,8 @@
 use Rattle.std.proofs.Common.{◌≡◌, ◌∙◌, sym, ap, subst, arith, ℕ}
-use Rattle.std.specs.Prelude.{None, Some, Option}
+use Rattle.std.specs.Prelude.{None, Some}
 use Rattle.fol_slots.specs.Shown.{Worker}
 use Rattle.fol_offers.specs.declared.offer.Offer.{Offer}
-use Rattle.fol_claims.specs.Hands.{IsHand, MissesThese}
+use Rattle.fol_claims.specs.Hands.{MissesThese}
 use Rattle.fol_claims.specs.Rounds.{numbers_from}
 use Rattle.fol_claims.proofs.Trying.{misses_more, misses_none, no_region}
 use Rattle.fol_claims.proofs.hand.Hand.claim_within.Goals as goal

@@ -4,7 +4,6 @@ use Rattle.std.specs.Option.{ForSome}
 use Rattle.fol_core.specs.Meaning.{world_of}
 use Rattle.fol_world.specs.AtEnd.{end_event}
 use Rattle.fol_slots.specs.Shown.{freed}
-use Rattle.fol_claims.specs.Calls.{Releases}
 use Rattle.fol_claims.specs.Seat.{LiveId, Shown, origin_of}
 use Rattle.fol_claims.specs.Shown.{meaning_of}
 use Rattle.fol_claims.specs.Turned.{GivesIn}

@@ -1,6 +1,4 @@
-use Rattle.std.proofs.Common.{◌≡◌, ◌∙◌, ap, sym, subst}
-use Rattle.fol_data.specs.declared.tick.Tick.{Tick}
-use Rattle.fol_tick_laws.specs.OpenTicks.{IsOpen}
+use Rattle.std.proofs.Common.{◌∙◌, ap, sym, subst}
 use Rattle.fol_tick_laws.proofs.OpenTicks.{open_same}
 use Rattle.std.proofs.Common.{refl}
 use Rattle.fol_offers.specs.Shown as offers

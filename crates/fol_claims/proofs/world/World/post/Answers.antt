@@ -1,4 +1,4 @@
-use Rattle.std.proofs.Common.{◌≡◌, ◌∙◌, ap, subst}
+use Rattle.std.proofs.Common.{◌∙◌, ap, subst}
 use Rattle.fol_core.specs.Answers.{PostRecords, post_result}
 use Rattle.fol_offers.specs.Shown as offers
 use Rattle.fol_claims.specs.Kept.{IsKept}
