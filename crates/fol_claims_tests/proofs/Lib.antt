@@ -1,0 +1,2 @@
+mod FourSeats
+mod FreeSeats
