@@ -1,2 +1,3 @@
 mod FourSeats
 mod FreeSeats
+mod HostSeats
