@@ -1,0 +1,3 @@
+mod FourSeats
+mod FreeSeats
+mod HostSeats
