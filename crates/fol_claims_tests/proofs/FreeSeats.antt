@@ -24,6 +24,7 @@ are_free l o count seats new k d low =
 
 -- one that held none and found none
 pub free_still : (l : LiveId) (old new : Shown) → IsFree l old → Misses old new → IsFree l new
-free_still l old new free did =
-    (ap (λ (s : Shown). s.lock) did.is ∙ free.0,
-     ap held did.is ∙ ap (λ (w : Worker Offer). tick_in w.claimed) did.misses.misses.is ∙ sym (ap held_in did.was) ∙ free.1)
+free_still l old new free did = (
+  ap (λ (s : Shown). s.lock) did.is ∙ free.0,
+  ap held did.is ∙ ap (λ (w : Worker Offer). tick_in w.claimed) did.misses.misses.is ∙ sym (ap held_in did.was) ∙ free.1,
+)
