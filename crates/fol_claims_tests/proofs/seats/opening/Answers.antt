@@ -4,4 +4,4 @@ use Rattle.fol_claims_tests.proofs.seats.opening.Goals as goal
 
 pub invariant_of-result : goal.invariant_of-result
 unfolding IsStrictlySortedBy
-invariant_of-result g c = search rules
+invariant_of-result c = search rules
