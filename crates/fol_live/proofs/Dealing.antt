@@ -1,106 +1,167 @@
 -- The seats of a world and the seats of its lock.
-use Rattle.std.proofs.Common.{◌≡◌, ℕ, zero, suc, ◌<◌, refl, sym, ◌∙◌, ap, subst, List, [], ◌∷◌, ◌++◌, length, map, arith, append-nil, Some, Contains, All}
-use Rattle.std.specs.Prelude.{slice_get}
+use Rattle.std.proofs.Common.{◌≡◌, ◌<◌, ◌≤◌, ◌+◌, ◌-◌, ℕ, zero, suc, refl, sym, ◌∙◌, ap, subst, List, [], ◌∷◌, ◌++◌, length, arith, append-nil, Some}
+use Rattle.std.specs.Prelude.{slice_get, Option, None}
 use Rattle.std.specs.Option.{unwrap_or}
 use Rattle.std.specs.List.{AllByRecursion}
-use Rattle.std.proofs.lemmas.List.{length-map}
-use Rattle.std.proofs.lemmas.List.Elements.{All-nil, All-cons, All-head, All-tail}
-use Rattle.std.proofs.lemmas.Option.{slice_get-map}
+use Rattle.atomic_table.specs.Seated.{TableId}
 use Rattle.fol_model.specs.declared.openings.Opening.{Opening}
-use Rattle.fol_model.specs.declared.closings.Closing.{Closing}
-use Rattle.fol_model.specs.declared.events.Entry.{Entry}
-use Rattle.fol_core.specs.Meaning.{Meaning}
-use Rattle.fol_lock.specs.Seat.{AreNew, Continues, IsIdle, LockId}
+use Rattle.fol_lock.specs.Seat.{LockId}
 use Rattle.fol_lock.specs.Seat as locks
-use Rattle.fol_live.specs.Seat.{HasFront, Shown}
-use Rattle.fol_live.specs.Seats.{AreNewSeats, AreOf, ClosesAll, ClosingFault, Knows, numbers_of}
-use Rattle.std.specs.Prelude.{Result, Ok, Err, IfOk, IfErr, OnOk, false}
-use Rattle.fol_model.specs.Counting.{some_below}
-use Rattle.fol_model.specs.Outputs.{Outputs}
-use Rattle.fol_core.specs.Answers.{Faults, is_ticking_in}
-use Rattle.fol_core.specs.Meaning.{world_of}
-use Rattle.fol_core.specs.declared.answers.CloseFault.{CloseFault}
-use Rattle.fol_core.specs.declared.answers.CloseFault.TheVariants as faults
-use Rattle.fol_live.specs.Kept.{Keeps}
-use Rattle.fol_live.proofs.Taken.{IsIdleSeat, SeatOfLock, by_of, opening_of_turn, view}
+use Rattle.fol_slots.specs.Shown.{AreNew, Worker, new_worker}
+use Rattle.fol_offers.specs.declared.offer.Offer.{Offer}
+use Rattle.fol_live.specs.declared.origin.Origin.{Origin}
+use Rattle.fol_live.specs.Seat.{HasFront, HasHand, Shown, origin_of}
+use Rattle.fol_live.specs.Seats.{AreFresh, AreNewSeats, DealsAll, new_hand, newcomer}
+use Rattle.fol_live.specs.Shown as worlds
+use Rattle.fol_live.proofs.Taken.{Hand, IsIdleSeat, SeatOfLock, began, id_of, view}
 
--- a seat of the lock that has seen nothing
-pub record IsFresh (s : SeatOfLock) : Type 0 where
+-- ---- lists whose elements are known by their place
+
+abbrev pub AreFrom : {X : Type 0} → (ℕ → X) → ℕ → List X → Type 0
+AreFrom f k [] = Unit {0}
+AreFrom f k (x ∷ xs) = (x ≡ f k) × AreFrom f (suc k) xs
+
+from_get : {X : Type 0} (f : ℕ → X) (k : ℕ) (xs : List X) → ((j : ℕ) → j < length xs → slice_get xs j ≡ Some (f (k + j))) → AreFrom f k xs
+from_get f k [] each = tt
+from_get f k (x ∷ xs) each =
+    let first : Some x ≡ Some (f (k + 0)) = each zero (omega arith) in
+    let here : k + 0 ≡ k = omega arith in (
+      ap (λ (o : Option _). unwrap_or o x) first ∙ ap f here,
+      from_get f (suc k) xs (λ j low. let there : k + suc j ≡ suc k + j = omega arith in each (suc j) (omega (arith, low)) ∙ ap (λ (i : ℕ). Some (f i)) there),
+    )
+
+get_from : {X : Type 0} (f : ℕ → X) (k : ℕ) (xs : List X) → AreFrom f k xs → (j : ℕ) → j < length xs → slice_get xs j ≡ Some (f (k + j))
+get_from f k [] are j low = absurd (omega (arith, low))
+get_from f k (x ∷ xs) are zero low = let here : k ≡ k + 0 = omega arith in ap Some are.0 ∙ ap (λ (i : ℕ). Some (f i)) here
+get_from f k (x ∷ xs) are (suc j) low = let there : suc k + j ≡ k + suc j = omega arith in get_from f (suc k) xs are.1 j (omega (arith, low)) ∙ ap (λ (i : ℕ). Some (f i)) there
+
+-- ---- each seat of the lock with what it gets
+
+abbrev pub first_of : List (Worker Offer) → Hand
+first_of [] = None
+first_of (w ∷ ws) = Some w
+
+abbrev pub rest_of : List (Worker Offer) → List (Worker Offer)
+rest_of [] = []
+rest_of (w ∷ ws) = ws
+
+-- the first of these seats gets this, and each other one the next worker
+abbrev pub paired : Hand → List SeatOfLock → List (Worker Offer) → List Shown
+paired hand [] ws = []
+paired hand (s ∷ ss) ws = view s hand ∷ paired (first_of ws) ss (rest_of ws)
+
+-- a seat of the lock that has seen nothing may be the seat with this hand
+pub record CanSit (s : SeatOfLock) (hand : Hand) : Type 0 where
   pub idle : IsIdleSeat s
+  pub has : HasHand (origin_of s.origin) s.number hand
   pub front : HasFront 0 s
 
-all_from_get : {X : Type 0} (P : X → Type 0) (xs : List X) → ((k : ℕ) → k < length xs → (x : X) × (slice_get xs k ≡ Some x) × P x) → AllByRecursion P xs
-all_from_get P [] each = tt
-all_from_get P (x ∷ xs) each =
-    let first = each zero (omega arith) in
-    (subst P (ap (λ o. unwrap_or o x) (sym first.1)) first.2, all_from_get P xs (λ k low. each (suc k) (omega arith)))
+abbrev pub CanAllSit : Hand → List SeatOfLock → List (Worker Offer) → Type 0
+CanAllSit hand [] ws = Unit {0}
+CanAllSit hand (s ∷ ss) ws = CanSit s hand × CanAllSit (first_of ws) ss (rest_of ws)
 
-pub new_fresh : (lock : LockId) (o : Opening) (count : ℕ) (seats : List SeatOfLock) → AreNew lock o count seats → AllByRecursion IsFresh seats
-new_fresh lock o count seats new =
-    let many = new.as_many in
-    all_from_get IsFresh seats (λ n low. (locks.newcomer lock n o, new.each n (omega arith), record { idle = record { idle = refl; origin = refl; own = refl }; front = refl }))
+-- the worker holds nothing
+pub record IsFree (w : Worker Offer) : Type 0 where
+  pub slot : w.slot ≡ None
+  pub claimed : w.claimed ≡ None
 
-pub new_seats : (lock : LockId) (o : Opening) (count : ℕ) (seats : List SeatOfLock) → AreNew lock o count seats → AreNewSeats lock o count (map view seats)
-new_seats lock o count seats new = record {
-  as_many = length-map seats view ∙ new.as_many;
-  each = λ n low. slice_get-map view seats n ∙ (let e = new.each n low in rw e refl);
-}
+length_paired : (hand : Hand) (ss : List SeatOfLock) (ws : List (Worker Offer)) → length (paired hand ss ws) ≡ length ss
+length_paired hand [] ws = refl
+length_paired hand (s ∷ ss) ws = ap suc (length_paired (first_of ws) ss (rest_of ws))
+
+module _ (lock : LockId) (o : Origin) where
+  abbrev seat_at : ℕ → SeatOfLock
+  seat_at n = locks.newcomer lock n o
+
+  abbrev worker_at : ℕ → Worker Offer
+  worker_at n = new_worker o.slots n
+
+  abbrev shown_at : ℕ → Shown
+  shown_at n = newcomer (id_of lock o) o.opening n
+
+  shown_first : (k : ℕ) (s : SeatOfLock) (hand : Hand) → s ≡ seat_at k → hand ≡ new_hand (id_of lock o) k → view s hand ≡ shown_at k
+  shown_first k s hand seat has = rw (seat, has) refl
+
+  sits_new : (k : ℕ) → CanSit (seat_at k) (new_hand (id_of lock o) k)
+  sits_new zero = record { idle = record { idle = refl; origin = refl; own = refl }; has = refl; front = refl }
+  sits_new (suc n) = record {
+    idle = record { idle = refl; origin = refl; own = refl };
+    has = record { slots = refl; number_is = refl; some = omega arith };
+    front = refl;
+  }
+
+  sits_first : (k : ℕ) (s : SeatOfLock) (hand : Hand) → s ≡ seat_at k → hand ≡ new_hand (id_of lock o) k → CanSit s hand
+  sits_first k s hand seat has = rw (seat, has) (sits_new k)
+
+  all_shown : (k : ℕ) (hand : Hand) (ss : List SeatOfLock) (ws : List (Worker Offer)) → AreFrom seat_at k ss → AreFrom worker_at (suc k) ws → hand ≡ new_hand (id_of lock o) k
+      → length ss ≤ suc (length ws) → AreFrom shown_at k (paired hand ss ws)
+  all_shown k hand [] ws seats workers has few = tt
+  all_shown k hand (s ∷ []) ws seats workers has few = (shown_first k s hand seats.0 has, tt)
+  all_shown k hand (s ∷ (t ∷ ss)) [] seats workers has few = absurd (omega (arith, few))
+  all_shown k hand (s ∷ (t ∷ ss)) (w ∷ ws) seats workers has few =
+      (shown_first k s hand seats.0 has, all_shown (suc k) (Some w) (t ∷ ss) ws seats.1 workers.1 (ap Some workers.0) (omega (arith, few)))
+
+  all_sit : (k : ℕ) (hand : Hand) (ss : List SeatOfLock) (ws : List (Worker Offer)) → AreFrom seat_at k ss → AreFrom worker_at (suc k) ws → hand ≡ new_hand (id_of lock o) k
+      → length ss ≤ suc (length ws) → CanAllSit hand ss ws
+  all_sit k hand [] ws seats workers has few = tt
+  all_sit k hand (s ∷ []) ws seats workers has few = (sits_first k s hand seats.0 has, tt)
+  all_sit k hand (s ∷ (t ∷ ss)) [] seats workers has few = absurd (omega (arith, few))
+  all_sit k hand (s ∷ (t ∷ ss)) (w ∷ ws) seats workers has few =
+      (sits_first k s hand seats.0 has, all_sit (suc k) (Some w) (t ∷ ss) ws seats.1 workers.1 (ap Some workers.0) (omega (arith, few)))
+
+  all_free : (k : ℕ) (ws : List (Worker Offer)) → AreFrom worker_at k ws → AllByRecursion IsFree ws
+  all_free k [] are = tt
+  all_free k (w ∷ ws) are = (let e = are.0 in rw e (record { slot = refl; claimed = refl }), all_free (suc k) ws are.1)
+
+  seats_from : (count : ℕ) (seats : List SeatOfLock) → locks.AreNew lock o count seats → AreFrom seat_at 0 seats
+  seats_from count seats new = from_get seat_at 0 seats (λ j low. let many = new.as_many in let here : j ≡ 0 + j = omega arith in
+      new.each j (omega (arith, low, many)) ∙ ap (λ (i : ℕ). Some (seat_at i)) here)
+
+  workers_from : (count : ℕ) (workers : List (Worker Offer)) → AreNew o.slots count workers → AreFrom worker_at 1 workers
+  workers_from count workers new = from_get worker_at 1 workers (λ j low. let many = new.count_is in let here : j + 1 ≡ 1 + j = omega arith in
+      new.each j (omega (arith, low, many)) ∙ ap (λ (i : ℕ). Some (worker_at i)) here)
+
+  pub are_dealt : (count : ℕ) (seats : List SeatOfLock) (workers : List (Worker Offer)) → locks.AreNew lock o (count + 1) seats → AreNew o.slots count workers
+      → AreFrom shown_at 0 (paired None seats workers)
+  are_dealt count seats workers new free =
+      let s = new.as_many in
+      let w = free.count_is in
+      all_shown 0 None seats workers (seats_from (count + 1) seats new) (workers_from count workers free) refl (omega (arith, s, w))
+
+-- what is dealt so is what is promised
+pub deals_all : (seats : List SeatOfLock) (workers : List (Worker Offer)) (dealt : List Shown) → dealt ≡ paired None seats workers → DealsAll seats workers dealt
+deals_all seats workers dealt is lock o count new free = rw is (record {
+  as_many = length_paired None seats workers ∙ new.as_many;
+  each = λ n low. let many = new.as_many in let l = length_paired None seats workers in let here : 0 + n ≡ n = omega arith in
+      get_from (shown_at lock o) 0 (paired None seats workers) (are_dealt lock o count seats workers new free) n (omega (arith, low, many, l)) ∙ ap (λ (i : ℕ). Some (shown_at lock o i)) here;
+})
+
+pub fresh_sit : (seats : List SeatOfLock) (workers : List (Worker Offer)) → AreFresh seats workers → CanAllSit None seats workers
+fresh_sit seats workers fresh =
+    let s = fresh.new_seats.as_many in
+    let w = fresh.new_workers.count_is in
+    all_sit fresh.lock fresh.origin 0 None seats workers (seats_from fresh.lock fresh.origin (fresh.count + 1) seats fresh.new_seats)
+    (workers_from fresh.lock fresh.origin fresh.count workers fresh.new_workers) refl (omega (arith, s, w))
+
+pub fresh_free : (seats : List SeatOfLock) (workers : List (Worker Offer)) → AreFresh seats workers → AllByRecursion IsFree workers
+fresh_free seats workers fresh = all_free fresh.lock fresh.origin 1 workers (workers_from fresh.lock fresh.origin fresh.count workers fresh.new_workers)
 
 -- nothing is left to deal
-pub all_dealt : (dealt whole : List Shown) (left : List SeatOfLock) → length left ≡ 0 → dealt ++ map view left ≡ whole → dealt ≡ whole
-all_dealt dealt whole [] none e = sym (append-nil dealt) ∙ e
-all_dealt dealt whole (x ∷ left) none e = absurd (omega arith)
+pub all_dealt : (dealt whole : List Shown) (hand : Hand) (left : List SeatOfLock) (ws : List (Worker Offer)) → length left ≡ 0 → dealt ++ paired hand left ws ≡ whole → dealt ≡ whole
+all_dealt dealt whole hand [] ws none e = sym (append-nil dealt) ∙ e
+all_dealt dealt whole hand (x ∷ left) ws none e = absurd (omega (arith, none))
 
-pub all_taken : (inner : List SeatOfLock) (left seats : List Shown) → length left ≡ 0 → map view inner ++ left ≡ seats → map view inner ≡ seats
-all_taken inner [] seats none e = sym (append-nil (map view inner)) ∙ e
-all_taken inner (x ∷ left) seats none e = absurd (omega arith)
+pub none_left : (ws : List (Worker Offer)) → length ws ≡ 0 → ws ≡ []
+none_left [] none = refl
+none_left (w ∷ ws) none = absurd (omega (arith, none))
 
--- ---- the end
-
-pub all_idle : (l : LockId) (xs : List SeatOfLock) → All IsIdleSeat xs → All (λ (s : Shown). s.lock ≡ l) (map view xs) → All (IsIdle l) xs
-all_idle l [] idle own = All-nil (IsIdle l)
-all_idle l (x ∷ xs) idle own =
-    let first = All-head IsIdleSeat x xs idle in
-    let here = All-head (λ (s : Shown). s.lock ≡ l) (view x) (map view xs) own in
-    All-cons (IsIdle l) x xs (here, first.idle) (all_idle l xs (All-tail IsIdleSeat x xs idle) (All-tail (λ (s : Shown). s.lock ≡ l) (view x) (map view xs) own))
-
-pub same_numbers : (xs : List SeatOfLock) → locks.numbers_of xs ≡ numbers_of (map view xs)
-same_numbers [] = refl
-same_numbers (x ∷ xs) = ap (λ (ns : List ℕ). x.number ∷ ns) (same_numbers xs)
-
--- what the lock tells of a seat at the end
-abbrev Continued : Meaning → SeatOfLock → Type 0
-Continued m s = Continues (λ (w : Meaning). w.history) (λ (w : Meaning). w.opening) by_of s m
-
-all_know : (m : Meaning) (xs : List SeatOfLock) → All IsIdleSeat xs → All (Continued m) xs → All (Knows m.opening m.history) (map view xs)
-all_know m [] idle all = All-nil (Knows m.opening m.history)
-all_know m (x ∷ xs) idle all =
-    let first = All-head (Continued m) x xs all in
-    let here = All-head IsIdleSeat x xs idle in
-    All-cons (Knows m.opening m.history) (view x) (map view xs)
-    (record { opening = opening_of_turn x m here first; seen = first.seen; mine = first.mine; own = here.own })
-    (all_know m xs (All-tail IsIdleSeat x xs idle) (All-tail (Continued m) x xs all))
-
-pub are_of : (seats : List Shown) (inner : List SeatOfLock) (m : Meaning) → map view inner ≡ seats → All IsIdleSeat inner → All (Continued m) inner
-    → All (λ (e : Entry). Contains (locks.numbers_of inner) e.by) m.history → Keeps m.opening m.history → AreOf seats m.opening m.history
-are_of seats inner m same idle all others keeps =
-    let P : List ℕ → Type 0 = λ ns. All (λ (e : Entry). Contains ns e.by) m.history in
-    record { each = rw (← same) (all_know m inner idle all); others = rw (← same) (subst P (same_numbers inner) others); keeps = keeps }
-
-pub closes_all : (seats : List Shown) (m : Meaning) (r : Result Closing CloseFault) → AreOf seats m.opening m.history → IfOk r (λ c. Outputs m.opening m.history c)
-    → OnOk r (some_below (is_ticking_in (world_of m)) (world_of m).grid.next ≡ false) → IfOk r (λ c. ClosesAll seats c)
-closes_all seats m (Ok c) of rows rests =
-    let opening = rows.opening in
-    let history = rows.history in
-    let R : Opening → List Entry → Type 0 = λ o h. Outputs o h c in
-    record {
-      of = rw (opening, history) of;
-      rows = subst (λ (h : List Entry). R c.opening h) (sym history) (subst (λ (o : Opening). R o m.history) (sym opening) rows);
-      rests = rw (opening, history) rests;
-    }
-closes_all seats m (Err e) of rows rests = tt
-
-pub closing_fault : (seats : List Shown) (m : Meaning) (r : Result Closing CloseFault) → AreOf seats m.opening m.history → IfErr r (Faults (world_of m)) → IfErr r (λ f. ClosingFault seats f)
-closing_fault seats m (Ok c) of cause = tt
-closing_fault seats m (Err (faults.Ticking r)) of cause = record { opening = m.opening; history = m.history; of = of; ticks = cause }
-closing_fault seats m (Err faults.NoMemory) of cause = tt
+-- the seats of a world that is started
+pub starts : (lock : LockId) (slots : TableId) (opening : Opening) (callers count : ℕ) (z : worlds.Shown) (seats : List SeatOfLock) (workers : List (Worker Offer)) (dealt : List Shown)
+    → z ≡ worlds.first opening slots (callers - 1) → 0 < callers → count ≡ callers → locks.AreNew lock (began z) callers seats → AreNew slots (callers - 1) workers
+    → DealsAll seats workers dealt → AreNewSeats (record { lock = lock; slots = slots; workers = count - 1 }) opening callers dealt
+starts lock slots opening callers count z seats workers dealt world some counted new free deals =
+    let more : callers - 1 + 1 ≡ callers = omega (arith, some) in
+    let o : Origin = began (worlds.first opening slots (callers - 1)) in
+    let of_lock : locks.AreNew lock o callers seats = subst (λ (w : worlds.Shown). locks.AreNew lock (began w) callers seats) world new in
+    let all : AreNewSeats (id_of lock o) opening (callers - 1 + 1) dealt = deals lock o (callers - 1) (subst (λ (n : ℕ). locks.AreNew lock o n seats) (sym more) of_lock) free in
+    rw counted (subst (λ (n : ℕ). AreNewSeats (id_of lock o) opening n dealt) more all)

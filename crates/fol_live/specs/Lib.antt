@@ -1,11 +1,15 @@
+pub mod Shown
 pub mod Kept
+pub mod Results
+pub mod Turns
+pub mod Rounds
+pub mod Hands
+pub mod Laws
 pub mod Seat
 pub mod Turned
 pub mod Calls
 pub mod Lives
-pub mod Results
 pub mod Goes
-pub mod Busy
 pub mod Seats
 pub mod OneTurn
 pub mod Held

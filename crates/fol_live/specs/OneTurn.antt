@@ -1,25 +1,30 @@
 -- What a turn adds to what its seat knows.
-use Rattle.std.specs.Prelude.{ℕ, ◌≡◌, List, [], ◌∷◌, ◌++◌}
+use Rattle.std.specs.Prelude.{◌≡◌, List, [], ◌∷◌, ◌++◌}
+use Rattle.std.specs.List.{AllByRecursion}
 use Rattle.fol_model.specs.declared.events.Event.{Event}
 use Rattle.fol_model.specs.declared.events.Entry.{Entry}
-use Rattle.fol_core.specs.Meaning.{Records, Stays, world_of}
-use Rattle.fol_core.specs.Quiet.{quiet_ticks}
-use Rattle.fol_live.specs.Calls.{PassesOver, Turn}
-use Rattle.fol_live.specs.Goes.{Goes}
+use Rattle.fol_core.specs.Meaning.{Records, Stays}
 use Rattle.fol_live.specs.Kept.{Keeps}
+use Rattle.fol_live.specs.Turns.{IsLate}
+use Rattle.fol_live.specs.Calls.{Turn}
+use Rattle.fol_live.specs.Goes.{Goes}
 use Rattle.fol_live.specs.Seat.{Shown, meaning_of}
 
--- the seat recorded just this event, and it is the last that it has seen
+-- the seat recorded Begins that it learnt of, and then just this event, and it is the last that it has seen
 pub record EndsWith (old new : Shown) (event : Event) : Type 0 where
-  pub goes : Goes old new ((record { by = old.number; event = event }) ∷ [])
+  pub learnt : List Entry
+  pub late : AllByRecursion (IsLate old.number) learnt
+  pub goes : Goes old new (learnt ++ (record { by = old.number; event = event }) ∷ [])
   pub others : List Entry
   pub last : new.seen ≡ old.seen ++ (others ++ (record { by = old.number; event = event }) ∷ [])
-  pub keeps : Keeps new.opening new.seen
+  pub keeps : Keeps new.lock.workers new.opening new.seen
 
--- the seat recorded nothing
+-- the seat recorded nothing but Begins that it learnt of
 pub record EndsStill (old new : Shown) : Type 0 where
-  pub goes : Goes old new []
-  pub keeps : Keeps new.opening new.seen
+  pub learnt : List Entry
+  pub late : AllByRecursion (IsLate old.number) learnt
+  pub goes : Goes old new learnt
+  pub keeps : Keeps new.lock.workers new.opening new.seen
 
 -- ---- laws
 
@@ -30,8 +35,3 @@ OneEventIsOwn = (old now new : Shown) (event : Event) → Turn old now new → R
 -- a turn in which it recorded none
 abbrev pub NoEventIsOwn : Type 0
 NoEventIsOwn = (old now new : Shown) → Turn old now new → Stays (meaning_of now) (meaning_of new) → EndsStill old new
-
--- a turn in which it passed over ticks
-abbrev pub PassedTicksAreOwn : Type 0
-PassedTicksAreOwn = (old new : Shown) (n : ℕ) → (did : PassesOver old new n)
-    → Goes old new (quiet_ticks old.number did.region ((world_of (meaning_of did.now)).tick did.region) n) × Keeps new.opening new.seen

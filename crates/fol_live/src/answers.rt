@@ -1,8 +1,7 @@
-//! What the calls of a shared world return, where a core's own answers don't say it.
+//! What the calls of a world return, where a core's own answers don't say it.
 
-use fol_core::{Next, Tick};
+use fol_data::Tick;
 use fol_model::OwnerRow;
-use std::alloc::AllocError;
 
 /// What opening a phase came to.
 #[derive(Clone, Copy, Debug, PartialEq, Eq)]
@@ -16,33 +15,13 @@ pub enum LivePhase {
     Over,
 }
 
-/// What beginning a tick came to.
+/// What looking for a tick came to.
 #[derive(Drop)]
-pub enum LiveBegin {
-    /// A region ticks, and this is its tick.
+pub enum TryBegin {
+    /// The seat claimed the tick of a region, and holds it.
     Got(Tick),
-    /// No Ready region owes a tick.
+    /// No slot had a tick when it was looked at.
     Idle,
-    /// Finish or Stop stands in the history.
-    Over,
-}
-
-/// Ticks that were passed over.
-#[derive(Clone, Copy)]
-pub(crate) struct Passed {
-    pub(crate) region: u64,
-    /// How many.
-    pub(crate) ticks: u32,
-}
-
-/// What ending a tick and beginning the next one in its place came to, where the End was recorded.
-#[derive(Drop)]
-pub struct Renewal {
-    /// The length of the history with the End.
-    pub length: u64,
-
-    /// What asking for the next tick came to, right behind the End.
-    pub begun: Result<Next, AllocError>,
 }
 
 /// Which region owns each present section, after so much of the history.

@@ -1,8 +1,9 @@
 //! A seat as the host of its tick.
 
-ghost use Rattle.std.specs.Prelude.{◌≡◌, true};
-ghost use Rattle.fol_live.specs.Busy.{is_busy};
-ghost use Rattle.fol_live.specs.Goes.{Serves};
+ghost use Rattle.std.specs.Prelude.{◌≡◌, IsSome};
+ghost use Rattle.fol_live.specs.Goes.{Hosts};
+ghost use Rattle.fol_live.specs.Lives.{live_id};
+ghost use Rattle.fol_live.specs.Seat.{held};
 
 use crate::live::Live;
 use crate::seat::Seat;
@@ -19,17 +20,15 @@ pub struct LiveHost<'a, R: Wait> {
     rt: &'a R,
     live: &'a Live,
     seat: Seat,
-    ghost own: { seat.lock ≡ live.now.lock.table.shared.table_id },
-    ghost holds: { is_busy seat.mine ≡ true },
+    ghost own: { seat.lock ≡ live_id live.now },
+    ghost holds: { IsSome (held seat) },
 }
 
 impl<'a, R: Wait> LiveHost<'a, R> {
-    ghost use Rattle.fol_live.specs.Lives.{live_id};
-
-    /// The host of a seat of this world that holds a tick: of its Begins and Ends the last is a Begin. Takes no memory.
+    /// The host of a seat of this world that holds a tick. Takes no memory.
     pub fn of(rt: &'a R, live: &'a Live, seat: Seat) -> LiveHost<'a, R>
         requires own { seat.lock ≡ live_id live.now }
-        requires holds { is_busy seat.mine ≡ true }
+        requires holds { IsSome (held seat) }
         ensures seat { result.seat ≡ seat }
     {
         LiveHost { rt, live, seat }
@@ -49,9 +48,9 @@ impl<'a, R: Wait> LiveHost<'a, R> {
 }
 
 impl<'a, R: Wait> Host for LiveHost<'a, R> {
-    ghost use Rattle.fol_live.specs.Goes.{goes_none, serves_both};
+    ghost use Rattle.fol_live.specs.Goes.{hosts_none, hosts_both};
 
-    ghost reaches = { λ a xs b. Serves a.seat xs b.seat };
+    ghost reaches = { λ a xs b. Hosts a.seat xs b.seat };
 
     fn load(&mut self, _alloc: Global, c: ChunkPos) -> Result<Loaded, AllocError> {
         self.live.load(self.rt, &mut self.seat, c)
@@ -61,7 +60,7 @@ impl<'a, R: Wait> Host for LiveHost<'a, R> {
         self.live.unload(self.rt, &mut self.seat, c)
     }
 
-    ghost stays = { λ h. goes_none h.seat };
+    ghost stays = { λ h. hosts_none h.seat };
 
-    ghost follows = { λ a b c xs ys p q. serves_both a.seat b.seat c.seat xs ys p q };
+    ghost follows = { λ a b c xs ys p q. hosts_both a.seat b.seat c.seat xs ys p q };
 }

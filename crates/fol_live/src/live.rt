@@ -1,45 +1,55 @@
 //! The shared world.
 
-ghost use Rattle.std.specs.Prelude.{◌≡◌, ◌≢◌, ◌<◌, ◌≤◌, List, All, IfOk, IfErr, IsTrue};
+ghost use Rattle.std.specs.Prelude.{◌≡◌, ◌≢◌, ◌-◌, ◌<◌, ◌≤◌, List, None, All, IfOk, IfErr, IsTrue};
 ghost use Rattle.fol_model.specs.declared.closings.OwnerRow.{OwnerRow};
 ghost use Rattle.fol_model.specs.Geometry.{is_chunk};
 ghost use Rattle.fol_model.specs.Limits.{is_action, is_delay, may_post};
-ghost use Rattle.fol_core.specs.Ticks.{IsOut};
 ghost use Rattle.fol_lock.specs.Lock.{seat_count};
-ghost use Rattle.fol_live.specs.Calls.{Begins, Closes, Finishes, ListsOwners, Loads, Opens, PassesOver, Posts, Releases, ReleasesAndBegins, Stops, Unloads};
-ghost use Rattle.fol_live.specs.Lives.{live_id};
-ghost use Rattle.fol_live.specs.Seat.{meaning_of};
-ghost use Rattle.fol_live.specs.Seats.{AreAllSeats, AreNewSeats, ClosesAll, ClosingFault};
+ghost use Rattle.fol_slots.specs.Table.{slot_count};
+ghost use Rattle.fol_live.specs.Results.{released_of};
 
-use crate::answers::{LiveBegin, LivePhase, Owners, Passed, Renewal};
+use crate::answers::{LivePhase, Owners, TryBegin};
+use crate::deal::deal;
 use crate::seat::Seat;
-use crate::world::World;
-use fol_core::{Close, CloseFault, Finish, Posting, Tick};
+use crate::turn::{end, meet};
+use crate::world::{World, WorldAndSeats};
+use fol_core::{Close, CloseFault, Finish, Posting};
+use fol_data::Tick;
 use fol_lock::{Lock, LockAndSeats};
 use fol_model::{Action, ChunkPos, Closing, Loaded, Opening, OwnerRow, Unloaded};
+use fol_offers::Offer;
+use fol_slots::Slots;
 use std::alloc::{AllocError, Global};
 use std::sync::Wait;
 
-/// One world, changed by one seat at a time.
+/// One world, changed by one seat at a time, whose ticks are claimed without waiting for anybody.
 ///
-/// Each call with a seat waits for the seat's turn, and nothing is promised of when it returns. Its answer is that of a core at this
-/// turn. The seat's number and opening stay; what it has seen goes on to the whole history, which is a run of the opening; and its own
-/// entries grow by the one event of the call, last in what it has seen, or by none; `renew` may record two, an End and the
-/// Begin behind it, and `pass` the Begin and the End of each tick that it passes over. Out of memory records nothing.
+/// Each call with a seat but `try_begin` waits for the seat's turn, and nothing is promised of when it returns. Its answer is that of a core
+/// at this turn. The seat's number and opening stay; what it has seen goes on to the whole history, which is a run of the opening; and its own
+/// entries grow by the Begins of other workers that it learns of, and then by the one event of the call, last in what it has seen, or by none.
+/// If the seat holds a tick whose Begin nobody has learnt of, it records that first. Out of memory records no event.
 #[derive(Drop)]
 pub struct Live {
     pub(crate) lock: Lock<World>,
+    pub(crate) slots: Slots<Offer>,
+    ghost sized: { slot_count slots ≡ 1820 },
 }
 
 /// What `Live::start` makes.
 pub struct LiveAndSeats {
     pub live: Live,
 
-    /// Numbered from 0, in order.
+    /// Numbered from 0, in order. Seat 0 claims no ticks, and each other one is a worker's.
     pub seats: Vec<Seat>,
 }
 
 impl Live {
+    ghost use Rattle.fol_live.specs.Calls.{AsksForEnd, Closes, Finishes, ListsOwners, Loads, Opens, Posts, Releases, Stops, TriesToBegin, Unloads};
+    ghost use Rattle.fol_live.specs.Held.{HoldsRun};
+    ghost use Rattle.fol_live.specs.Lives.{live_id};
+    ghost use Rattle.fol_live.specs.Seat.{held};
+    ghost use Rattle.fol_live.specs.Seats.{AreAllSeats, AreNewSeats, ClosesAll, ClosingFault};
+
     /// The world of an opening before any event, with 1 to 65 seats. Fails only when out of memory.
     pub fn start(alloc: Global, opening: Opening, callers: u32) -> Result<LiveAndSeats, AllocError>
         requires count { (0 < callers) × (callers ≤ 65) }
@@ -47,30 +57,28 @@ impl Live {
         ensures seats { IfOk result (λ made.
             AreNewSeats (live_id made.live) opening callers made.seats.items) }
     {
-        let world = World::start(alloc, opening)?;
-        let mut dealt = Vec::with_capacity(alloc, callers as usize)?;
+        let WorldAndSeats {
+            world,
+            slots,
+            seats: workers,
+        } = World::start(alloc, opening, callers - 1)?;
         let LockAndSeats { lock, seats } = Lock::new(alloc, world, callers)?;
-        for seat in seats.into_vec() {
-            dealt.push_reserved(Seat {
-                seat,
-                front: 0,
-                region: 0,
-            });
-        }
+        let seats = deal(alloc, seats.into_vec(), workers.into_vec())?;
         Ok(LiveAndSeats {
-            live: Live { lock },
-            seats: dealt,
+            live: Live { lock, slots },
+            seats,
         })
     }
 
     /// Ends the world, given all its seats. The closing's opening is theirs, its history begins with what each has seen and has of
     /// each just its own entries, and no others, and its rows are those after that history. Returns Ticking exactly where a region
-    /// ticks, with the lowest such id, or out of memory; all is then dropped.
+    /// ticks, with the lowest such id, or out of memory; all is then dropped. A tick that is held by a seat still makes its region tick, even
+    /// where nobody had learnt of it.
     pub fn close(self, alloc: Global, seats: Vec<Seat>) -> Result<Closing, CloseFault>
         requires own { All (λ seat. seat.lock ≡ live_id self) seats.items }
         requires all { AreAllSeats (seat_count self.lock) seats.items }
-        ensures closing { IfOk result (λ c. ClosesAll seats.items c) }
-        ensures fault { IfErr result (λ f. ClosingFault seats.items f) }
+        ensures closing { IfOk result (λ c. ClosesAll (seat_count self.lock - 1) seats.items c) }
+        ensures fault { IfErr result (λ f. ClosingFault (seat_count self.lock - 1) seats.items f) }
     {
         let Ok(mut inner) = Vec::with_capacity(alloc, seats.len()) else {
             return Err(CloseFault::NoMemory);
@@ -78,14 +86,14 @@ impl Live {
         for seat in seats {
             let Seat {
                 seat,
+                hand: _,
                 front: _,
-                region: _,
             } = seat;
             inner.push_reserved(seat);
         }
-        let Live { lock } = self;
+        let Live { lock, slots } = self;
         let world = lock.close(inner);
-        world.into_core().closing(alloc)
+        world.into_core(&slots, 0).closing(alloc)
     }
 
     /// How many seats have their turn or wait for it, as a hint: it may have changed when it is read. Takes no turn and no memory.
@@ -98,9 +106,11 @@ impl Live {
         requires own { seat.old.lock ≡ live_id self.now }
         ensures { ListsOwners seat.old seat.new result }
     {
-        let turn = self.lock.take(rt, &mut seat.seat);
-        let answer = turn.state_ref().owner_rows();
-        let front = turn.state_ref().front();
+        let mut turn = self.lock.take(rt, &mut seat.seat);
+        let world = turn.state();
+        seat.hand = meet(world, &self.slots, seat.hand.take());
+        let answer = world.owner_rows();
+        let front = world.front();
         seat.front = front;
         self.lock.give(&mut seat.seat, turn);
         owners_after(front, answer)
@@ -115,8 +125,10 @@ impl Live {
     {
         let by = seat.seat.number();
         let mut turn = self.lock.take(rt, &mut seat.seat);
-        let answer = turn.state().load(by, c);
-        seat.front = turn.state_ref().front();
+        let world = turn.state();
+        seat.hand = meet(world, &self.slots, seat.hand.take());
+        let answer = world.load(&self.slots, by, c);
+        seat.front = world.front();
         self.lock.give(&mut seat.seat, turn);
         answer
     }
@@ -135,8 +147,10 @@ impl Live {
     {
         let by = seat.seat.number();
         let mut turn = self.lock.take(rt, &mut seat.seat);
-        let answer = turn.state().unload(by, c);
-        seat.front = turn.state_ref().front();
+        let world = turn.state();
+        seat.hand = meet(world, &self.slots, seat.hand.take());
+        let answer = world.unload(&self.slots, by, c);
+        seat.front = world.front();
         self.lock.give(&mut seat.seat, turn);
         answer
     }
@@ -160,8 +174,10 @@ impl Live {
     {
         let by = seat.seat.number();
         let mut turn = self.lock.take(rt, &mut seat.seat);
-        let answer = turn.state().post(by, c, delay, action);
-        seat.front = turn.state_ref().front();
+        let world = turn.state();
+        seat.hand = meet(world, &self.slots, seat.hand.take());
+        let answer = world.post(&self.slots, by, c, delay, action);
+        seat.front = world.front();
         self.lock.give(&mut seat.seat, turn);
         answer
     }
@@ -179,8 +195,10 @@ impl Live {
     {
         let by = seat.seat.number();
         let mut turn = self.lock.take(rt, &mut seat.seat);
-        let answer = turn.state().open_phase(by, n);
-        seat.front = turn.state_ref().front();
+        let world = turn.state();
+        seat.hand = meet(world, &self.slots, seat.hand.take());
+        let answer = world.open_phase(&self.slots, by, n);
+        seat.front = world.front();
         self.lock.give(&mut seat.seat, turn);
         answer
     }
@@ -193,8 +211,10 @@ impl Live {
     {
         let by = seat.seat.number();
         let mut turn = self.lock.take(rt, &mut seat.seat);
-        let answer = turn.state().close_phase(by);
-        seat.front = turn.state_ref().front();
+        let world = turn.state();
+        seat.hand = meet(world, &self.slots, seat.hand.take());
+        let answer = world.close_phase(&self.slots, by);
+        seat.front = world.front();
         self.lock.give(&mut seat.seat, turn);
         answer
     }
@@ -207,8 +227,10 @@ impl Live {
     {
         let by = seat.seat.number();
         let mut turn = self.lock.take(rt, &mut seat.seat);
-        let answer = turn.state().finish(by);
-        seat.front = turn.state_ref().front();
+        let world = turn.state();
+        seat.hand = meet(world, &self.slots, seat.hand.take());
+        let answer = world.finish(&self.slots, by);
+        seat.front = world.front();
         self.lock.give(&mut seat.seat, turn);
         answer
     }
@@ -220,98 +242,76 @@ impl Live {
     {
         let by = seat.seat.number();
         let mut turn = self.lock.take(rt, &mut seat.seat);
-        turn.state().stop(by);
-        seat.front = turn.state_ref().front();
+        let world = turn.state();
+        seat.hand = meet(world, &self.slots, seat.hand.take());
+        world.stop(&self.slots, by);
+        seat.front = world.front();
         self.lock.give(&mut seat.seat, turn);
     }
 
-    /// Begins and ends ticks in which nothing happens with the seat's number, which is not 0, as their worker: of one region, the one
-    /// that `begin` would take, as long as it owes a tick, no task is due in it, none of its entities has a speed and its release changes
-    /// nothing, but at most `most`, and none after Finish or Stop. Returns how many. It may be fewer than there are: a tick of which this
-    /// would take long to tell, or for which no memory is found, is left to `begin`.
-    pub fn pass<R: Wait>(&self, rt: &R, seat: &mut Seat, most: u32) -> u32
+    /// Whether Finish or Stop stands in the history. Records nothing but Begins that the seat learns of.
+    pub fn ended<R: Wait>(&self, rt: &R, seat: &mut Seat) -> bool
         requires own { seat.old.lock ≡ live_id self.now }
-        requires worker { seat.old.number ≢ 0 }
-        ensures few { result ≤ most }
-        ensures passed { PassesOver seat.old seat.new result }
+        ensures { AsksForEnd seat.old seat.new result }
     {
-        let by = seat.seat.number();
         let mut turn = self.lock.take(rt, &mut seat.seat);
-        let Passed { region, ticks } = turn.state().pass(by, seat.region, most);
-        seat.front = turn.state_ref().front();
-        seat.region = region;
-        self.lock.give(&mut seat.seat, turn);
-        ticks
-    }
-
-    /// Begins a tick with the seat's number, which is not 0, as its worker. Over exactly where Finish or Stop stands in the history,
-    /// else Idle exactly where no Ready region owes a tick; regions that tick don't count. Which region it takes is free. Only Got is
-    /// recorded.
-    pub fn begin<R: Wait>(
-        &self,
-        rt: &R,
-        alloc: Global,
-        seat: &mut Seat,
-    ) -> Result<LiveBegin, AllocError>
-        requires own { seat.old.lock ≡ live_id self.now }
-        requires worker { seat.old.number ≢ 0 }
-        ensures { Begins seat.old seat.new result }
-    {
-        let by = seat.seat.number();
-        let mut turn = self.lock.take(rt, &mut seat.seat);
-        // The region whose tick the seat ended last comes first: its data are at hand.
-        let answer = turn.state().begin(alloc, by, seat.region);
-        seat.front = turn.state_ref().front();
+        let world = turn.state();
+        seat.hand = meet(world, &self.slots, seat.hand.take());
+        let answer = world.is_over();
+        seat.front = world.front();
         self.lock.give(&mut seat.seat, turn);
         answer
     }
 
-    /// Ends a tick of this seat that has run. Returns the length of the history with its End, or out of memory with the tick, which is
-    /// the same. It also works after a Stop.
+    /// Looks for a tick that is offered, and claims it for the seat, which is a worker's and holds none. It takes no memory and does not wait.
+    /// The slots are gone over once, from the one on at which the seat found its last tick, and round; Idle is returned only where each
+    /// slot had no tick when it was looked at. The tick was made at a history of length `begun`, where its Begin was allowed; the Begin stands
+    /// there or later, with nothing between that touches its region, and whoever learns of it first records it, at the latest this
+    /// seat at its next call.
+    pub fn try_begin(&self, seat: &mut Seat) -> TryBegin
+        requires own { seat.old.lock ≡ live_id self.now }
+        requires worker { seat.old.number ≢ 0 }
+        requires free { held seat.old ≡ None }
+        ensures { TriesToBegin seat.old seat.new result }
+    {
+        let number = seat.seat.number();
+        match &mut seat.hand {
+            Some(hand) => match hand.claim(&self.slots) {
+                Some(mut tick) => {
+                    tick.worker = number;
+                    TryBegin::Got(tick)
+                }
+                None => TryBegin::Idle,
+            },
+            None => unreachable!(),
+        }
+    }
+
+    /// Ends the tick that the seat holds, once all of its tasks ran. Returns the length of the history with the End, or out of memory with the
+    /// tick, which is the same, and which the seat holds still. It also works after a Stop.
+    ///
+    /// Behind the End the seat may begin and end further ticks in which nothing happens, of the region if it owes some, but at most `most`: where
+    /// no task is due in them, no entity has a speed and their release changes nothing. Which of them it leaves to `try_begin` is free.
     pub fn release<R: Wait>(
         &self,
         rt: &R,
-        alloc: Global,
         seat: &mut Seat,
         tick: Tick,
+        most: u32,
     ) -> Result<u64, Tick>
         requires own { seat.old.lock ≡ live_id self.now }
-        requires mine { tick.worker ≡ seat.old.number }
-        requires out { IsOut (meaning_of seat.old) tick }
-        ensures { Releases seat.old seat.new tick result }
+        requires ran { HoldsRun seat.old tick }
+        ensures { Releases seat.old seat.new tick most result }
     {
-        let region = tick.region;
+        let mut tick = tick;
         let mut turn = self.lock.take(rt, &mut seat.seat);
-        let answer = turn.state().release(alloc, tick);
-        seat.front = turn.state_ref().front();
-        seat.region = region;
+        let world = turn.state();
+        let hand = meet(world, &self.slots, seat.hand.take());
+        let (hand, answer) = end(world, &self.slots, hand, &mut tick, most);
+        seat.hand = hand;
+        seat.front = world.front();
         self.lock.give(&mut seat.seat, turn);
-        answer
-    }
-
-    /// Ends a tick of this seat that has run, as `release` does, and begins the next one as `begin` does, in one turn with nothing
-    /// between. The next tick takes the place of the one that ended; where memory was not found for the End, the tick is the same, and
-    /// none is begun.
-    pub fn renew<R: Wait>(
-        &self,
-        rt: &R,
-        alloc: Global,
-        seat: &mut Seat,
-        tick: &mut Tick,
-    ) -> Result<Renewal, AllocError>
-        requires own { seat.old.lock ≡ live_id self.now }
-        requires worker { seat.old.number ≢ 0 }
-        requires mine { tick.old.worker ≡ seat.old.number }
-        requires out { IsOut (meaning_of seat.old) tick.old }
-        ensures { ReleasesAndBegins seat.old seat.new tick.old tick.new result }
-    {
-        let region = tick.region;
-        let mut turn = self.lock.take(rt, &mut seat.seat);
-        let answer = turn.state().renew(alloc, tick);
-        seat.front = turn.state_ref().front();
-        seat.region = region;
-        self.lock.give(&mut seat.seat, turn);
-        answer
+        released(answer, tick)
     }
 }
 
@@ -324,5 +324,15 @@ fn owners_after(front: u64, answer: Result<Vec<OwnerRow>, AllocError>) -> Result
     match answer {
         Ok(rows) => Ok(Owners { front, rows }),
         Err(_) => Err(AllocError),
+    }
+}
+
+/// What giving a tick back came to.
+fn released(answer: Result<u64, AllocError>, tick: Tick) -> Result<u64, Tick>
+    ensures { result ≡ released_of answer tick }
+{
+    match answer {
+        Ok(length) => Ok(length),
+        Err(_) => Err(tick),
     }
 }

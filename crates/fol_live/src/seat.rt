@@ -2,28 +2,30 @@
 
 ghost use Rattle.std.specs.Prelude.{◌≡◌, length};
 
+use crate::hand::Hand;
 use crate::world::World;
 use std::marker::Model;
 
-/// The right to make calls under one number. Contracts see its lock, the opening of the world, its number, what it has `seen` of the
-/// history, and the entries that are `mine`.
+/// The right to make calls under one number. Contracts see its world, the opening, its number, what it has `seen` of the history, the
+/// entries that are `mine`, and what a worker has of the slots: the tick that it holds, if it claimed one.
 #[derive(Drop)]
 pub struct Seat {
     pub(crate) seat: fol_lock::Seat<World>,
+    /// What it has of the slots; seat 0 has nothing there.
+    pub(crate) hand: Option<Hand>,
     /// How many entries it has seen.
     pub(crate) front: u64,
-    /// The region whose tick it ended last, or 0.
-    pub(crate) region: u64,
 }
 
 impl Model for Seat {
-    ghost use Rattle.fol_live.specs.Seat.{Shown, shown, opening_of, IsSeat, HasFront};
+    ghost use Rattle.fol_live.specs.Seat.{HasFront, HasHand, IsSeat, Shown, origin_of, shown};
 
     ghost Value = { Shown };
 
-    ghost view = { λ s. shown (opening_of s.seat.origin) s.seat };
+    ghost view = { λ s. shown (origin_of s.seat.origin) s.seat s.hand };
 
-    ghost invariant = { λ s. IsSeat (opening_of s.seat.origin) s.seat × HasFront s.front s.seat };
+    ghost invariant = { λ s. IsSeat (origin_of s.seat.origin) s.seat
+        × HasHand (origin_of s.seat.origin) s.seat.number s.hand × HasFront s.front s.seat };
 }
 
 impl Seat {

@@ -1,52 +1,73 @@
 //! The state behind the lock.
 
-ghost use Rattle.std.specs.Prelude.{◌≡◌, ◌≢◌, ◌≤◌, [], length, IfOk, IfErr, OnOk, OnErr, IsTrue};
+ghost use Rattle.std.specs.Prelude.{◌≡◌, ◌+◌, ◌≤◌, ◌<◌, [], length, IfOk, IfErr, IsTrue};
 ghost use Rattle.fol_model.specs.Geometry.{is_chunk};
 ghost use Rattle.fol_model.specs.Limits.{is_action, is_delay, may_post};
 ghost use Rattle.fol_model.specs.Outputs.{owner_rows};
+ghost use Rattle.fol_slots.specs.Shown.{AreNew};
+ghost use Rattle.fol_slots.specs.Table.{slot_count, slots_id};
 ghost use Rattle.fol_core.specs.Ahead.{NonePrepared};
-ghost use Rattle.fol_core.specs.Answers.{CloseRecords, FinishRecords, LoadRecords, PostRecords, StopRecords, UnloadRecords, close_result, finish_result, is_over, load_result, post_result, unload_result};
-ghost use Rattle.fol_world.specs.AtEnd.{end_event};
-ghost use Rattle.fol_core.specs.Meaning.{Records, Stays, world_of};
-ghost use Rattle.fol_core.specs.Quiet.{Passes};
-ghost use Rattle.fol_core.specs.Ticks.{IsOut, SameTick};
-ghost use Rattle.fol_live.specs.Results.{EndsAndBegins, LiveBegins, LivePhaseRecords, begun_in, live_phase_result};
-ghost use Rattle.fol_live.specs.Kept.{Keeps};
+ghost use Rattle.fol_core.specs.Answers.{is_over as over};
+ghost use Rattle.fol_core.specs.Meaning.{world_of};
+ghost use Rattle.fol_live.specs.Kept.{IsKept};
+ghost use Rattle.fol_live.specs.Shown.{first, meaning_of};
+ghost use Rattle.fol_live.specs.Turns.{Closes, Finishes, Learns, Loads, Opens, Posts, SameWorld, Stops, Unloads};
 
-use crate::answers::{LiveBegin, LivePhase, Passed, Renewal};
-use fol_core::{BeginAnswer, Close, Core, Finish, Next, Phase, Posting, Tick};
+use crate::answers::LivePhase;
+use crate::origin::Origin;
+use fol_core::{Close, Core, Finish, Phase, Posting};
 use fol_lock::Kept;
 use fol_model::{Action, ChunkPos, Entry, Loaded, Opening, OwnerRow, Unloaded};
+use fol_offers::{Offer, Offers, OffersAndSeats};
+use fol_slots::{Slots, WorkerSeat, WorkerSeats};
 use std::alloc::{AllocError, Global};
 use std::marker::Model;
+
+/// How many slots there are: one for each region that can be Ready or Ticking at once.
+pub(crate) const SLOTS: u32 = 1820;
 
 /// How many ticks all phases may have together.
 const MOST_TICKS: u32 = 10_000;
 
-/// A core whose history is a run, in which each entry is recorded by the seat whose number it names, and in which no region is prepared.
-/// It is boxed, so that a turn of the lock moves a pointer.
+/// A core whose ticks are offered in slots, with a history that keeps what every history of seats keeps. Each Ready region that owes a tick
+/// is offered, or a worker has claimed its tick, unless memory was not found for that; the next call then tries it again. It is boxed, so that
+/// a turn of the lock moves a pointer.
 #[derive(Drop)]
 pub struct World {
-    core: Box<Core>,
+    pub(crate) offers: Box<Offers>,
+    /// Whether there may be a tick that is owed and not offered.
+    pub(crate) is_short: bool,
+    pub(crate) alloc: Global,
+}
+
+/// What `World::start` makes.
+pub struct WorldAndSeats {
+    pub world: World,
+    pub slots: Slots<Offer>,
+    /// The workers' seats, in order of their numbers.
+    pub seats: WorkerSeats<Offer>,
 }
 
 impl Model for World {
-    ghost use Rattle.fol_core.specs.Meaning.{Meaning};
+    ghost use Rattle.std.specs.Prelude.{◌≡◌, false};
+    ghost use Rattle.fol_offers.specs.Shown.{NoneFree};
     ghost use Rattle.fol_live.specs.Kept.{IsKept};
+    ghost use Rattle.fol_live.specs.Shown.{Shown, shown};
 
-    ghost Value = { Meaning };
+    ghost Value = { Shown };
 
-    ghost view = { λ w. w.core.value };
+    ghost view = { λ w. shown w.offers.value };
 
-    ghost invariant = { λ w. IsKept w.core.value };
+    ghost invariant = { λ w. IsKept (shown w.offers.value)
+        × (w.is_short ≡ false → NoneFree w.offers.value.core) };
 }
 
 impl Kept for World {
-    type Origin = Opening;
+    type Origin = Origin;
 
     type Entry = Entry;
 
-    ghost origin = { λ w. w.opening };
+    ghost origin = { λ w. record { opening = w.opening; slots = w.slots; workers = w.workers } };
 
     ghost log = { λ w. w.history };
 
@@ -54,111 +75,159 @@ impl Kept for World {
 }
 
 impl World {
-    /// The world of an opening, before any event. Fails only when out of memory.
-    pub(crate) fn start(alloc: Global, opening: Opening) -> Result<World, AllocError>
-        ensures opening { IfOk result (λ w. w.opening ≡ opening) }
-        ensures empty { IfOk result (λ w. w.history ≡ []) }
+    /// The world of an opening, before any event, with its slots, and seats for so many workers. Fails only when out of memory.
+    pub fn start(alloc: Global, opening: Opening, workers: u32) -> Result<WorldAndSeats, AllocError>
+        requires workers { workers ≤ 64 }
+        ensures world { IfOk result (λ made.
+            made.world ≡ first opening (slots_id made.slots) workers) }
+        ensures count { IfOk result (λ made. slot_count made.slots ≡ 1820) }
+        ensures seats { IfOk result (λ made. AreNew (slots_id made.slots) workers made.seats) }
     {
         // A proof learns where a field is read that the numbers of the grid are within their limits.
         let _grid = opening.grid;
         let core = Core::start(alloc, opening)?;
-        let core = Box::new(alloc, core)?;
-        Ok(World { core })
+        let OffersAndSeats {
+            offers,
+            slots,
+            seats,
+        } = Offers::start(alloc, core, SLOTS, workers)?;
+        let offers = Box::new(alloc, offers)?;
+        let world = World {
+            offers,
+            is_short: true,
+            alloc,
+        };
+        Ok(WorldAndSeats {
+            world,
+            slots,
+            seats,
+        })
+    }
+
+    /// The history keeps what every history of seats keeps.
+    pub fn keeps(&self)
+        ensures { IsKept self.now }
+    {
+        let _offers = &self.offers;
     }
 
     /// The length of the history.
-    pub(crate) fn front(&self) -> u64
+    pub fn front(&self) -> u64
         ensures { result ≡ length self.now.history }
     {
-        self.core.history().len() as u64
+        self.offers.front()
     }
 
-    /// `Core::owner_rows`.
-    pub(crate) fn owner_rows(&self) -> Result<Vec<OwnerRow>, AllocError>
-        ensures keeps { Keeps self.now.opening self.now.history }
-        ensures rows { IfOk result (λ rows. rows.items ≡ owner_rows (world_of self.now)) }
+    /// Whether Finish or Stop stands in the history.
+    pub fn is_over(&self) -> bool
+        ensures { result ≡ over (world_of (meaning_of self.now)) }
     {
-        self.core.owner_rows()
+        self.offers.is_over()
     }
 
-    /// `Core::load` by the seat of this number.
-    pub(crate) fn load(&mut self, by: u32, c: ChunkPos) -> Result<Loaded, AllocError>
+    /// Whether a phase is open.
+    pub fn in_phase(&self) -> bool
+        ensures { result ≡ (world_of (meaning_of self.now)).in_phase }
+    {
+        self.offers.in_phase()
+    }
+
+    /// The ticks of all phases so far.
+    pub fn phase_ticks(&self) -> u32
+        ensures { result ≡ (world_of (meaning_of self.now)).sum }
+    {
+        self.offers.phase_ticks()
+    }
+
+    /// Which region owns each present section, by `(z, x)`. Fails only when out of memory.
+    pub fn owner_rows(&self) -> Result<Vec<OwnerRow>, AllocError>
+        ensures { IfOk result (λ rows. rows.items ≡ owner_rows (world_of (meaning_of self.now))) }
+    {
+        self.offers.owner_rows()
+    }
+
+    /// Asks for a ticket to a chunk, by the seat of this number. Over exactly where Finish stands in the history; only Over is not
+    /// recorded.
+    pub fn load(&mut self, slots: &Slots<Offer>, by: u32, c: ChunkPos) -> Result<Loaded, AllocError>
+        requires own { self.old.slots ≡ slots_id slots.now }
         requires in_range { IsTrue (is_chunk c) }
-        ensures before { Keeps self.old.opening self.old.history }
-        ensures after { Keeps self.new.opening self.new.history }
-        ensures answer { IfOk result (λ a. a ≡ load_result (world_of self.old) c) }
-        ensures recorded { IfOk result (λ a. LoadRecords self.old self.new by c a) }
-        ensures refused { OnErr result (Stays self.old self.new) }
+        ensures { Loads self.old self.new by c result }
     {
-        let core: &mut Core = &mut self.core;
-        let answer = core.load(by, c);
-        let _entries = core.history();
+        self.is_short = true;
+        let answer = self.offers.load(slots, by, c);
+        self.offers.keeps();
+        self.offer_rest(slots);
         answer
     }
 
-    /// `Core::unload` by the seat of this number.
-    pub(crate) fn unload(&mut self, by: u32, c: ChunkPos) -> Result<Unloaded, AllocError>
-        requires in_range { IsTrue (is_chunk c) }
-        ensures before { Keeps self.old.opening self.old.history }
-        ensures after { Keeps self.new.opening self.new.history }
-        ensures answer { IfOk result (λ a. a ≡ unload_result (world_of self.old) c) }
-        ensures recorded { IfOk result (λ a. UnloadRecords self.old self.new by c a) }
-        ensures refused { OnErr result (Stays self.old self.new) }
-    {
-        let core: &mut Core = &mut self.core;
-        let answer = core.unload(by, c);
-        let _entries = core.history();
-        answer
-    }
-
-    /// `Core::post` by the seat of this number.
-    pub(crate) fn post(
+    /// Takes a ticket from a chunk, in the way of `load`.
+    pub fn unload(
         &mut self,
+        slots: &Slots<Offer>,
+        by: u32,
+        c: ChunkPos,
+    ) -> Result<Unloaded, AllocError>
+        requires own { self.old.slots ≡ slots_id slots.now }
+        requires in_range { IsTrue (is_chunk c) }
+        ensures { Unloads self.old self.new by c result }
+    {
+        self.is_short = true;
+        let answer = self.offers.unload(slots, by, c);
+        self.offers.keeps();
+        self.offer_rest(slots);
+        answer
+    }
+
+    /// Asks for a task on a chunk, in the way of `load`. Over and out of memory hand the action back.
+    pub fn post(
+        &mut self,
+        slots: &Slots<Offer>,
         by: u32,
         c: ChunkPos,
         delay: u32,
         action: Action,
     ) -> Result<Posting, Action>
+        requires own { self.old.slots ≡ slots_id slots.now }
         requires in_range { IsTrue (is_chunk c) }
         requires delay { IsTrue (is_delay delay) }
         requires action { IsTrue (is_action action) }
         requires may_be_posted { IsTrue (may_post action) }
-        ensures before { Keeps self.old.opening self.old.history }
-        ensures after { Keeps self.new.opening self.new.history }
-        ensures answer { IfOk result (λ a. a ≡ post_result (world_of self.old) c action) }
-        ensures recorded { IfOk result (λ a. PostRecords self.old self.new by c delay action a) }
+        ensures posted { Posts self.old self.new by c delay action result }
         ensures back { IfErr result (λ a. a ≡ action) }
-        ensures refused { OnErr result (Stays self.old self.new) }
     {
-        let core: &mut Core = &mut self.core;
-        let answer = core.post(by, c, delay, action);
-        let _entries = core.history();
+        self.is_short = true;
+        let answer = self.offers.post(slots, by, c, delay, action);
+        self.offers.keeps();
+        self.offer_rest(slots);
         answer
     }
 
-    /// Opens a phase of any number of ticks.
-    pub(crate) fn open_phase(&mut self, by: u32, n: u32) -> Result<LivePhase, AllocError>
-        ensures before { Keeps self.old.opening self.old.history }
-        ensures after { Keeps self.new.opening self.new.history }
-        ensures answer { IfOk result (λ a. a ≡ live_phase_result (world_of self.old) n) }
-        ensures recorded { IfOk result (λ a. LivePhaseRecords self.old self.new by n a) }
-        ensures refused { OnErr result (Stays self.old self.new) }
+    /// Opens a phase of any number of ticks. Over exactly where Finish or Stop stands in the history, else InPhase exactly where a phase is
+    /// open, else TooMany. Only Opened is recorded.
+    pub fn open_phase(
+        &mut self,
+        slots: &Slots<Offer>,
+        by: u32,
+        n: u32,
+    ) -> Result<LivePhase, AllocError>
+        requires own { self.old.slots ≡ slots_id slots.now }
+        ensures { Opens self.old self.new by n result }
     {
-        let core: &mut Core = &mut self.core;
-        let _entries = core.history();
-        if core.is_over() {
+        if self.offers.is_over() {
             return Ok(LivePhase::Over);
         }
-        if core.in_phase() {
+        if self.offers.in_phase() {
             return Ok(LivePhase::InPhase);
         }
-        let so_far = core.phase_ticks();
+        let so_far = self.offers.phase_ticks();
         if n == 0 || n > MOST_TICKS || so_far > MOST_TICKS - n {
             return Ok(LivePhase::TooMany(so_far));
         }
-        match core.open_phase(by, n)? {
+        self.is_short = true;
+        match self.offers.open_phase(by, n)? {
             Phase::Opened => {
-                let _entries = core.history();
+                self.offers.keeps();
+                self.offer_rest(slots);
                 Ok(LivePhase::Opened)
             }
             Phase::InPhase => unreachable!(),
@@ -166,179 +235,75 @@ impl World {
         }
     }
 
-    /// `Core::close_phase` by the seat of this number.
-    pub(crate) fn close_phase(&mut self, by: u32) -> Result<Close, AllocError>
-        ensures before { Keeps self.old.opening self.old.history }
-        ensures after { Keeps self.new.opening self.new.history }
-        ensures answer { IfOk result (λ a. a ≡ close_result (world_of self.old)) }
-        ensures recorded { IfOk result (λ a. CloseRecords self.old self.new by a) }
-        ensures refused { OnErr result (Stays self.old self.new) }
+    /// Closes the phase. Over exactly where Finish or Stop stands in the history, else NoPhase exactly where none is open, else NotYet
+    /// exactly where a region ticks, or is Ready and owes a tick, with the lowest such id. Only Closed is recorded. NotYet is given only
+    /// where each tick that is owed is offered: where memory was not found for that, the call fails.
+    pub fn close_phase(&mut self, slots: &Slots<Offer>, by: u32) -> Result<Close, AllocError>
+        requires own { self.old.slots ≡ slots_id slots.now }
+        ensures { Closes self.old self.new by result }
     {
-        let core: &mut Core = &mut self.core;
-        let answer = core.close_phase(by);
-        let _entries = core.history();
-        answer
-    }
-
-    /// `Core::finish` by the seat of this number.
-    pub(crate) fn finish(&mut self, by: u32) -> Result<Finish, AllocError>
-        ensures before { Keeps self.old.opening self.old.history }
-        ensures after { Keeps self.new.opening self.new.history }
-        ensures answer { IfOk result (λ a. a ≡ finish_result (world_of self.old)) }
-        ensures recorded { IfOk result (λ a. FinishRecords self.old self.new by a) }
-        ensures refused { OnErr result (Stays self.old self.new) }
-    {
-        let core: &mut Core = &mut self.core;
-        let answer = core.finish(by);
-        let _entries = core.history();
-        answer
-    }
-
-    /// `Core::stop` by the seat of this number.
-    pub(crate) fn stop(&mut self, by: u32)
-        ensures before { Keeps self.old.opening self.old.history }
-        ensures after { Keeps self.new.opening self.new.history }
-        ensures recorded { StopRecords self.old self.new by (is_over (world_of self.old)) }
-    {
-        let core: &mut Core = &mut self.core;
-        core.stop(by);
-        let _entries = core.history();
-    }
-
-    /// Begins a tick of a Ready region that owes one, by the worker of this number. It is `first` where that is one, and else which one
-    /// is free.
-    pub(crate) fn begin(
-        &mut self,
-        alloc: Global,
-        by: u32,
-        first: u64,
-    ) -> Result<LiveBegin, AllocError>
-        requires worker { by ≢ 0 }
-        ensures before { Keeps self.old.opening self.old.history }
-        ensures after { Keeps self.new.opening self.new.history }
-        ensures recorded { IfOk result (λ a. LiveBegins self.old self.new by a) }
-        ensures refused { OnErr result (Stays self.old self.new) }
-    {
-        let core: &mut Core = &mut self.core;
-        let _entries = core.history();
-        if core.is_over() {
-            return Ok(LiveBegin::Over);
-        }
-        let Some(region) = core.next_owing(first) else {
-            return Ok(LiveBegin::Idle);
-        };
-        core.reserve(alloc, region)?;
-        match core.begin(by, by, region) {
-            BeginAnswer::Got(tick) => {
-                let _entries = core.history();
-                Ok(LiveBegin::Got(tick))
+        self.is_short = true;
+        match self.offers.close_phase(by)? {
+            Close::NotYet(region) => {
+                self.offers.offer_all(self.alloc, slots)?;
+                self.offers.keeps();
+                self.is_short = false;
+                Ok(Close::NotYet(region))
             }
-            BeginAnswer::NotReady(_) => unreachable!(),
-            BeginAnswer::NotOwing => unreachable!(),
-            BeginAnswer::Over => unreachable!(),
+            answer => {
+                self.offers.keeps();
+                self.offer_rest(slots);
+                Ok(answer)
+            }
         }
     }
 
-    /// `Core::pass` by the worker of this number. The region is `first` where that is Ready and owes a tick, and else which one is free;
-    /// where none does, no tick is passed over.
-    pub(crate) fn pass(&mut self, by: u32, first: u64, most: u32) -> Passed
-        requires worker { by ≢ 0 }
-        ensures before { Keeps self.old.opening self.old.history }
-        ensures after { Keeps self.new.opening self.new.history }
-        ensures few { result.ticks ≤ most }
-        ensures passed { Passes self.old self.new by result.region result.ticks }
+    /// Finishes the history. Over exactly where Finish or Stop stands in it, else InPhase exactly where a phase is open. Only Finished is
+    /// recorded.
+    pub fn finish(&mut self, slots: &Slots<Offer>, by: u32) -> Result<Finish, AllocError>
+        requires own { self.old.slots ≡ slots_id slots.now }
+        ensures { Finishes self.old self.new by result }
     {
-        let core: &mut Core = &mut self.core;
-        let region = core.next_owing(first).unwrap_or(first);
-        let ticks = core.pass(by, region, most);
-        let _entries = core.history();
-        Passed { region, ticks }
-    }
-
-    /// `Core::release` of a tick that is out in a world that keeps what every world keeps.
-    pub(crate) fn release(&mut self, alloc: Global, tick: Tick) -> Result<u64, Tick>
-        requires out { Keeps self.old.opening self.old.history → IsOut self.old tick }
-        ensures before { Keeps self.old.opening self.old.history }
-        ensures after { Keeps self.new.opening self.new.history }
-        ensures length { IfOk result (λ n. n ≡ length self.new.history) }
-        ensures recorded { OnOk result (Records self.old self.new tick.worker
-            (end_event (world_of self.old) tick.worker tick.region tick.log.ran)) }
-        ensures back { IfErr result (λ t. SameTick tick t) }
-        ensures refused { OnErr result (Stays self.old self.new) }
-    {
-        let core: &mut Core = &mut self.core;
-        let answer = core.release(alloc, tick);
-        let _entries = core.history();
+        self.is_short = true;
+        let answer = self.offers.finish(by);
+        self.offers.keeps();
+        self.offer_rest(slots);
         answer
     }
 
-    /// `Core::end` of a tick that is out in a world that keeps what every world keeps.
-    fn end(&mut self, alloc: Global, tick: &mut Tick) -> Result<u64, AllocError>
-        requires out { Keeps self.old.opening self.old.history → IsOut self.old tick.old }
-        ensures before { Keeps self.old.opening self.old.history }
-        ensures after { Keeps self.new.opening self.new.history }
-        ensures length { IfOk result (λ n. n ≡ length self.new.history) }
-        ensures recorded { OnOk result (Records self.old self.new tick.old.worker
-            (end_event (world_of self.old) tick.old.worker tick.old.region tick.old.log.ran)) }
-        ensures same { OnErr result (SameTick tick.old tick.new) }
-        ensures refused { OnErr result (Stays self.old self.new) }
+    /// Gives up: records a Stop by this seat, once each offered tick was called back, unless the history is over. Takes no memory.
+    pub fn stop(&mut self, slots: &Slots<Offer>, by: u32)
+        requires own { self.old.slots ≡ slots_id slots.now }
+        ensures { Stops self.old self.new by }
     {
-        let core: &mut Core = &mut self.core;
-        let answer = core.end(alloc, tick);
-        let _entries = core.history();
-        answer
+        self.is_short = true;
+        self.offers.stop(slots, by);
+        self.offers.keeps();
     }
 
-    /// `begin` in place of a tick that ended.
-    fn begin_next(
-        &mut self,
-        alloc: Global,
-        by: u32,
-        first: u64,
-        tick: &mut Tick,
-    ) -> Result<Next, AllocError>
-        requires worker { by ≢ 0 }
-        ensures before { Keeps self.old.opening self.old.history }
-        ensures after { Keeps self.new.opening self.new.history }
-        ensures recorded { IfOk (begun_in tick.new result) (λ a.
-            LiveBegins self.old self.new by a) }
-        ensures refused { OnErr (begun_in tick.new result) (Stays self.old self.new) }
+    /// Offers each tick that is owed and not offered, as far as memory is found.
+    pub(crate) fn offer_rest(&mut self, slots: &Slots<Offer>)
+        requires own { self.old.slots ≡ slots_id slots.now }
+        ensures { self.new ≡ self.old }
     {
-        let core: &mut Core = &mut self.core;
-        let _entries = core.history();
-        let answer = core.begin_next(alloc, by, first, tick);
-        let _entries = core.history();
-        answer
-    }
-
-    /// `release`, and behind it `begin` by the tick's worker, of the same region first, both in place.
-    pub(crate) fn renew(&mut self, alloc: Global, tick: &mut Tick) -> Result<Renewal, AllocError>
-        requires out { Keeps self.old.opening self.old.history → IsOut self.old tick.old }
-        requires worker { tick.old.worker ≢ 0 }
-        ensures before { Keeps self.old.opening self.old.history }
-        ensures after { Keeps self.new.opening self.new.history }
-        ensures next { IfOk result (EndsAndBegins self.old self.new tick.old tick.new) }
-        ensures same { OnErr result (SameTick tick.old tick.new) }
-        ensures refused { OnErr result (Stays self.old self.new) }
-    {
-        let worker = tick.worker;
-        let region = tick.region;
-        match self.end(alloc, tick) {
-            Ok(length) => Ok(Renewal {
-                length,
-                begun: self.begin_next(alloc, worker, region, tick),
-            }),
-            Err(_) => Err(AllocError),
+        self.is_short = true;
+        if self.offers.offer_all(self.alloc, slots).is_ok() {
+            self.is_short = false;
         }
     }
 
-    /// The core itself.
-    pub(crate) fn into_core(self) -> Core
-        ensures same { result ≡ self }
-        ensures keeps { Keeps self.opening self.history }
+    /// The core itself, once each offered tick was called back: Begins that are learnt so are recorded by this seat. Takes no memory.
+    pub fn into_core(self, slots: &Slots<Offer>, by: u32) -> Core
+        requires own { self.slots ≡ slots_id slots.now }
+        ensures learns { Learns self (record self { history = result.history }) by }
+        ensures opening { result.opening ≡ self.opening }
         ensures none { NonePrepared result }
     {
-        let World { core } = self;
-        Box::into_inner(core)
+        let World {
+            offers,
+            is_short: _,
+            alloc: _,
+        } = self;
+        Box::into_inner(offers).into_core(slots, by)
     }
 }

@@ -11,6 +11,7 @@ ghost use Rattle.fol_core.specs.Meaning.{Records, Stays, is_prepared, world_of};
 ghost use Rattle.fol_core.specs.Ticks.{SameTick};
 ghost use Rattle.fol_tick_laws.specs.OpenTicks.{IsOpen};
 ghost use Rattle.fol_offers.specs.Ends.{ClearsWishes, Ends, GivesBack, Has, Meets, wishes_may_touch};
+ghost use Rattle.fol_offers.specs.InTurn.{IsFree};
 ghost use Rattle.fol_offers.specs.Tied.{of_tick};
 
 use crate::offer::Offer;
@@ -60,6 +61,8 @@ impl Offers {
         requires seat { seat.slots ≡ slots_id slots.now }
         requires ran { GivesBack seat tick.old }
         ensures ends { Ends self.old self.new tick.old result.1 }
+        ensures free { OnOk result.1
+            (IsFree self.new.workers self.new.core.history tick.old.worker) }
         ensures freed { OnOk result.1 (result.0 ≡ freed seat) }
         ensures kept { OnErr result.1 (result.0 ≡ seat) }
         ensures same { OnErr result.1 (SameTick tick.old tick.new) }
@@ -112,6 +115,8 @@ impl Offers {
         ensures length { IfOk result.1 (λ n. n ≡ length self.new.core.history) }
         ensures recorded { OnOk result.1 (Records self.old.core self.new.core tick.old.worker
             (end_event (world_of self.old.core) tick.old.worker tick.old.region tick.old.log.ran)) }
+        ensures free { OnOk result.1
+            (IsFree self.new.workers self.new.core.history tick.old.worker) }
         ensures freed { OnOk result.1 (result.0 ≡ freed seat) }
         ensures kept { OnErr result.1 (result.0 ≡ seat) }
         ensures refused { OnErr result.1 (Stays self.old.core self.new.core) }

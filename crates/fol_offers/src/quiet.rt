@@ -1,8 +1,8 @@
 //! Ticks in which nothing happens.
 
-ghost use Rattle.std.specs.Prelude.{◌≡◌, ◌≤◌};
-ghost use Rattle.fol_seat_laws.specs.InTurn.{NoneOpen};
+ghost use Rattle.std.specs.Prelude.{◌≤◌, ◌≡◌};
 ghost use Rattle.fol_slots.specs.Table.{slots_id};
+ghost use Rattle.fol_offers.specs.InTurn.{IsFree};
 ghost use Rattle.fol_offers.specs.Shown.{PassesOver};
 
 use crate::offer::Offer;
@@ -14,8 +14,7 @@ impl Offers {
     /// the region is offered, it is called back first; where a worker has claimed it, its Begin is recorded, and no tick is passed.
     pub fn pass(&mut self, slots: &Slots<Offer>, by: u32, region: u64, most: u32) -> u32
         requires own { self.old.slots ≡ slots_id slots.now }
-        requires worker { (1 ≤ by) × (by ≤ self.old.workers) }
-        requires none { NoneOpen by self.old.core.history }
+        requires free { IsFree self.old.workers self.old.core.history by }
         ensures few { result ≤ most }
         ensures passed { PassesOver self.old self.new by region result }
     {

@@ -2,6 +2,7 @@
 use Rattle.std.proofs.Common.{◌≡◌, ℕ, ◌≤◌, refl, sym, ◌∙◌, ap, arith, true, false, inl, inr, List, [], ◌∷◌, ◌++◌, IsTrue}
 use Rattle.std.specs.Prelude.{◌≢◌, nat_eq, nat_le}
 use Rattle.std.specs.List.{AllByRecursion, list_all}
+use Rattle.std.proofs.lemmas.List.{append-nil}
 use Rattle.std.proofs.lemmas.Bool.{cases_eq, true≢false, eq-eqb, ne_eqb, le-leb, and_from}
 use Rattle.fol_model.specs.declared.openings.Opening.{Opening}
 use Rattle.fol_model.specs.declared.scripts.Command.{Command}
@@ -13,16 +14,17 @@ use Rattle.fol_model.specs.GridNumbers.{IsGrid}
 use Rattle.fol_model.specs.World.{start}
 use Rattle.fol_model.specs.Run.{Run, RunFrom, after, after_all, world}
 use Rattle.fol_model.specs.Legal.{Legal, Order, idle, is_of, orders, orders_of, worker_of, WholeTicks}
-use Rattle.fol_laws.proofs.WholeRuns.{good_run}
+use Rattle.fol_model.specs.OpenTick.{is_begin}
+use Rattle.fol_laws.proofs.OwnedRuns.{owned}
 use Rattle.fol_core.proofs.FinishedRuns.{not_finished}
+use Rattle.fol_seat_laws.specs.InTurn.{NoneOpen}
 use Rattle.fol_seat_laws.specs.Signed.{IsBegunBelow, IsSigned, is_phase, is_call, is_named, is_start, is_stop, own_of}
 use Rattle.fol_seat_laws.specs.Turns.{Turns}
 use Rattle.fol_seat_laws.specs.Worked.{Called, Worked, SeatsMakeLegal}
 use Rattle.fol_seat_laws.proofs.OwnEntries.{own_first, own_next}
-use Rattle.fol_seat_laws.proofs.Splits.{all_behind}
 use Rattle.fol_seat_laws.proofs.Stopping.{all_running, after_both, run_behind, nothing_behind}
-use Rattle.fol_seat_laws.proofs.Ticking.{TicksFor, none_begun}
-use Rattle.fol_seat_laws.proofs.Turning.{turns_both, turns_past_all, turns_whole}
+use Rattle.fol_seat_laws.proofs.LateTurns.{stays_idle}
+use Rattle.fol_seat_laws.proofs.Turning.{turns_whole}
 
 abbrev IsCalm : Entry → Type 0
 IsCalm e = is_phase e.event ≡ false
@@ -112,9 +114,6 @@ all_of w (e ∷ es) kinds go = let one : is_of w e.event ≡ true = is_one w e e
 
 -- ---- all of it
 
-pub split_signed : (xs ys : List Entry) → AllByRecursion IsSigned (xs ++ ys) → AllByRecursion IsSigned ys
-split_signed xs ys all = all_behind IsSigned xs ys all
-
 abbrev finish : Entry
 finish = record { by = 0; event = Finish }
 
@@ -135,24 +134,21 @@ module _ (o : Opening) (script : List Command) (w : ℕ) (h : List Entry) (grid 
   all_kinds : AllByRecursion (Kind w) h
   all_kinds = kinds w h signed few begun (λ k low high. (worked k low high).calm) called.calls
 
-  -- the history is finished, so no region ticks behind what a worker has seen
-  rests : (k : ℕ) (seen rest : List Entry) → h ≡ seen ++ rest → TicksFor k (after_all (world o seen) rest) → ⊥
-  rests k seen rest is t =
-      let whole : (world o h).grid.state t.region ≡ Ticking = rw (is, after_both (start o) seen rest) t.ticks in
-      true≢false (sym finished ∙ not_finished o h grid run t.region whole)
+  -- the history is finished, so no region ticks any more, and each Begin has its End
+  none_open_now : (k : ℕ) → NoneOpen k h
+  none_open_now k before e since r is begins none =
+      let e_is : is_begin r e.event ≡ true = rw begins (eq-eqb r r refl) in
+      let mid : Run o (before ++ e ∷ (since ++ [])) = rw (append-nil since, ← is) run in
+      let u = owned o before since [] e r grid e_is none mid in
+      let ticks : (world o h).grid.state r ≡ Ticking = rw (is, after_both (start o) before (e ∷ since)) u.ticks in
+      true≢false (sym finished ∙ not_finished o h grid run r ticks)
 
   whole_ticks : (k : ℕ) → 1 ≤ k → k ≤ w → WholeTicks k (start o) idle h
   whole_ticks k low high =
-      let did = worked k low high in
-      let behind : AllByRecursion IsSigned did.rest = split_signed did.seen did.rest (rw did.is at signed) in
-      let again : Run o (did.seen ++ did.rest) = rw did.is at run in
+      let did = (worked k low high).whole in
       let go : (after_all (world o did.seen) did.rest).stopped ≡ false = rw (did.is, after_both (start o) did.seen did.rest) at running in
       let seen = did.ticks (all_running (world o did.seen) did.rest go).0 in
-      let none = none_begun o k (world o did.seen) did.rest (good_run o did.seen did.rest grid again) (run_behind (start o) did.seen did.rest again) behind did.behind
-      (rests k did.seen did.rest did.is) in
-      let all : Turns k (start o) idle (did.seen ++ did.rest) idle
-      = turns_both k (start o) idle idle idle did.seen did.rest seen (turns_past_all k (world o did.seen) idle did.rest low behind none did.behind) in
-      turns_whole k (start o) idle h (rw did.is all)
+      turns_whole k (start o) idle h (stays_idle o k h did.seen did.rest did.is grid run signed low did.behind seen (none_open_now k))
 
   legal : Legal o script w h
   legal = record {

@@ -53,13 +53,6 @@ other_worker k e some signed begins other = ne_eqb (worker_of e.event) k (elim (
   ]
 ])
 
--- where each worker's seat records its Begins, others record none of it
-pub others_begin_none : (k : ℕ) (es : List Entry) → AllByRecursion IsSelfBegun es → own_of k es ≡ [] → AllByRecursion (IsNoBegin k) es
-others_begin_none k [] begun none = tt
-others_begin_none k (e ∷ es) begun none =
-    let first = own_none k e es none in
-    ((λ starts mine. first.0 (sym (begun.0 starts).own ∙ mine)), others_begin_none k es begun.1 first.1)
-
 -- the entry is not of the worker
 abbrev pub IsOfOther : ℕ → Entry → Type 0
 IsOfOther k e = nat_eq (worker_of e.event) k ≡ false
@@ -68,15 +61,6 @@ IsOfOther k e = nat_eq (worker_of e.event) k ≡ false
 pub turns_past_others : (k : ℕ) (w : World) (d : Doing) (es : List Entry) → AllByRecursion (IsOfOther k) es → Turns k w d es d
 turns_past_others k w d [] others = refl
 turns_past_others k w d (e ∷ es) others = let other = others.0 in rw other ((λ mine. absurd (cc)), turns_past_others k (after w e.event) d es others.1)
-
-all_of_others : (k : ℕ) (es : List Entry) → 1 ≤ k → AllByRecursion IsSigned es → AllByRecursion (IsNoBegin k) es → own_of k es ≡ [] → AllByRecursion (IsOfOther k) es
-all_of_others k [] some signed begins none = tt
-all_of_others k (e ∷ es) some signed begins none =
-    let first = own_none k e es none in
-    (other_worker k e some signed.0 begins.0 first.0, all_of_others k es some signed.1 begins.1 first.1)
-
-pub turns_past_all : (k : ℕ) (w : World) (d : Doing) (es : List Entry) → 1 ≤ k → AllByRecursion IsSigned es → AllByRecursion (IsNoBegin k) es → own_of k es ≡ [] → Turns k w d es d
-turns_past_all k w d es some signed begins none = turns_past_others k w d es (all_of_others k es some signed begins none)
 
 -- one entry more
 pub turns_more : (k : ℕ) (w : World) (d f : Doing) (es : List Entry) (e : Entry) → Turns k w d es f

@@ -35,14 +35,6 @@ is_named _ = false
 abbrev pub IsSigned : Entry → Type 0
 IsSigned e = is_named e.event ≡ true → worker_of e.event ≡ e.by
 
--- a Begin is recorded by the seat of its worker, which is not seat 0
-pub record SelfBegun (e : Entry) : Type 0 where
-  pub own : worker_of e.event ≡ e.by
-  pub some : 1 ≤ e.by
-
-abbrev pub IsSelfBegun : Entry → Type 0
-IsSelfBegun e = is_start e.event ≡ true → SelfBegun e
-
 -- a Begin is of one of w workers, from 1 on
 pub record BegunBelow (w : ℕ) (e : Entry) : Type 0 where
   pub some : 1 ≤ worker_of e.event

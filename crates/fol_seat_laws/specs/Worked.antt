@@ -9,17 +9,22 @@ use Rattle.fol_model.specs.GridNumbers.{IsGrid}
 use Rattle.fol_model.specs.World.{start}
 use Rattle.fol_model.specs.Run.{Run, world}
 use Rattle.fol_model.specs.Legal.{Legal, idle, order, orders}
+use Rattle.fol_seat_laws.specs.Late.{OnlyBegins}
 use Rattle.fol_seat_laws.specs.Signed.{IsBegunBelow, IsSigned, is_phase, is_call, own_of}
 use Rattle.fol_seat_laws.specs.Turns.{Turns}
 
--- the seat of worker k has seen a beginning of the history, behind which it recorded nothing; the worker's ticks in that beginning,
--- whoever recorded their Begins, are whole unless it was stopped; and the seat opened, closed and finished nothing
-pub record Worked (o : Opening) (h : List Entry) (k : ℕ) : Type 0 where
+-- the ticks of worker k in a beginning of the history, whoever recorded their Begins, are whole unless it was stopped; behind it the worker's
+-- seat recorded at most Begins
+pub record WasWhole (o : Opening) (h : List Entry) (k : ℕ) : Type 0 where
   pub seen : List Entry
   pub rest : List Entry
   pub is : h ≡ seen ++ rest
-  pub behind : own_of k rest ≡ []
+  pub behind : OnlyBegins k rest
   pub ticks : (world o seen).stopped ≡ false → Turns k (start o) idle seen idle
+
+-- so it is, and the seat opened, closed and finished nothing
+pub record Worked (o : Opening) (h : List Entry) (k : ℕ) : Type 0 where
+  pub whole : WasWhole o h k
   pub calm : AllByRecursion (λ e. is_phase e.event ≡ false) (own_of k h)
 
 -- caller 0 carried out these commands, and finished

@@ -1,4 +1,4 @@
-use Rattle.fol_live.proofs.Held.{held_may_run}
+use Rattle.fol_live.proofs.HeldTicks.{held_may_run}
 use Rattle.fol_live.proofs.laws.held_tick_may_run.Goals as goal
 
 pub returns : goal.returns

@@ -1,4 +1,4 @@
-use Rattle.fol_live.proofs.OneTurn.{none_own}
+use Rattle.fol_live.proofs.OwnTurns.{none_own}
 use Rattle.fol_live.proofs.laws.no_event_is_own.Goals as goal
 
 pub returns : goal.returns

@@ -1,4 +1,4 @@
-use Rattle.fol_live.proofs.OneTurn.{one_own}
+use Rattle.fol_live.proofs.OwnTurns.{one_own}
 use Rattle.fol_live.proofs.laws.one_event_is_own.Goals as goal
 
 pub returns : goal.returns

@@ -1,33 +1,30 @@
-use Rattle.std.proofs.Common.{◌∙◌, ap, length}
-use Rattle.fol_core.specs.Meaning.{Meaning}
+use Rattle.std.proofs.Common.{◌∙◌, ap}
+use Rattle.fol_live.specs.Seat.{LiveId, Shown}
 use Rattle.fol_live.proofs.Called.{opens}
-use Rattle.fol_live.proofs.Grown.{grew_open}
-use Rattle.fol_live.proofs.Taken.{done, idle_seat, log_grows, visit}
+use Rattle.fol_live.proofs.Grown.{added_open, answered}
+use Rattle.fol_live.proofs.Taken.{begun, done, log_grows, seat_again}
 use Rattle.fol_live.proofs.live.Live.open_phase.Goals as goal
 
 pub give-requires-clause-log : goal.give-requires-clause-log
 give-requires-clause-log g c =
-    let m : Meaning = c.state.result.now in
-    let n : Meaning = c.open_phase-answer.new.self in
-    let told = c.open_phase-answer.ensures in
-    let grew = grew_open m n c.number-by.result c.args.n c.open_phase-answer.result told.recorded told.refused in
-    let v = visit m n c.seat.invariant.0 c.state.ensures.value c.take-turn.ensures.state c.take-turn.ensures.seat c.number-by.ensures told.before told.after grew in
+    let b = begun c.seat.inside.hand c.take.result c.state-world.result.now c.meet.new.world c.seat.invariant.0 c.seat.invariant.1 c.state-world.ensures.value c.take-turn.ensures.state c.take-turn.ensures.seat
+    c.number-by.ensures c.take.ensures.value c.meet.ensures.meets in
+    let v = answered b c.open_phase-answer.ensures (λ m k x. added_open m k c.number-by.result c.args.n x) in
     log_grows v
-
-pub returns : goal.returns
-returns g c =
-    let m : Meaning = c.state.result.now in
-    let n : Meaning = c.open_phase-answer.new.self in
-    let told = c.open_phase-answer.ensures in
-    let grew = grew_open m n c.number-by.result c.args.n c.open_phase-answer.result told.recorded told.refused in
-    let v = visit m n c.seat.invariant.0 c.state.ensures.value c.take-turn.ensures.state c.take-turn.ensures.seat c.number-by.ensures told.before told.after grew in
-    opens (done v c.give.ensures.idle c.give.ensures.number c.give.ensures.origin c.give.ensures.seen c.give.ensures.mine c.seat.view_is c.requires.own) c.args.n c.open_phase-answer.result told.answer told.recorded told.refused
 
 pub invariant_of-seat : goal.invariant_of-seat
 invariant_of-seat g c =
-    let m : Meaning = c.state.result.now in
-    let n : Meaning = c.open_phase-answer.new.self in
+    let b = begun c.seat.inside.hand c.take.result c.state-world.result.now c.meet.new.world c.seat.invariant.0 c.seat.invariant.1 c.state-world.ensures.value c.take-turn.ensures.state c.take-turn.ensures.seat
+    c.number-by.ensures c.take.ensures.value c.meet.ensures.meets in
+    let v = answered b c.open_phase-answer.ensures (λ m k x. added_open m k c.number-by.result c.args.n x) in
+    seat_again v c.give.ensures.idle c.give.ensures.number c.give.ensures.origin c.give.ensures.seen c.give.ensures.mine c.meet.result c.front-seat-inside.result c.front-seat-inside.ensures
+    (c.meet.ensures.same ∙ c.take.ensures.value) c.seat.invariant.1
+
+pub returns : goal.returns
+returns g c =
+    let b = begun c.seat.inside.hand c.take.result c.state-world.result.now c.meet.new.world c.seat.invariant.0 c.seat.invariant.1 c.state-world.ensures.value c.take-turn.ensures.state c.take-turn.ensures.seat
+    c.number-by.ensures c.take.ensures.value c.meet.ensures.meets in
+    let v = answered b c.open_phase-answer.ensures (λ m k x. added_open m k c.number-by.result c.args.n x) in
     let told = c.open_phase-answer.ensures in
-    let grew = grew_open m n c.number-by.result c.args.n c.open_phase-answer.result told.recorded told.refused in
-    let v = visit m n c.seat.invariant.0 c.state.ensures.value c.take-turn.ensures.state c.take-turn.ensures.seat c.number-by.ensures told.before told.after grew in
-    idle_seat v c.give.ensures.idle c.give.ensures.number c.give.ensures.origin c.give.ensures.seen c.give.ensures.mine c.front-seat-inside.result (c.front-seat-inside.ensures ∙ ap (λ (w : Meaning). length w.history) c.state_ref.ensures)
+    opens (done v c.give.ensures.idle c.give.ensures.number c.give.ensures.origin c.give.ensures.seen c.give.ensures.mine c.seat.view_is (ap (λ (x : LiveId). x.lock) c.requires.own))
+    (c.meet.ensures.same ∙ c.take.ensures.value ∙ ap (λ (x : Shown). x.hand) c.seat.view_is) c.args.n c.open_phase-answer.result told.answer told.recorded told.refused

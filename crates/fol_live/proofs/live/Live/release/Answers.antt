@@ -1,44 +1,68 @@
-use Rattle.std.proofs.Common.{◌≡◌, ◌∙◌, sym, ap, subst, length}
+use Rattle.std.proofs.Common.{◌≡◌, ◌∙◌, ap, sym, subst}
+use Rattle.std.specs.Prelude.{OnErr, OnOk, Some}
+use Rattle.std.specs.Option.{ForSome}
+use Rattle.fol_core.specs.Meaning.{world_of}
 use Rattle.fol_world.specs.AtEnd.{end_event}
-use Rattle.fol_core.specs.Ticks.{IsOut}
-use Rattle.fol_core.specs.Meaning.{Meaning, world_of}
-use Rattle.fol_live.specs.Seat.{Shown, meaning_of}
-use Rattle.fol_live.proofs.Called.{releases}
-use Rattle.fol_live.proofs.Grown.{grew_release}
-use Rattle.fol_live.proofs.StillOut.{out_now}
-use Rattle.fol_live.proofs.Taken.{SeatOfLock, done, idle_seat, log_grows, view, visit}
+use Rattle.fol_slots.specs.Shown.{freed}
+use Rattle.fol_live.specs.Seat.{LiveId, Shown, origin_of}
+use Rattle.fol_live.specs.Shown.{meaning_of}
+use Rattle.fol_live.specs.Turned.{GivesIn}
+use Rattle.fol_live.proofs.Grown.{added_end, grew}
+use Rattle.fol_live.proofs.Releasing.{gives_in, hand_after, release_done, worker_is}
+use Rattle.fol_live.proofs.Taken.{Hand, begun, done, log_grows, seat_with, visits}
 use Rattle.fol_live.proofs.live.Live.release.Goals as goal
 
-pub release-answer-requires : goal.release-answer-requires
-release-answer-requires g c =
-    let s : SeatOfLock = c.seat.inside.seat in
-    let mine : c.args.tick.worker ≡ s.number = c.requires.mine ∙ ap (λ (x : Shown). x.number) (sym c.seat.view_is) in
-    let out : IsOut (meaning_of (view s)) c.args.tick = subst (λ (x : Shown). IsOut (meaning_of x) c.args.tick) (sym c.seat.view_is) c.requires.out in
-    record { out = out_now s c.state.result.now c.seat.invariant.0 (rw c.state.ensures.value c.take-turn.ensures.state) c.args.tick mine out }
+pub end-hand-requires-clause-ran : goal.end-hand-requires-clause-ran
+end-hand-requires-clause-ran g c =
+    let same : c.meet-hand.result ≡ c.seat.inside.hand = c.meet-hand.ensures.same ∙ c.take.ensures.value in
+    let here : GivesIn c.seat.inside.hand c.args.tick = gives_in (origin_of c.seat.inside.seat.origin) c.seat.inside.seat.number c.seat.inside.hand c.args.seat.now c.args.tick c.seat.invariant.1
+    (ap (λ (x : Shown). x.number) (sym c.seat.view_is)) (ap (λ (x : Shown). x.hand) (sym c.seat.view_is)) c.requires.ran in
+    subst (λ (h : Hand). GivesIn h c.args.tick) (sym same) here
 
 pub give-requires-clause-log : goal.give-requires-clause-log
 give-requires-clause-log g c =
-    let m : Meaning = c.state.result.now in
-    let n : Meaning = c.release-answer.new.self in
-    let told = c.release-answer.ensures in
-    let grew = grew_release m n c.args.tick.worker (end_event (world_of m) c.args.tick.worker c.args.tick.region c.args.tick.log.ran) c.release-answer.result told.recorded told.refused in
-    let v = visit m n c.seat.invariant.0 c.state.ensures.value c.take-turn.ensures.state c.take-turn.ensures.seat (c.requires.mine ∙ ap (λ (x : Shown). x.number) (sym c.seat.view_is)) told.before told.after grew in
+    let s = c.seat.inside.seat in
+    let by : c.args.tick.worker ≡ s.number = worker_is c.args.seat.now c.args.tick c.requires.ran ∙ ap (λ (x : Shown). x.number) (sym c.seat.view_is) in
+    let b = begun c.seat.inside.hand c.take.result c.state-world.result.now c.meet-hand.new.world c.seat.invariant.0 c.seat.invariant.1 c.state-world.ensures.value c.take-turn.ensures.state c.take-turn.ensures.seat
+    by c.take.ensures.value c.meet-hand.ensures.meets in
+    let told = c.end-hand.ensures.ends in
+    let event = end_event (world_of (meaning_of told.now)) c.args.tick.worker c.args.tick.region c.args.tick.log.ran in
+    let v = visits b told.now c.end-hand.new.world told.learns (grew told.now c.end-hand.new.world c.args.tick.worker told.same
+    (added_end (meaning_of told.now) (meaning_of c.end-hand.new.world) c.args.tick.worker event c.end-hand.result.1 told.recorded told.refused)) told.keeps in
     log_grows v
-
-pub returns : goal.returns
-returns g c =
-    let m : Meaning = c.state.result.now in
-    let n : Meaning = c.release-answer.new.self in
-    let told = c.release-answer.ensures in
-    let grew = grew_release m n c.args.tick.worker (end_event (world_of m) c.args.tick.worker c.args.tick.region c.args.tick.log.ran) c.release-answer.result told.recorded told.refused in
-    let v = visit m n c.seat.invariant.0 c.state.ensures.value c.take-turn.ensures.state c.take-turn.ensures.seat (c.requires.mine ∙ ap (λ (x : Shown). x.number) (sym c.seat.view_is)) told.before told.after grew in
-    releases c.args.tick c.release-answer.result (done v c.give.ensures.idle c.give.ensures.number c.give.ensures.origin c.give.ensures.seen c.give.ensures.mine c.seat.view_is c.requires.own) told.length told.recorded told.back told.refused
 
 pub invariant_of-seat : goal.invariant_of-seat
 invariant_of-seat g c =
-    let m : Meaning = c.state.result.now in
-    let n : Meaning = c.release-answer.new.self in
-    let told = c.release-answer.ensures in
-    let grew = grew_release m n c.args.tick.worker (end_event (world_of m) c.args.tick.worker c.args.tick.region c.args.tick.log.ran) c.release-answer.result told.recorded told.refused in
-    let v = visit m n c.seat.invariant.0 c.state.ensures.value c.take-turn.ensures.state c.take-turn.ensures.seat (c.requires.mine ∙ ap (λ (x : Shown). x.number) (sym c.seat.view_is)) told.before told.after grew in
-    idle_seat v c.give.ensures.idle c.give.ensures.number c.give.ensures.origin c.give.ensures.seen c.give.ensures.mine c.front-seat-inside.result (c.front-seat-inside.ensures ∙ ap (λ (w : Meaning). length w.history) c.state_ref.ensures)
+    let s = c.seat.inside.seat in
+    let by : c.args.tick.worker ≡ s.number = worker_is c.args.seat.now c.args.tick c.requires.ran ∙ ap (λ (x : Shown). x.number) (sym c.seat.view_is) in
+    let b = begun c.seat.inside.hand c.take.result c.state-world.result.now c.meet-hand.new.world c.seat.invariant.0 c.seat.invariant.1 c.state-world.ensures.value c.take-turn.ensures.state c.take-turn.ensures.seat
+    by c.take.ensures.value c.meet-hand.ensures.meets in
+    let told = c.end-hand.ensures.ends in
+    let event = end_event (world_of (meaning_of told.now)) c.args.tick.worker c.args.tick.region c.args.tick.log.ran in
+    let v = visits b told.now c.end-hand.new.world told.learns (grew told.now c.end-hand.new.world c.args.tick.worker told.same
+    (added_end (meaning_of told.now) (meaning_of c.end-hand.new.world) c.args.tick.worker event c.end-hand.result.1 told.recorded told.refused)) told.keeps in
+    let same : c.meet-hand.result ≡ c.seat.inside.hand = c.meet-hand.ensures.same ∙ c.take.ensures.value in
+    let here : GivesIn c.seat.inside.hand c.args.tick = gives_in (origin_of c.seat.inside.seat.origin) c.seat.inside.seat.number c.seat.inside.hand c.args.seat.now c.args.tick c.seat.invariant.1
+    (ap (λ (x : Shown). x.number) (sym c.seat.view_is)) (ap (λ (x : Shown). x.hand) (sym c.seat.view_is)) c.requires.ran in
+    let freed_is = subst (λ (h : Hand). OnOk c.end-hand.result.1 (ForSome h (λ w. c.end-hand.result.0 ≡ Some (freed w)))) same c.end-hand.ensures.freed in
+    let kept = subst (λ (h : Hand). OnErr c.end-hand.result.1 (c.end-hand.result.0 ≡ h)) same c.end-hand.ensures.kept in
+    seat_with v c.give.ensures.idle c.give.ensures.number c.give.ensures.origin c.give.ensures.seen c.give.ensures.mine c.end-hand.result.0 c.front-seat-inside.result c.front-seat-inside.ensures
+    (hand_after (origin_of c.seat.inside.seat.origin) c.seat.inside.seat.number c.seat.inside.hand c.end-hand.result.0 c.end-hand.result.1 c.args.tick c.seat.invariant.1 here freed_is kept)
+
+pub returns : goal.returns
+returns g c =
+    let s = c.seat.inside.seat in
+    let by : c.args.tick.worker ≡ s.number = worker_is c.args.seat.now c.args.tick c.requires.ran ∙ ap (λ (x : Shown). x.number) (sym c.seat.view_is) in
+    let b = begun c.seat.inside.hand c.take.result c.state-world.result.now c.meet-hand.new.world c.seat.invariant.0 c.seat.invariant.1 c.state-world.ensures.value c.take-turn.ensures.state c.take-turn.ensures.seat
+    by c.take.ensures.value c.meet-hand.ensures.meets in
+    let told = c.end-hand.ensures.ends in
+    let event = end_event (world_of (meaning_of told.now)) c.args.tick.worker c.args.tick.region c.args.tick.log.ran in
+    let v = visits b told.now c.end-hand.new.world told.learns (grew told.now c.end-hand.new.world c.args.tick.worker told.same
+    (added_end (meaning_of told.now) (meaning_of c.end-hand.new.world) c.args.tick.worker event c.end-hand.result.1 told.recorded told.refused)) told.keeps in
+    let same : c.meet-hand.result ≡ c.seat.inside.hand = c.meet-hand.ensures.same ∙ c.take.ensures.value in
+    let here : GivesIn c.seat.inside.hand c.args.tick = gives_in (origin_of c.seat.inside.seat.origin) c.seat.inside.seat.number c.seat.inside.hand c.args.seat.now c.args.tick c.seat.invariant.1
+    (ap (λ (x : Shown). x.number) (sym c.seat.view_is)) (ap (λ (x : Shown). x.hand) (sym c.seat.view_is)) c.requires.ran in
+    let freed_is = subst (λ (h : Hand). OnOk c.end-hand.result.1 (ForSome h (λ w. c.end-hand.result.0 ≡ Some (freed w)))) same c.end-hand.ensures.freed in
+    let kept = subst (λ (h : Hand). OnErr c.end-hand.result.1 (c.end-hand.result.0 ≡ h)) same c.end-hand.ensures.kept in
+    let d = done v c.give.ensures.idle c.give.ensures.number c.give.ensures.origin c.give.ensures.seen c.give.ensures.mine c.seat.view_is (ap (λ (x : LiveId). x.lock) c.requires.own) in
+    rw c.released.ensures (release_done c.seat.inside.hand c.args.tick c.end-hand.new.tick c.end-hand.result.1 told d here (ap (λ (x : Shown). x.hand) (sym c.seat.view_is)) freed_is kept c.end-hand.ensures.same)

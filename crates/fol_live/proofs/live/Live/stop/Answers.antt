@@ -1,34 +1,38 @@
-use Rattle.std.proofs.Common.{◌∙◌, ap, length}
+use Rattle.std.proofs.Common.{◌∙◌, ap}
 use Rattle.fol_core.specs.Answers.{is_over}
-use Rattle.fol_core.specs.Meaning.{Meaning, world_of}
+use Rattle.fol_core.specs.Meaning.{world_of}
+use Rattle.fol_live.specs.Seat.{LiveId, Shown}
+use Rattle.fol_live.specs.Shown.{meaning_of}
 use Rattle.fol_live.proofs.Called.{stops}
-use Rattle.fol_live.proofs.Grown.{grew_stop}
-use Rattle.fol_live.proofs.Taken.{done, idle_seat, log_grows, visit}
+use Rattle.fol_live.proofs.Grown.{added_stop, grew}
+use Rattle.fol_live.proofs.Taken.{begun, done, log_grows, seat_again, visits}
 use Rattle.fol_live.proofs.live.Live.stop.Goals as goal
 
 pub give-requires-clause-log : goal.give-requires-clause-log
 give-requires-clause-log g c =
-    let m : Meaning = c.state.result.now in
-    let n : Meaning = c.stop.new.self in
+    let b = begun c.seat.inside.hand c.take.result c.state-world.result.now c.meet.new.world c.seat.invariant.0 c.seat.invariant.1 c.state-world.ensures.value c.take-turn.ensures.state c.take-turn.ensures.seat
+    c.number-by.ensures c.take.ensures.value c.meet.ensures.meets in
     let told = c.stop.ensures in
-    let grew = grew_stop m n c.number-by.result (is_over (world_of m)) told.recorded in
-    let v = visit m n c.seat.invariant.0 c.state.ensures.value c.take-turn.ensures.state c.take-turn.ensures.seat c.number-by.ensures told.before told.after grew in
+    let v = visits b told.now c.stop.new.self told.learns (grew told.now c.stop.new.self c.number-by.result told.same
+    (added_stop (meaning_of told.now) (meaning_of c.stop.new.self) c.number-by.result (is_over (world_of (meaning_of told.now))) told.recorded)) told.keeps in
     log_grows v
-
-pub returns : goal.returns
-returns g c =
-    let m : Meaning = c.state.result.now in
-    let n : Meaning = c.stop.new.self in
-    let told = c.stop.ensures in
-    let grew = grew_stop m n c.number-by.result (is_over (world_of m)) told.recorded in
-    let v = visit m n c.seat.invariant.0 c.state.ensures.value c.take-turn.ensures.state c.take-turn.ensures.seat c.number-by.ensures told.before told.after grew in
-    stops (done v c.give.ensures.idle c.give.ensures.number c.give.ensures.origin c.give.ensures.seen c.give.ensures.mine c.seat.view_is c.requires.own) told.recorded
 
 pub invariant_of-seat : goal.invariant_of-seat
 invariant_of-seat g c =
-    let m : Meaning = c.state.result.now in
-    let n : Meaning = c.stop.new.self in
+    let b = begun c.seat.inside.hand c.take.result c.state-world.result.now c.meet.new.world c.seat.invariant.0 c.seat.invariant.1 c.state-world.ensures.value c.take-turn.ensures.state c.take-turn.ensures.seat
+    c.number-by.ensures c.take.ensures.value c.meet.ensures.meets in
     let told = c.stop.ensures in
-    let grew = grew_stop m n c.number-by.result (is_over (world_of m)) told.recorded in
-    let v = visit m n c.seat.invariant.0 c.state.ensures.value c.take-turn.ensures.state c.take-turn.ensures.seat c.number-by.ensures told.before told.after grew in
-    idle_seat v c.give.ensures.idle c.give.ensures.number c.give.ensures.origin c.give.ensures.seen c.give.ensures.mine c.front-seat-inside.result (c.front-seat-inside.ensures ∙ ap (λ (w : Meaning). length w.history) c.state_ref.ensures)
+    let v = visits b told.now c.stop.new.self told.learns (grew told.now c.stop.new.self c.number-by.result told.same
+    (added_stop (meaning_of told.now) (meaning_of c.stop.new.self) c.number-by.result (is_over (world_of (meaning_of told.now))) told.recorded)) told.keeps in
+    seat_again v c.give.ensures.idle c.give.ensures.number c.give.ensures.origin c.give.ensures.seen c.give.ensures.mine c.meet.result c.front-seat-inside.result c.front-seat-inside.ensures
+    (c.meet.ensures.same ∙ c.take.ensures.value) c.seat.invariant.1
+
+pub returns : goal.returns
+returns g c =
+    let b = begun c.seat.inside.hand c.take.result c.state-world.result.now c.meet.new.world c.seat.invariant.0 c.seat.invariant.1 c.state-world.ensures.value c.take-turn.ensures.state c.take-turn.ensures.seat
+    c.number-by.ensures c.take.ensures.value c.meet.ensures.meets in
+    let told = c.stop.ensures in
+    let v = visits b told.now c.stop.new.self told.learns (grew told.now c.stop.new.self c.number-by.result told.same
+    (added_stop (meaning_of told.now) (meaning_of c.stop.new.self) c.number-by.result (is_over (world_of (meaning_of told.now))) told.recorded)) told.keeps in
+    stops (done v c.give.ensures.idle c.give.ensures.number c.give.ensures.origin c.give.ensures.seen c.give.ensures.mine c.seat.view_is (ap (λ (x : LiveId). x.lock) c.requires.own))
+    (c.meet.ensures.same ∙ c.take.ensures.value ∙ ap (λ (x : Shown). x.hand) c.seat.view_is) c.stop.ensures.recorded

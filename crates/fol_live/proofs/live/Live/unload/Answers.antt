@@ -1,33 +1,30 @@
-use Rattle.std.proofs.Common.{◌∙◌, ap, length}
-use Rattle.fol_core.specs.Meaning.{Meaning}
+use Rattle.std.proofs.Common.{◌∙◌, ap}
+use Rattle.fol_live.specs.Seat.{LiveId, Shown}
 use Rattle.fol_live.proofs.Called.{unloads}
-use Rattle.fol_live.proofs.Grown.{grew_unload}
-use Rattle.fol_live.proofs.Taken.{done, idle_seat, log_grows, visit}
+use Rattle.fol_live.proofs.Grown.{added_unload, answered}
+use Rattle.fol_live.proofs.Taken.{begun, done, log_grows, seat_again}
 use Rattle.fol_live.proofs.live.Live.unload.Goals as goal
 
 pub give-requires-clause-log : goal.give-requires-clause-log
 give-requires-clause-log g c =
-    let m : Meaning = c.state.result.now in
-    let n : Meaning = c.unload-answer.new.self in
-    let told = c.unload-answer.ensures in
-    let grew = grew_unload m n c.number-by.result c.args.c c.unload-answer.result told.recorded told.refused in
-    let v = visit m n c.seat.invariant.0 c.state.ensures.value c.take-turn.ensures.state c.take-turn.ensures.seat c.number-by.ensures told.before told.after grew in
+    let b = begun c.seat.inside.hand c.take.result c.state-world.result.now c.meet.new.world c.seat.invariant.0 c.seat.invariant.1 c.state-world.ensures.value c.take-turn.ensures.state c.take-turn.ensures.seat
+    c.number-by.ensures c.take.ensures.value c.meet.ensures.meets in
+    let v = answered b c.unload-answer.ensures (λ m k x. added_unload m k c.number-by.result c.args.c x) in
     log_grows v
-
-pub returns : goal.returns
-returns g c =
-    let m : Meaning = c.state.result.now in
-    let n : Meaning = c.unload-answer.new.self in
-    let told = c.unload-answer.ensures in
-    let grew = grew_unload m n c.number-by.result c.args.c c.unload-answer.result told.recorded told.refused in
-    let v = visit m n c.seat.invariant.0 c.state.ensures.value c.take-turn.ensures.state c.take-turn.ensures.seat c.number-by.ensures told.before told.after grew in
-    unloads (done v c.give.ensures.idle c.give.ensures.number c.give.ensures.origin c.give.ensures.seen c.give.ensures.mine c.seat.view_is c.requires.own) c.args.c c.unload-answer.result told.answer told.recorded told.refused
 
 pub invariant_of-seat : goal.invariant_of-seat
 invariant_of-seat g c =
-    let m : Meaning = c.state.result.now in
-    let n : Meaning = c.unload-answer.new.self in
+    let b = begun c.seat.inside.hand c.take.result c.state-world.result.now c.meet.new.world c.seat.invariant.0 c.seat.invariant.1 c.state-world.ensures.value c.take-turn.ensures.state c.take-turn.ensures.seat
+    c.number-by.ensures c.take.ensures.value c.meet.ensures.meets in
+    let v = answered b c.unload-answer.ensures (λ m k x. added_unload m k c.number-by.result c.args.c x) in
+    seat_again v c.give.ensures.idle c.give.ensures.number c.give.ensures.origin c.give.ensures.seen c.give.ensures.mine c.meet.result c.front-seat-inside.result c.front-seat-inside.ensures
+    (c.meet.ensures.same ∙ c.take.ensures.value) c.seat.invariant.1
+
+pub returns : goal.returns
+returns g c =
+    let b = begun c.seat.inside.hand c.take.result c.state-world.result.now c.meet.new.world c.seat.invariant.0 c.seat.invariant.1 c.state-world.ensures.value c.take-turn.ensures.state c.take-turn.ensures.seat
+    c.number-by.ensures c.take.ensures.value c.meet.ensures.meets in
+    let v = answered b c.unload-answer.ensures (λ m k x. added_unload m k c.number-by.result c.args.c x) in
     let told = c.unload-answer.ensures in
-    let grew = grew_unload m n c.number-by.result c.args.c c.unload-answer.result told.recorded told.refused in
-    let v = visit m n c.seat.invariant.0 c.state.ensures.value c.take-turn.ensures.state c.take-turn.ensures.seat c.number-by.ensures told.before told.after grew in
-    idle_seat v c.give.ensures.idle c.give.ensures.number c.give.ensures.origin c.give.ensures.seen c.give.ensures.mine c.front-seat-inside.result (c.front-seat-inside.ensures ∙ ap (λ (w : Meaning). length w.history) c.state_ref.ensures)
+    unloads (done v c.give.ensures.idle c.give.ensures.number c.give.ensures.origin c.give.ensures.seen c.give.ensures.mine c.seat.view_is (ap (λ (x : LiveId). x.lock) c.requires.own))
+    (c.meet.ensures.same ∙ c.take.ensures.value ∙ ap (λ (x : Shown). x.hand) c.seat.view_is) c.args.c c.unload-answer.result told.answer told.recorded told.refused

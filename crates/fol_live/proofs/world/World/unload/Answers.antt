@@ -1,14 +1,22 @@
-use Rattle.std.proofs.Common.{arith}
-use Rattle.std.proofs.lemmas.Grind.{common_steps}
-use Rattle.fol_core.specs.Ahead.{NonePrepared}
-use Rattle.fol_core.specs.Meaning.{Meaning}
-use Rattle.fol_tick_laws.proofs.Unprepared.{still_none}
-use Rattle.fol_live.proofs.Grown.{grew_unload}
+use Rattle.std.proofs.Common.{◌∙◌, ap, subst}
+use Rattle.fol_core.specs.Answers.{UnloadRecords, unload_result}
+use Rattle.fol_offers.specs.Shown as offers
+use Rattle.fol_live.specs.Kept.{IsKept}
+use Rattle.fol_live.specs.Shown.{shown}
+use Rattle.fol_live.specs.Turns.{Unloads}
+use Rattle.fol_live.proofs.Answering.{Tells, answers_back, grows_unload}
+use Rattle.fol_live.proofs.Bare.{bare_unload}
+use Rattle.fol_live.proofs.Moved.{carried}
 use Rattle.fol_live.proofs.world.World.unload.Goals as goal
 
-pub invariant_of-self : goal.invariant_of-self
-invariant_of-self c =
-    let m : Meaning = c.deref_mut-core.result.now in
-    let n : Meaning = c.unload-answer.new.self in
-    let none : NonePrepared m = rw c.deref_mut-core.ensures.value c.self.invariant.1 in
-    (grind (arith, common_steps), still_none m n (grew_unload m n c.args.by c.args.c c.unload-answer.result c.unload-answer.ensures.recorded c.unload-answer.ensures.refused).prepared none)
+pub returns : goal.returns
+returns c =
+    let old : offers.Shown = c.deref_mut.result.now in
+    let new : offers.Shown = c.unload-answer.new.self in
+    let told = c.unload-answer.ensures in
+    let kept : IsKept (shown old) = rw c.deref_mut.ensures.value c.self.invariant.0 in
+    let there : Tells c.deref.result.now = record { grid = c.keeps.ensures.grid; run = c.keeps.ensures.run; turns = c.keeps.ensures.in_turn } in
+    let tells : Tells new = subst Tells c.deref.ensures there in
+    carried (λ a b. Unloads a b c.args.by c.args.c c.unload-answer.result) (ap shown c.deref_mut.ensures.value ∙ c.self.view_is) c.offer_rest.ensures
+    (answers_back old new c.args.by (λ w. unload_result w c.args.c) (λ m n a. UnloadRecords m n c.args.by c.args.c a) c.unload-answer.result (λ m n a. grows_unload m n c.args.by c.args.c a)
+    (λ m n a. bare_unload m n c.args.by c.args.c a) kept tells told.workers told.slots told)

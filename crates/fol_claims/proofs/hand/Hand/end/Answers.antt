@@ -1,8 +1,0 @@
-use Rattle.fol_claims.specs.Hands.{GivesUp}
-use Rattle.fol_claims.proofs.Holding.{gives_back}
-use Rattle.fol_claims.proofs.hand.Hand.end.Goals as goal
-
-pub end-worker-requires-clause-ran : goal.end-worker-requires-clause-ran
-end-worker-requires-clause-ran c =
-    let gives : GivesUp c.self.inside.worker c.args.tick.now = rw c.self.view_is c.requires.ran in
-    gives_back c.self.inside.region c.self.inside.worker c.args.tick.now c.self.invariant gives

@@ -1,5 +1,0 @@
-use Rattle.fol_claims.proofs.OwnTurns.{none_own}
-use Rattle.fol_claims.proofs.laws.no_event_is_own.Goals as goal
-
-pub returns : goal.returns
-returns c = none_own

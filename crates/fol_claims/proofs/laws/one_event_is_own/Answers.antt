@@ -1,5 +1,0 @@
-use Rattle.fol_claims.proofs.OwnTurns.{one_own}
-use Rattle.fol_claims.proofs.laws.one_event_is_own.Goals as goal
-
-pub returns : goal.returns
-returns c = one_own

@@ -1,5 +1,0 @@
-use Rattle.fol_claims.proofs.HeldTicks.{claimed_held}
-use Rattle.fol_claims_tests.proofs.seats.claim.Goals as goal
-
-pub returns-clause-holds : goal.returns-clause-holds
-returns-clause-holds g c = claimed_held c.args.seat.now c.try_begin.new.seat c.in-Got.tick c.in-Got.ensures

@@ -1,7 +1,0 @@
-use Rattle.std.proofs.Common.{rules}
-use Rattle.std.specs.List.Sorted.{IsStrictlySortedBy}
-use Rattle.fol_claims_tests.proofs.seats.opening.Goals as goal
-
-pub invariant_of-result : goal.invariant_of-result
-unfolding IsStrictlySortedBy
-invariant_of-result c = search rules

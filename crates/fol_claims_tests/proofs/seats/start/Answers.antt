@@ -1,5 +1,0 @@
-use Rattle.fol_claims_tests.proofs.FreeSeats.{are_free}
-use Rattle.fol_claims_tests.proofs.seats.start.Goals as goal
-
-pub returns-clause-free : goal.returns-clause-free
-returns-clause-free g c = are_free _ _ _ c.expect.result.seats.items (rw c.expect.ensures at c.start.ensures.seats)

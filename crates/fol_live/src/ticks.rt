@@ -1,0 +1,79 @@
+//! What a world does for the ticks of its workers.
+
+ghost use Rattle.std.specs.Prelude.{◌≡◌, OnErr, OnOk};
+ghost use Rattle.fol_data.specs.declared.tick.Tick.{Tick};
+ghost use Rattle.fol_slots.specs.Shown.{freed};
+ghost use Rattle.fol_slots.specs.Table.{slots_id};
+ghost use Rattle.fol_core.specs.Ticks.{SameTick};
+ghost use Rattle.fol_offers.specs.Ends.{GivesBack, Has};
+ghost use Rattle.fol_offers.specs.InTurn.{IsFree};
+ghost use Rattle.fol_live.specs.Turns.{EndsAndPasses, HasOpen, Learns, PassesOn};
+
+use crate::world::World;
+use fol_data::Tick;
+use fol_offers::Offer;
+use fol_slots::{Slots, WorkerSeat};
+use std::alloc::AllocError;
+
+impl World {
+    /// Meets a worker that claimed the tick of this region: the worker records its Begin, unless it was learnt before. Whatever a worker
+    /// records while it has a tick comes after this. Takes no memory.
+    pub fn meet(
+        &mut self,
+        slots: &Slots<Offer>,
+        seat: WorkerSeat<Offer>,
+        region: u64,
+    ) -> WorkerSeat<Offer>
+        requires own { self.old.slots ≡ slots_id slots.now }
+        requires seat { seat.slots ≡ slots_id slots.now }
+        requires has { Has seat region }
+        ensures learns { Learns self.old self.new seat.number }
+        ensures open { HasOpen self.new seat }
+        ensures seat { result ≡ seat }
+    {
+        self.is_short = true;
+        let seat = self.offers.meet(slots, seat, region);
+        self.offers.keeps();
+        self.offer_rest(slots);
+        seat
+    }
+
+    /// Ends the tick that a worker claimed, once all of its tasks ran, passes over at most `most` ticks of its region behind it in which nothing
+    /// happens, and offers what is owed then. Returns the new length of the history,
+    /// with the seat, which holds no slot any more. If memory runs out, no End is recorded, and the worker has its tick still, which is
+    /// the same.
+    pub fn end(
+        &mut self,
+        slots: &Slots<Offer>,
+        seat: WorkerSeat<Offer>,
+        tick: &mut Tick,
+        most: u32,
+    ) -> (WorkerSeat<Offer>, Result<u64, AllocError>)
+        requires own { self.old.slots ≡ slots_id slots.now }
+        requires seat { seat.slots ≡ slots_id slots.now }
+        requires ran { GivesBack seat tick.old }
+        ensures ends { EndsAndPasses self.old self.new tick.old most result.1 }
+        ensures freed { OnOk result.1 (result.0 ≡ freed seat) }
+        ensures kept { OnErr result.1 (result.0 ≡ seat) }
+        ensures same { OnErr result.1 (SameTick tick.old tick.new) }
+    {
+        self.is_short = true;
+        let (seat, answer) = self.offers.end(self.alloc, slots, seat, tick);
+        self.offers.keeps();
+        if answer.is_ok() {
+            self.pass(slots, tick.worker, tick.region, most);
+        }
+        self.offer_rest(slots);
+        (seat, answer)
+    }
+
+    /// Begins and ends ticks of a region in which nothing happens, by a worker that has no tick open.
+    fn pass(&mut self, slots: &Slots<Offer>, by: u32, region: u64, most: u32)
+        requires own { self.old.slots ≡ slots_id slots.now }
+        requires free { IsFree self.old.workers self.old.history by }
+        ensures { PassesOn self.old self.new by most }
+    {
+        self.offers.pass(slots, by, region, most);
+        self.offers.keeps();
+    }
+}
