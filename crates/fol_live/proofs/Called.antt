@@ -1,6 +1,7 @@
 -- Each call of a shared world, from what the world behind the lock did.
-use Rattle.std.proofs.Common.{◌≡◌, ℕ, length}
-use Rattle.std.specs.Prelude.{Bool, Result, IfOk, IfErr, OnOk, OnErr}
+use Rattle.std.proofs.Common.{◌≡◌, ℕ, refl, sym, ◌∙◌, ap, subst, length, None}
+use Rattle.std.specs.Prelude.{Bool, Result, Ok, Err, IfOk, IfErr, OnErr}
+use Rattle.std.specs.List.{AllByRecursion}
 use Rattle.std.specs.declared.alloc.AllocError.{AllocError}
 use Rattle.fol_model.specs.declared.places.ChunkPos.{ChunkPos}
 use Rattle.fol_model.specs.declared.events.Loaded.{Loaded}
@@ -14,15 +15,17 @@ use Rattle.fol_core.specs.declared.answers.Finish.{Finish}
 use Rattle.fol_core.specs.Answers.{CloseRecords, FinishRecords, LoadRecords, PostRecords, StopRecords, UnloadRecords, close_result, finish_result, is_over, load_result, post_result, unload_result}
 use Rattle.fol_world.specs.AtEnd.{end_event}
 use Rattle.fol_core.specs.Meaning.{Meaning, Records, Stays, world_of}
+use Rattle.fol_core.specs.Quiet.{Passes}
 use Rattle.fol_core.specs.Ticks.{SameTick}
 use Rattle.fol_live.specs.declared.answers.LivePhase.{LivePhase}
 use Rattle.fol_live.specs.declared.answers.Owners.{Owners}
-use Rattle.fol_live.specs.Calls.{AsksForEnd, Closes, Finishes, ListsOwners, Loads, Opens, Posts, Releases, Stops, Unloads}
+use Rattle.fol_live.specs.Calls.{AsksForEnd, Closes, Finishes, ListsOwners, Loads, Opens, PassesOn, Posts, Releases, Stops, Unloads}
 use Rattle.fol_live.specs.Results.{LivePhaseRecords, live_phase_result}
-use Rattle.fol_live.specs.Seat.{Shown, held}
+use Rattle.fol_live.specs.Seat.{Shown, held, meaning_of}
 use Rattle.fol_live.specs.Shown as worlds
-use Rattle.std.specs.Prelude.{None}
-use Rattle.fol_live.proofs.Taken.{Done, moved}
+use Rattle.fol_live.specs.Turns.{EndsAndPasses, IsLate}
+use Rattle.fol_live.specs.Turns as turns
+use Rattle.fol_live.proofs.Taken.{Done, bare_is, moved}
 
 module _ {old new : Shown} {m n : worlds.Shown} {by : ℕ} (d : Done old new m n by) (hand : new.hand ≡ old.hand) where
   abbrev before : Meaning
@@ -119,17 +122,72 @@ module _ {old new : Shown} {m n : worlds.Shown} {by : ℕ} (d : Done old new m n
     answer = moved d (λ a b k. over ≡ is_over (world_of b)) answer;
   }
 
--- the worker of the tick is the seat
-pub releases : {old new : Shown} {m n : worlds.Shown} (tick : Tick) (r : Result ℕ Tick) → Done old new m n tick.worker → IfOk r (λ k. k ≡ length n.history)
-    → OnOk r (Records (worlds.meaning_of m) (worlds.meaning_of n) tick.worker (end_event (world_of (worlds.meaning_of m)) tick.worker tick.region tick.log.ran)) → OnOk r (held new ≡ None) → IfErr r (λ t. SameTick tick t)
-    → OnErr r (new.hand ≡ old.hand) → OnErr r (Stays (worlds.meaning_of m) (worlds.meaning_of n)) → Releases old new tick r
-releases {old} {new} {m} {n} tick r d long recorded free back kept refused = record {
-  now = d.now;
-  turn = d.turn;
-  length = moved d (λ a b k. IfOk r (λ x. x ≡ length b.history)) long;
-  recorded = moved d (λ a b k. OnOk r (Records a b tick.worker (end_event (world_of a) tick.worker tick.region tick.log.ran))) recorded;
-  free = free;
-  back = back;
-  kept = kept;
-  refused = moved d (λ a b k. OnErr r (Stays a b)) refused;
-}
+-- ---- a tick that was given back
+
+module _ {old new : Shown} {y n : worlds.Shown} {answer : Result ℕ AllocError} (tick : Tick) (most : ℕ) (e : EndsAndPasses y n tick most answer) (d : Done old new e.ends.now n tick.worker) where
+  -- what the seat would show behind the End
+  abbrev pub ended : Shown
+  ended = record d.now { seen = e.ended.history }
+
+  worker_now : tick.worker ≡ d.now.number
+  worker_now = d.number ∙ sym d.turn.looks.number
+
+  opening_now : e.ended.opening ≡ d.now.opening
+  opening_now = e.ends.same.opening ∙ ap (λ (x : Meaning). x.opening) d.here
+
+  pub ends_here : Records (worlds.meaning_of e.ends.now) (worlds.meaning_of e.ended) tick.worker (end_event (world_of (worlds.meaning_of e.ends.now)) tick.worker tick.region tick.log.ran)
+      → Records (meaning_of d.now) (meaning_of ended) tick.worker (end_event (world_of (meaning_of d.now)) tick.worker tick.region tick.log.ran)
+  ends_here r =
+      let here = subst (λ (x : Meaning). Records x (worlds.meaning_of e.ended) tick.worker (end_event (world_of x) tick.worker tick.region tick.log.ran)) d.here r in
+      subst (λ (x : Meaning). Records (meaning_of d.now) x tick.worker (end_event (world_of (meaning_of d.now)) tick.worker tick.region tick.log.ran))
+      (bare_is e.ended d.now.opening e.ended.history opening_now refl) here
+
+  pub passes_here : turns.PassesOn e.ended n tick.worker most → PassesOn ended new most
+  passes_here p =
+      let there : Shown = record d.now { seen = p.now.history } in
+      let here = subst (λ (x : Meaning). Passes x (worlds.meaning_of n) tick.worker p.region p.count) (bare_is p.now d.now.opening p.now.history (p.learns.same.opening ∙ opening_now) refl) p.passes in
+      let both = subst (λ (x : Meaning). Passes (meaning_of there) x tick.worker p.region p.count) d.there here in
+      record {
+        now = there;
+        learnt = p.learns.learnt;
+        late = subst (λ (k : ℕ). AllByRecursion (IsLate k) p.learns.learnt) worker_now p.learns.late;
+        seen = p.learns.history;
+        opening = refl;
+        region = p.region;
+        count = p.count;
+        few = p.few;
+        passes = subst (λ (k : ℕ). Passes (meaning_of there) (meaning_of new) k p.region p.count) worker_now both;
+      }
+
+  pub released : (length : ℕ) → answer ≡ Ok length → held new ≡ None → Releases old new tick most (Ok length)
+  released length is free = record {
+    now = d.now;
+    turn = d.turn;
+    ended = ended;
+    number = d.turn.looks.number;
+    told = rw is at e.ends.told;
+    recorded = ends_here (rw is at e.ends.recorded);
+    passed = passes_here (rw is at e.passed);
+    free = free;
+    back = tt;
+    kept = tt;
+    refused = tt;
+  }
+
+  pub refused : (error : AllocError) (left : Tick) → answer ≡ Err error → SameTick tick left → new.hand ≡ old.hand → Releases old new tick most (Err left)
+  refused error left is same hand =
+      let stays : Stays (worlds.meaning_of e.ends.now) (worlds.meaning_of e.ended) = rw is at e.ends.refused in
+      let none : n ≡ e.ended = rw is at e.refused in
+      record {
+        now = d.now;
+        turn = d.turn;
+        ended = ended;
+        number = d.turn.looks.number;
+        told = tt;
+        recorded = tt;
+        passed = tt;
+        free = tt;
+        back = same;
+        kept = hand;
+        refused = moved d (λ a b k. Stays a b) (subst (λ (s : worlds.Shown). Stays (worlds.meaning_of e.ends.now) (worlds.meaning_of s)) (sym none) stays);
+      }

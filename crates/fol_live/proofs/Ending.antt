@@ -1,6 +1,6 @@
 -- The End of a tick, from what the core with its offers did.
-use Rattle.std.proofs.Common.{◌≡◌, ℕ, refl, sym, ◌∙◌, ap, inl, inr, List, [], ◌∷◌, ◌++◌, append_assoc, Bool}
-use Rattle.std.specs.Prelude.{Result, Ok, Err, OnErr, OnOk}
+use Rattle.std.proofs.Common.{◌≡◌, ◌≤◌, ℕ, refl, sym, ◌∙◌, ap, inl, inr, List, [], ◌∷◌, ◌++◌, append_assoc, Bool}
+use Rattle.std.specs.Prelude.{Result, Ok, Err, OnErr, OnOk, nat_eq}
 use Rattle.std.specs.List.{AllByRecursion}
 use Rattle.std.specs.declared.alloc.AllocError.{AllocError}
 use Rattle.std.proofs.lemmas.Bool.{cases_Bool}
@@ -10,6 +10,7 @@ use Rattle.fol_model.specs.declared.events.Entry.{Entry}
 use Rattle.fol_model.specs.declared.events.Event.TheVariants.{Begin}
 use Rattle.fol_model.specs.World.{World}
 use Rattle.fol_data.specs.declared.tick.Tick.{Tick}
+use Rattle.fol_core.specs.Quiet.{quiet_ticks}
 use Rattle.fol_core.specs.Meaning.{Meaning, Records, Stays, is_prepared, world_of}
 use Rattle.fol_world.specs.AtEnd.{end_event}
 use Rattle.fol_offers.specs.Ends.{Meets, wishes_may_touch}
@@ -17,8 +18,9 @@ use Rattle.fol_offers.specs.Ends as offers_ends
 use Rattle.fol_offers.specs.Shown as offers
 use Rattle.fol_live.specs.Kept.{IsKept}
 use Rattle.fol_live.specs.Shown.{shown}
-use Rattle.fol_live.specs.Turns.{Ends, IsLate, Learns, SameWorld}
-use Rattle.fol_live.proofs.Answering.{Grows, Tells, grows_one, grows_same, late_of, learns_by}
+use Rattle.fol_live.specs.Turns.{Ends, IsLate, Learns, PassesOn, SameWorld}
+use Rattle.fol_live.proofs.Answering.{Grows, Tells, grows_one, grows_same, late_of, learns_back, learns_by}
+use Rattle.fol_live.proofs.QuietEntries.{quiet_signed}
 use Rattle.fol_live.proofs.Bare.{bare, bare_records, bare_stays, err_map, on_ok_map}
 
 -- the Begins that were recorded up to some point, by one seat
@@ -92,3 +94,26 @@ ends old new tick r kept tells did =
     grown : (m n : Meaning) (w : World) (x : Result ℕ AllocError) → OnOk x (Records m n tick.worker (end_event w tick.worker tick.region tick.log.ran)) → OnErr x (Stays m n) → Grows m n
     grown m n w (Ok k) recorded refused = grows_one m n tick.worker (end_event w tick.worker tick.region tick.log.ran) (λ named. refl) recorded
     grown m n w (Err e) recorded refused = grows_same m n refused
+
+-- ticks that were passed over
+pub passes_on : (old new : offers.Shown) (by region count most : ℕ) → IsKept (shown old) → Tells new → count ≤ most → offers.PassesOver old new by region count → PassesOn (shown old) (shown new) by most
+passes_on old new by region count most kept tells few did =
+    let c = did.cleared in
+    let t : ℕ = (world_of c.core).tick region in
+    let grows : Grows c.core new.core = record {
+      opening = did.passes.opening;
+      added = quiet_ticks by region t count;
+      history = did.passes.history;
+      signed = quiet_signed by region t count;
+    } in
+    let learns = learns_back old c new by (nat_eq region) kept tells (did.workers) grows did.clears in
+    record {
+      now = shown c;
+      learns = learns.0;
+      region = region;
+      count = count;
+      few = few;
+      passes = record { opening = did.passes.opening; history = did.passes.history; prepared = refl };
+      same = record { opening = grows.opening; slots = did.slots ∙ sym did.clears.slots; workers = did.workers ∙ sym did.clears.workers };
+      keeps = learns.1;
+    }

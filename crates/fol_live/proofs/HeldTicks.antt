@@ -40,7 +40,7 @@ same_self t = record {
 -- a host is the same seat, with the same in its hand
 hosts_number : (old new : Shown) (calls : List HostCall) → Hosts old calls new → new.number ≡ old.number
 hosts_number old new calls (inl none) = ap (λ (s : Shown). s.number) none.1
-hosts_number old new calls (inr did) = did.goes.number ∙ did.looks.number
+hosts_number old new calls (inr did) = did.does.goes.number ∙ did.looks.number
 
 hosts_hand : (old new : Shown) (calls : List HostCall) → Hosts old calls new → new.hand ≡ old.hand
 hosts_hand old new calls (inl none) = ap (λ (s : Shown). s.hand) none.1

@@ -14,7 +14,7 @@ use Rattle.fol_tick_laws.specs.OpenTicks.{IsOpen, KeepsOpen}
 use Rattle.fol_tick_laws.proofs.OpenTicks.{open_more, open_same}
 use Rattle.fol_live.specs.Kept.{IsKept}
 use Rattle.fol_live.specs.Shown.{Shown, meaning_of}
-use Rattle.fol_live.specs.Turns.{IsLate, Learns}
+use Rattle.fol_live.specs.Turns.{IsLate, Learns, SameWorld}
 
 pub learns_none : (s : Shown) (by : ℕ) → IsKept s → Learns s s by
 learns_none s by kept = record {
@@ -25,9 +25,12 @@ learns_none s by kept = record {
   keeps = kept;
 }
 
+pub same_both : (a b c : Shown) → SameWorld a b → SameWorld b c → SameWorld a c
+same_both a b c p q = record { opening = q.opening ∙ p.opening; slots = q.slots ∙ p.slots; workers = q.workers ∙ p.workers }
+
 pub learns_both : (a b c : Shown) (by : ℕ) → Learns a b by → Learns b c by → Learns a c by
 learns_both a b c by p q = record {
-  same = record { opening = q.same.opening ∙ p.same.opening; slots = q.same.slots ∙ p.same.slots; workers = q.same.workers ∙ p.same.workers };
+  same = same_both a b c p.same q.same;
   learnt = p.learnt ++ q.learnt;
   history = q.history ∙ ap (λ (es : List Entry). es ++ q.learnt) p.history ∙ append_assoc a.history p.learnt q.learnt;
   late = all_append (IsLate by) p.learnt q.learnt p.late q.late;

@@ -2,6 +2,7 @@ pub mod Bare
 pub mod LateBegins
 pub mod Keeping
 pub mod Answering
+pub mod QuietEntries
 pub mod Ending
 pub mod Moved
 pub mod Trying
@@ -9,6 +10,7 @@ pub mod Holding
 pub mod Taken
 pub mod Called
 pub mod Grown
+pub mod Passed
 pub mod OwnTurns
 pub mod HeldTicks
 pub mod Hosted

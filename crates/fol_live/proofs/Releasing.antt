@@ -14,8 +14,8 @@ use Rattle.fol_live.specs.Results.{released_of}
 use Rattle.fol_live.specs.Seat.{HasHand, Shown, held_in}
 use Rattle.fol_live.specs.Shown as worlds
 use Rattle.fol_live.specs.Turned.{GivesIn}
-use Rattle.fol_live.specs.Turns.{Ends}
-use Rattle.fol_live.proofs.Called.{releases}
+use Rattle.fol_live.specs.Turns.{EndsAndPasses}
+use Rattle.fol_live.proofs.Called.{refused, released}
 use Rattle.fol_live.proofs.Taken.{Done, Hand}
 
 -- the worker of the tick is the seat
@@ -50,9 +50,8 @@ pub free_after : (before after : Hand) (tick : Tick) → GivesIn before tick →
 free_after None after tick gives freed_is = absurd gives
 free_after (Some w) after tick gives freed_is = ap held_in (freed_is w refl)
 
-pub release_done : {old new : Shown} {y n : worlds.Shown} (before : Hand) (tick left : Tick) (answer : Result ℕ AllocError) → (e : Ends y n tick answer) → Done old new e.now n tick.worker
-    → GivesIn before tick → old.hand ≡ before → OnOk answer (ForSome before (λ w. new.hand ≡ Some (freed w))) → OnErr answer (new.hand ≡ before) → OnErr answer (SameTick tick left)
-    → Releases old new tick (released_of answer left)
-release_done before tick left (Ok k) e d gives was freed_is kept same =
-    releases tick (Ok k) d e.told e.recorded (free_after before _ tick gives freed_is) tt tt tt
-release_done before tick left (Err x) e d gives was freed_is kept same = releases tick (Err left) d tt tt tt same (kept ∙ sym was) e.refused
+pub release_done : {old new : Shown} {y n : worlds.Shown} (before : Hand) (tick left : Tick) (most : ℕ) (answer : Result ℕ AllocError) → (e : EndsAndPasses y n tick most answer)
+    → Done old new e.ends.now n tick.worker → GivesIn before tick → old.hand ≡ before → OnOk answer (ForSome before (λ w. new.hand ≡ Some (freed w))) → OnErr answer (new.hand ≡ before)
+    → OnErr answer (SameTick tick left) → Releases old new tick most (released_of answer left)
+release_done before tick left most (Ok k) e d gives was freed_is kept same = released tick most e d k refl (free_after before _ tick gives freed_is)
+release_done before tick left most (Err x) e d gives was freed_is kept same = refused tick most e d x left refl same (kept ∙ sym was)

@@ -97,7 +97,7 @@ no_more xs (y ∷ ys) e = let l = ap length e in absurd (omega (arith, l, length
 some_is : (x y : Origin) → Some x ≡ Some y → x ≡ y
 some_is x y e = ap (λ (p : Option Origin). unwrap_or p x) e
 
-late_by : (k : ℕ) (es : List Entry) → AllByRecursion (IsLate k) es → All (λ (e : Entry). e.by ≡ k) es
+pub late_by : (k : ℕ) (es : List Entry) → AllByRecursion (IsLate k) es → All (λ (e : Entry). e.by ≡ k) es
 late_by k [] all = All-nil (λ (e : Entry). e.by ≡ k)
 late_by k (e ∷ es) all = All-cons (λ (e : Entry). e.by ≡ k) e es all.0.own (late_by k es all.1)
 
@@ -110,7 +110,7 @@ began_same : (z n : worlds.Shown) → n.opening ≡ z.opening → n.slots ≡ z.
 began_same z n opening slots workers = ap (λ (o : Opening). record { opening = o; slots = n.slots; workers = n.workers }) opening ∙ ap (λ (x : TableId). record { opening = z.opening; slots = x; workers = n.workers }) slots
     ∙ ap (λ (k : ℕ). record { opening = z.opening; slots = z.slots; workers = k }) workers
 
-bare_is : (n : worlds.Shown) (o : Opening) (h : List Entry) → n.opening ≡ o → n.history ≡ h → worlds.meaning_of n ≡ record { opening = o; history = h; prepared = []; room = Nothing }
+pub bare_is : (n : worlds.Shown) (o : Opening) (h : List Entry) → n.opening ≡ o → n.history ≡ h → worlds.meaning_of n ≡ record { opening = o; history = h; prepared = []; room = Nothing }
 bare_is n o h opening history = ap (λ (x : Opening). record { opening = x; history = n.history; prepared = []; room = Nothing }) opening ∙ ap (λ (es : List Entry). record { opening = o; history = es; prepared = []; room = Nothing }) history
 
 -- ---- with the turn

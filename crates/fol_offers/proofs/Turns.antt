@@ -1,20 +1,22 @@
 -- The turns that workers take.
 use Rattle.std.proofs.Common.{◌≡◌, ℕ, ◌<◌, ◌≤◌, List, [], ◌∷◌, ◌++◌, sym, refl, ap, ◌∙◌, subst, Some, true, false, true≢false, ◌⊎◌, inl, inr}
+use Rattle.std.specs.List.{AllByRecursion}
 use Rattle.std.proofs.lemmas.Bool.{eq-eqb}
 use Rattle.fol_model.specs.declared.events.Entry.{Entry}
 use Rattle.fol_model.specs.declared.events.Event.{Event}
 use Rattle.fol_model.specs.declared.events.Event.TheVariants.{Begin}
 use Rattle.fol_model.specs.Legal.{worker_of}
-use Rattle.fol_model.specs.OpenTick.{is_begin}
+use Rattle.fol_model.specs.OpenTick.{NoEnd, is_begin, is_end}
 use Rattle.fol_model.specs.Run.{Run}
 use Rattle.fol_laws.proofs.SortedRows.{all_append}
 use Rattle.fol_core.specs.Meaning.{Meaning, is_prepared, world_of}
 use Rattle.fol_seat_laws.specs.InTurn.{NoneOpen}
-use Rattle.fol_seat_laws.specs.Signed.{IsBegunBelow}
+use Rattle.fol_seat_laws.specs.Signed.{IsBegunBelow, is_start}
 use Rattle.fol_seat_laws.proofs.InTick.{start_is}
+use Rattle.fol_seat_laws.proofs.Splits.{all_behind, none_before, stands}
 use Rattle.fol_slots.specs.Shown.{FoundOnlyAt, Keeper, place_at}
 use Rattle.fol_offers.specs.declared.offer.Offer.{Offer}
-use Rattle.fol_offers.specs.InTurn.{TakeTurns}
+use Rattle.fol_offers.specs.InTurn.{IsFree, TakeTurns}
 use Rattle.fol_offers.specs.Places.{region_at}
 use Rattle.fol_offers.specs.Tied.{InUse, Tied}
 use Rattle.fol_offers.proofs.Facts.{begun_ticks}
@@ -72,6 +74,46 @@ module _ (w : ℕ) (h : List Entry) (t : TakeTurns w h) where
   -- what is no Begin
   pub turns_other : (e : Entry) → ((q : ℕ) → is_begin q e.event ≡ false) → TakeTurns w (h ++ e ∷ [])
   turns_other e other = turns_more e (λ k r is. absurd (true≢false (sym (eq-eqb r r refl) ∙ (ap (is_begin r) (sym is) ∙ other r))))
+
+-- ---- the End of a tick
+
+last_no_end : (q : ℕ) (xs : List Entry) (e : Entry) → NoEnd q (xs ++ e ∷ []) → is_end q e.event ≡ false
+last_no_end q [] e none = none.0
+last_no_end q (x ∷ xs) e none = last_no_end q xs e none.1
+
+module _ (w k r : ℕ) (h zs since : List Entry) (b e : Entry) (t : TakeTurns w h) (is : h ≡ zs ++ b ∷ since) (begins : b.event ≡ Begin k r) (runs_on : NoEnd r since) (ends : is_end r e.event ≡ true) where
+  -- another Begin of the worker, from the Begin of its tick on
+  none_since : (before mid rest : List Entry) (x : Entry) (q : ℕ) → h ≡ before ++ x ∷ rest → before ≡ zs ++ mid → b ∷ since ≡ mid ++ x ∷ rest → x.event ≡ Begin k q → is_end q e.event ≡ false → ⊥
+  none_since before [] rest x q at ahead second starts other =
+      let same : b ≡ x = cc in
+      let region : Begin k r ≡ Begin k q = sym begins ∙ (ap (λ (y : Entry). y.event) same ∙ starts) in
+      let one : r ≡ q = cc in
+      true≢false (sym ends ∙ (ap (λ (p : ℕ). is_end p e.event) one ∙ other))
+  none_since before (y ∷ ys) rest x q at ahead second starts other =
+      let first : b ≡ y = cc in
+      let later : since ≡ ys ++ x ∷ rest = cc in
+      let runs : NoEnd r (ys ++ x ∷ rest) = subst (NoEnd r) later runs_on in
+      t.turns before x rest k q at starts zs b ys r (ahead ∙ ap (λ (z : Entry). zs ++ z ∷ ys) (sym first)) begins (none_before r ys (x ∷ rest) runs)
+
+  none_behind : NoneOpen k (h ++ e ∷ [])
+  none_behind before x rest q same starts open = elim (in_longer h before rest e x same) [
+    | inl last ↦ absurd (true≢false (sym ends ∙ ap (is_end r) (ap (λ (y : Entry). y.event) (sym last.1) ∙ starts)))
+    | inr old ↦
+        let run : NoEnd q (old.0 ++ e ∷ []) = subst (NoEnd q) old.2 open in
+        let mid : NoEnd q old.0 = none_before q old.0 (e ∷ []) run in
+        elim (stands zs (b ∷ since) before x old.0 (sym is ∙ old.1)) [
+          | inl s ↦ t.turns zs b since k r is begins before x s.between q s.first starts (none_before q s.between (b ∷ since) (subst (NoEnd q) s.behind mid))
+          | inr s ↦ none_since before s.between old.0 x q old.1 s.ahead s.second starts (last_no_end q old.0 e run)
+        ]
+  ]
+
+  -- behind the End of its tick a worker is free
+  pub end_frees : IsFree w (h ++ e ∷ []) k
+  end_frees =
+      let all : AllByRecursion (IsBegunBelow w) (zs ++ b ∷ since) = subst (AllByRecursion (IsBegunBelow w)) is t.below in
+      let from = (all_behind (IsBegunBelow w) zs (b ∷ since) all).0 (ap is_start begins) in
+      let worker : worker_of b.event ≡ k = ap worker_of begins in
+      record { some = subst (λ (j : ℕ). 1 ≤ j) worker from.some; low = subst (λ (j : ℕ). j ≤ w) worker from.low; none = none_behind }
 
 -- ---- who was found
 

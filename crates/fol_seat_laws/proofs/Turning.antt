@@ -9,7 +9,7 @@ use Rattle.fol_model.specs.declared.events.Event.TheVariants.{Load, Unload, Post
 use Rattle.fol_model.specs.World.{World}
 use Rattle.fol_model.specs.Run.{after, after_all}
 use Rattle.fol_model.specs.Legal.{Doing, idle, IsTurn, turn, worker_of, WholeTicks}
-use Rattle.fol_seat_laws.specs.Signed.{IsSelfBegun, IsSigned, is_named, is_start, own_of}
+use Rattle.fol_seat_laws.specs.Signed.{IsSigned, is_named, is_start, own_of}
 use Rattle.fol_seat_laws.specs.Turns.{Turns}
 use Rattle.fol_seat_laws.proofs.OwnEntries.{own_none}
 

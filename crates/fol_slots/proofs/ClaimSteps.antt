@@ -1,10 +1,12 @@
 -- The steps of a worker keep the rule.
-use Rattle.std.proofs.Common.{◌≡◌, ℕ, ◌+◌, ◌-◌, ◌<◌, ◌≤◌, [], ◌∷◌, get_or, set, eqb, sym, refl, ap, ◌∙◌, subst, inr, arith, Option, Some, None, true}
+use Rattle.std.proofs.Common.{◌≡◌, ℕ, ◌+◌, ◌-◌, ◌<◌, ◌≤◌, [], ◌∷◌, get_or, set, eqb, sym, refl, ap, ◌∙◌, subst, inl, inr, arith, Option, Some, None, true}
 use mathlib.Core.Logic.{dite}
 use mathlib.Core.Option.{some, none}
 use native.Mathlib.Decide.{ℕ_discrete}
 use prog.Atomic.{either}
-use Rattle.atomic_table.specs.Table.{Me, Step, Act, keeps, takes, gives, stepped, Valid, carried_after, Allows}
+use lib.ListN.{get_elem?}
+use Rattle.std.proofs.lemmas.Bool.{cases_eq}
+use Rattle.atomic_table.specs.Table.{Me, State, Step, Act, keeps, takes, gives, stepped, Valid, carried_after, Allows}
 use Rattle.atomic_table.proofs.Lists.{exchanged}
 use Rattle.fol_slots.specs.declared.view.View.{View}
 use Rattle.fol_slots.specs.Words.{word_of}
@@ -20,6 +22,30 @@ module _ {T : Type 0} (fit : T → Type 0) (n : ℕ) where
 
   abbrev M : Type 0
   M = Me (Option T) V
+
+  abbrev St : Type 0
+  St = State (Option T) V
+
+  -- the seat notes the word that it met
+  misses : (st : Step (Option T)) (id : ℕ) (m : M) (s : St) → (r : Ruled fit n s) → st.word < n → get_elem? s.views id ≡ some m.0
+      → Ruled fit n (stepped s st.word (get_or s.words st.word 0) id m.1 (missing m.0 st.word (word_of (get_or s.words st.word 0))) keeps)
+  misses st id m s r inside at =
+      let i : ℕ = st.word in
+      let v : V = m.0 in
+      let me = r.each_seat id v at in
+      let u : V = missing v i (word_of (get_or s.words i 0)) in
+      same_words fit n s i s.homes (set s.views id u) (same_view fit n s r id v u at record { keeper_is = me.keeper_is; worker = me.worker; claims = me.claims; out = me.out; outer_is = me.outer_is })
+
+  pub looks : (st : Step (Option T)) (slots id : ℕ) (m : M) → st.word < n → Allows (Ruled fit n) slots id m st.word (λ k. k) (tells.looks st m)
+  looks st slots id m inside s r deep_is at small =
+      let i : ℕ = st.word in
+      let v : V = m.0 in
+      let w : ℕ = get_or s.words i 0 in
+      let me = r.each_seat id v at in
+      elim (cases_eq w 1) [
+        | inl is ↦ (v, keeps, tt, same_words fit n s i s.homes (set s.views id v) (same_view fit n s r id v v at me), ((λ _. refl), λ other. absurd (other is)))
+        | inr other ↦ (missing v i (word_of w), keeps, tt, misses st id m s r inside at, ((λ is. absurd (other is)), λ _. (small_word fit n s r i inside, refl)))
+      ]
 
   pub claims : (st : Step (Option T)) (slots id : ℕ) (m : M) (new : ℕ) → st.word < n → m.0.worker ≡ true → new ≡ m.0.number + 1 → m.0.slot ≡ None → m.0.out ≡ None
       → Allows (Ruled fit n) slots id m st.word (λ k. either (eqb k 1) new k) (tells.claims fit st m)
@@ -78,14 +104,7 @@ module _ {T : Type 0} (fit : T → Type 0) (n : ℕ) where
             (λ a high. put_else r.hold v.number (Some i) a (λ e. omega arith) ∙ r.unmade a high),
         ((λ _. (x, refl, body.2)), λ ne. absurd (ne is)),
       ))
-      (λ other.
-      let u : V = missing v i (word_of w) in (
-        u,
-        keeps,
-        tt,
-        same_words fit n s i s.homes (set s.views id u) (same_view fit n s r id v u at record { keeper_is = me.keeper_is; worker = me.worker; claims = me.claims; out = me.out; outer_is = me.outer_is }),
-        ((λ is. absurd (other is)), λ _. (small_word fit n s r i inside, refl)),
-      ))
+      (λ other. (missing v i (word_of w), keeps, tt, misses st id m s r inside at, ((λ is. absurd (other is)), λ _. (small_word fit n s r i inside, refl))))
 
   pub empties : (st : Step (Option T)) (slots id : ℕ) (m : M) (v : V) → st.word < n → m ≡ (v, (st.word, None) ∷ []) → v.worker ≡ true → v.slot ≡ Some st.word → v.out ≡ Some st.word
       → Allows (Ruled fit n) slots id m st.word (λ k. k) (tells.empties st m)

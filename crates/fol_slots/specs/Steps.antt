@@ -65,6 +65,10 @@ abbrev pub Tells : Type 0 → Type 1
 Tells T = Step (Option T) → Me (Option T) (View T) → ℕ → Me (Option T) (View T) → Type 0
 
 module _ {T : Type 0} where
+  -- A worker's look: nothing is noted of Ready, and another word that it met is.
+  abbrev pub looks : Tells T
+  looks st m r n = (r ≡ 1 → n ≡ m) × (r ≢ 1 → (r < 4294967296) × (n ≡ (missing m.0 st.word (word_of r), m.1)))
+
   -- A worker's claim: Ready becomes Ticking, and the slot is out; or the word that it met is noted.
   abbrev pub claims : (T → Type 0) → Tells T
   claims fit st m r n =

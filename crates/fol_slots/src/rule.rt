@@ -1,6 +1,6 @@
 //! The rule of the table, and what each step tells. `specs/Hands.antt` has the rule, `specs/Steps.antt` the steps.
 ghost use Rattle.fol_slots.specs.Hands.{Ruled};
-ghost use Rattle.fol_slots.specs.Steps.{first_view, claims, empties, keeps, offers, takes_out, puts_back, meets, meets_out, takes_in, made_left, made_right, parted_left, parted_right, both_of, spent};
+ghost use Rattle.fol_slots.specs.Steps.{first_view, looks, claims, empties, keeps, offers, takes_out, puts_back, meets, meets_out, takes_in, made_left, made_right, parted_left, parted_right, both_of, spent};
 ghost use Rattle.std.specs.Prelude.{length};
 
 use crate::body::Body;
@@ -22,6 +22,13 @@ impl<T: Body> TableRule<Option<T>, View<T>, About<T>> for Hands {
     ghost holds = { λ k. Ruled T.fit (length k.bodies.value.items) };
 
     ghost first = { λ k. first_view k.bodies.value.items };
+}
+
+/// A worker looks whether a slot is Ready.
+pub struct Looking;
+
+impl<T> Play<Option<T>, View<T>> for Looking {
+    ghost then = { looks };
 }
 
 /// A worker claims a slot.

@@ -1,15 +1,12 @@
 use Rattle.std.proofs.Common.{◌≡◌, ◌∙◌, ap, sym, subst}
 use Rattle.std.specs.Prelude.{OnErr, OnOk, Some}
 use Rattle.std.specs.Option.{ForSome}
-use Rattle.fol_core.specs.Meaning.{world_of}
-use Rattle.fol_world.specs.AtEnd.{end_event}
 use Rattle.fol_slots.specs.Shown.{freed}
 use Rattle.fol_live.specs.Seat.{LiveId, Shown, origin_of}
-use Rattle.fol_live.specs.Shown.{meaning_of}
 use Rattle.fol_live.specs.Turned.{GivesIn}
-use Rattle.fol_live.proofs.Grown.{added_end, grew}
+use Rattle.fol_live.proofs.Passed.{ended}
 use Rattle.fol_live.proofs.Releasing.{gives_in, hand_after, release_done, worker_is}
-use Rattle.fol_live.proofs.Taken.{Hand, begun, done, log_grows, seat_with, visits}
+use Rattle.fol_live.proofs.Taken.{Hand, begun, done, log_grows, seat_with}
 use Rattle.fol_live.proofs.live.Live.release.Goals as goal
 
 pub end-hand-requires-clause-ran : goal.end-hand-requires-clause-ran
@@ -26,9 +23,7 @@ give-requires-clause-log g c =
     let b = begun c.seat.inside.hand c.take.result c.state-world.result.now c.meet-hand.new.world c.seat.invariant.0 c.seat.invariant.1 c.state-world.ensures.value c.take-turn.ensures.state c.take-turn.ensures.seat
     by c.take.ensures.value c.meet-hand.ensures.meets in
     let told = c.end-hand.ensures.ends in
-    let event = end_event (world_of (meaning_of told.now)) c.args.tick.worker c.args.tick.region c.args.tick.log.ran in
-    let v = visits b told.now c.end-hand.new.world told.learns (grew told.now c.end-hand.new.world c.args.tick.worker told.same
-    (added_end (meaning_of told.now) (meaning_of c.end-hand.new.world) c.args.tick.worker event c.end-hand.result.1 told.recorded told.refused)) told.keeps in
+    let v = ended c.args.tick c.args.most c.end-hand.result.1 b told in
     log_grows v
 
 pub invariant_of-seat : goal.invariant_of-seat
@@ -38,9 +33,7 @@ invariant_of-seat g c =
     let b = begun c.seat.inside.hand c.take.result c.state-world.result.now c.meet-hand.new.world c.seat.invariant.0 c.seat.invariant.1 c.state-world.ensures.value c.take-turn.ensures.state c.take-turn.ensures.seat
     by c.take.ensures.value c.meet-hand.ensures.meets in
     let told = c.end-hand.ensures.ends in
-    let event = end_event (world_of (meaning_of told.now)) c.args.tick.worker c.args.tick.region c.args.tick.log.ran in
-    let v = visits b told.now c.end-hand.new.world told.learns (grew told.now c.end-hand.new.world c.args.tick.worker told.same
-    (added_end (meaning_of told.now) (meaning_of c.end-hand.new.world) c.args.tick.worker event c.end-hand.result.1 told.recorded told.refused)) told.keeps in
+    let v = ended c.args.tick c.args.most c.end-hand.result.1 b told in
     let same : c.meet-hand.result ≡ c.seat.inside.hand = c.meet-hand.ensures.same ∙ c.take.ensures.value in
     let here : GivesIn c.seat.inside.hand c.args.tick = gives_in (origin_of c.seat.inside.seat.origin) c.seat.inside.seat.number c.seat.inside.hand c.args.seat.now c.args.tick c.seat.invariant.1
     (ap (λ (x : Shown). x.number) (sym c.seat.view_is)) (ap (λ (x : Shown). x.hand) (sym c.seat.view_is)) c.requires.ran in
@@ -56,13 +49,11 @@ returns g c =
     let b = begun c.seat.inside.hand c.take.result c.state-world.result.now c.meet-hand.new.world c.seat.invariant.0 c.seat.invariant.1 c.state-world.ensures.value c.take-turn.ensures.state c.take-turn.ensures.seat
     by c.take.ensures.value c.meet-hand.ensures.meets in
     let told = c.end-hand.ensures.ends in
-    let event = end_event (world_of (meaning_of told.now)) c.args.tick.worker c.args.tick.region c.args.tick.log.ran in
-    let v = visits b told.now c.end-hand.new.world told.learns (grew told.now c.end-hand.new.world c.args.tick.worker told.same
-    (added_end (meaning_of told.now) (meaning_of c.end-hand.new.world) c.args.tick.worker event c.end-hand.result.1 told.recorded told.refused)) told.keeps in
+    let v = ended c.args.tick c.args.most c.end-hand.result.1 b told in
     let same : c.meet-hand.result ≡ c.seat.inside.hand = c.meet-hand.ensures.same ∙ c.take.ensures.value in
     let here : GivesIn c.seat.inside.hand c.args.tick = gives_in (origin_of c.seat.inside.seat.origin) c.seat.inside.seat.number c.seat.inside.hand c.args.seat.now c.args.tick c.seat.invariant.1
     (ap (λ (x : Shown). x.number) (sym c.seat.view_is)) (ap (λ (x : Shown). x.hand) (sym c.seat.view_is)) c.requires.ran in
     let freed_is = subst (λ (h : Hand). OnOk c.end-hand.result.1 (ForSome h (λ w. c.end-hand.result.0 ≡ Some (freed w)))) same c.end-hand.ensures.freed in
     let kept = subst (λ (h : Hand). OnErr c.end-hand.result.1 (c.end-hand.result.0 ≡ h)) same c.end-hand.ensures.kept in
     let d = done v c.give.ensures.idle c.give.ensures.number c.give.ensures.origin c.give.ensures.seen c.give.ensures.mine c.seat.view_is (ap (λ (x : LiveId). x.lock) c.requires.own) in
-    rw c.released.ensures (release_done c.seat.inside.hand c.args.tick c.end-hand.new.tick c.end-hand.result.1 told d here (ap (λ (x : Shown). x.hand) (sym c.seat.view_is)) freed_is kept c.end-hand.ensures.same)
+    rw c.released.ensures (release_done c.seat.inside.hand c.args.tick c.end-hand.new.tick c.args.most c.end-hand.result.1 told d here (ap (λ (x : Shown). x.hand) (sym c.seat.view_is)) freed_is kept c.end-hand.ensures.same)

@@ -12,7 +12,7 @@ invariant_of-self c =
     let mid : Shown = record { core = c.self.inside.core; slots = c.self.inside.keeper.slots; workers = c.self.inside.keeper.workers } in
     let back : CallsBack old mid c.args.by (nat_eq c.args.region) = subst (λ (v : Shown). CallsBack old v c.args.by (nat_eq c.args.region)) (sym c.self.view_is) c.call_back_one.ensures in
     tied_passes old mid c.pass-passed.new.self c.self.inside.keeper c.self.inside.places c.args.by c.args.region c.pass-passed.result c.self.invariant (search rules) (search rules) back
-    (back_gone old mid c.args.by c.args.region back) (c.requires.worker.0, subst (λ (x : ℕ). c.args.by ≤ x) (sym back.workers) c.requires.worker.1) c.requires.none c.pass-passed.ensures.passed
+    (back_gone old mid c.args.by c.args.region back) (c.requires.free.some, subst (λ (x : ℕ). c.args.by ≤ x) (sym back.workers) c.requires.free.low) c.requires.free.none c.pass-passed.ensures.passed
 
 pub returns-clause-passed : goal.returns-clause-passed
 returns-clause-passed c =

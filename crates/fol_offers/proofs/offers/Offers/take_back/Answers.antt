@@ -55,3 +55,6 @@ pub clear-requires : goal.clear-requires
 clear-requires c =
     let has = gives_slot c.self.inside.core c.self.inside.keeper c.self.inside.places c.args.seat c.args.tick.now c.self.invariant c.requires.ran c.take_in-seat.ensures.not_kept c.take_in-seat.ensures.claimed in
     subst (λ (x : ℕ). 0 < x) (sym c.in-Some.ensures.some.1) has.some
+
+pub returns-clause-free-in-Ok : goal.returns-clause-free-in-Ok
+returns-clause-free-in-Ok c = end_frees
