@@ -28,8 +28,6 @@ use Rattle.fol_core.specs.declared.answers.CloseFault.{CloseFault}
 use Rattle.fol_core.specs.declared.answers.CloseFault.TheVariants as faults
 use Rattle.fol_core.specs.declared.answers.Finish.{Finish}
 use Rattle.fol_core.specs.declared.answers.Finish.TheVariants as finishes
-use Rattle.fol_core.specs.declared.answers.Next.{Next}
-use Rattle.fol_core.specs.declared.answers.Next.TheVariants as nexts
 use Rattle.fol_core.specs.declared.answers.BeginAnswer.{BeginAnswer}
 use Rattle.fol_core.specs.declared.answers.BeginAnswer.TheVariants.{Got, NotReady, NotOwing, Over}
 use Rattle.std.specs.List.{find}
@@ -123,12 +121,6 @@ Begins old new by worker id (Got tick) = (is_over (world_of old) ≡ false) × (
 Begins old new by worker id (NotReady state) = (is_over (world_of old) ≡ false) × (is_ready state ≡ false) × (state ≡ (world_of old).grid.state id) × Unchanged old new
 Begins old new by worker id NotOwing = (is_over (world_of old) ≡ false) × (is_ready ((world_of old).grid.state id) ≡ true) × ((world_of old).owed id ≡ 0) × Unchanged old new
 Begins old new by worker id Over = (is_over (world_of old) ≡ true) × Unchanged old new
-
--- the same of asking for a tick of any region that owes one and is not prepared, by the worker that it is for; only a Begin gives one
-abbrev pub BeginsNext : Meaning → Meaning → ℕ → Next → Tick → Type 0
-BeginsNext old new worker nexts.Begun tick = (is_over (world_of old) ≡ false) × (is_free old tick.region ≡ true) × IsTick (world_of old) (length old.history) worker tick.region tick × Records old new worker (events.Begin worker tick.region)
-BeginsNext old new worker nexts.Idle tick = (is_over (world_of old) ≡ false) × ((r : ℕ) → 0 < r → r < (world_of old).grid.next → is_free old r ≡ false) × Unchanged old new
-BeginsNext old new worker nexts.Over tick = (is_over (world_of old) ≡ true) × Unchanged old new
 
 -- ---- the closing
 

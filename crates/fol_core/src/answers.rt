@@ -37,17 +37,6 @@ pub enum BeginAnswer {
     Over,
 }
 
-/// What asking for the next tick came to.
-#[derive(Clone, Copy, Debug, PartialEq, Eq)]
-pub enum Next {
-    /// A region ticks, and its tick has taken the place of the one before it.
-    Begun,
-    /// No Ready region owes a tick.
-    Idle,
-    /// Finish or Stop stands in the history.
-    Over,
-}
-
 /// What closing a phase came to.
 #[derive(Clone, Copy, Debug, PartialEq, Eq)]
 pub enum Close {

@@ -32,6 +32,6 @@ mod releases;
 mod ticks;
 mod undone;
 
-pub use answers::{BeginAnswer, Close, CloseFault, Finish, Next, Phase, Posting};
+pub use answers::{BeginAnswer, Close, CloseFault, Finish, Phase, Posting};
 pub use fol_data::Tick;
 pub use machine::Core;

@@ -1,19 +1,17 @@
 //! Begins of ticks.
 
-ghost use Rattle.std.specs.Prelude.{◌≡◌, false, [], OnOk, OnErr, IfOk};
-ghost use Rattle.fol_core.specs.Answers.{Begins, BeginsNext, IsGiven};
+ghost use Rattle.std.specs.Prelude.{◌≡◌, false, OnOk};
+ghost use Rattle.fol_core.specs.Answers.{Begins, IsGiven};
 ghost use Rattle.fol_core.specs.Room.{IsDueList, IsForBegin, room_of};
 ghost use Rattle.fol_core.specs.Meaning.{IsReadyToBegin, Stays, is_prepared, world_of};
 
+use crate::BeginAnswer;
 use crate::entries::record;
 use crate::machine::{Core, Room};
-use crate::{BeginAnswer, Next};
-use fol_data::Tick;
-use fol_model::{Event, Sequence, State, Task};
-use fol_world::begins::{due_list, hand_out, owed_list, tick_of};
+use fol_model::{Event, State, Task};
+use fol_world::begins::{due_list, hand_out, tick_of};
 use fol_world::tables::grow_history;
 use std::alloc::{AllocError, Global};
-use std::mem;
 
 impl Core {
     /// Takes the memory for a Begin of this region. The region is then ready to begin, until the next call that changes the core.
@@ -59,54 +57,6 @@ impl Core {
         let wishes = Vec::new(self.alloc);
         BeginAnswer::Got(tick_of(self.alloc, worker, id, begun, taken, wishes))
     }
-
-    /// Begins a tick of a Ready region that owes one and is not prepared, by a worker that records it, and puts it in place of `tick`. It
-    /// is `first` where that is such a region, and else which one is free. Over exactly where Finish or Stop stands in the history, else
-    /// Idle exactly where there is no such region. Only Begun is recorded. If memory runs out, nothing has changed, but a readiness
-    /// may be lost.
-    pub fn begin_next(
-        &mut self,
-        alloc: Global,
-        worker: u32,
-        first: u64,
-        tick: &mut Tick,
-    ) -> Result<Next, AllocError>
-        ensures begun { IfOk result (λ a. BeginsNext self.old self.new worker a tick.new) }
-        ensures refused { OnErr result (Stays self.old self.new) }
-    {
-        if self.tables.course.is_over() {
-            return Ok(Next::Over);
-        }
-        let Some(id) = self.next_owing(first) else {
-            return Ok(Next::Idle);
-        };
-        self.room = None;
-        grow_history(&mut self.history, &self.tables.course, self.marks.count())?;
-        let list = emptied(alloc, &mut tick.due);
-        let room = owed_list(
-            alloc,
-            &self.tables.regions,
-            &mut self.tables.store,
-            id,
-            list,
-        )?;
-        let begun = self.history.as_slice().len() as u64;
-        let taken = hand_out(&mut self.tables, id, room);
-        let event = Event::Begin { worker, region: id };
-        record(&mut self.history, &mut self.tables.course, worker, event);
-        let wishes = emptied(alloc, &mut tick.log.wishes);
-        *tick = tick_of(self.alloc, worker, id, begun, taken, wishes);
-        Ok(Next::Begun)
-    }
-}
-
-/// The memory of a list, without what is in it.
-fn emptied<T: Drop>(alloc: Global, list: &mut Sequence<T>) -> Vec<T>
-    ensures { result.items ≡ [] }
-{
-    let mut elements = mem::replace(list, Sequence::new(alloc)).into_vec();
-    elements.clear();
-    elements
 }
 
 /// The memory for the due tasks that was taken for a Begin.

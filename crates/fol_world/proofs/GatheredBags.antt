@@ -99,11 +99,7 @@ gathered_agenda xs g f h e a = record {
   top = λ ys r s. let x = e r in rw x (a.top ys r s);
 }
 
--- a region that owes a tick owes it still
-pub gathered_owes : (g : GridState) (f k : ℕ → Bag) (id : ℕ) → ((r : ℕ) → Gathered g r (f r) (k r)) → owes g f id ≡ true → owes g k id ≡ true
-gathered_owes g f k id bags x = let e = (bags id).owes in rw e x
-
--- and none owes one that owed none
+-- a region owes a tick where it owed one
 pub owes_as_before : (g : GridState) (f k : ℕ → Bag) (id : ℕ) → ((r : ℕ) → Gathered g r (f r) (k r)) → owes g k id ≡ owes g f id
 owes_as_before g f k id bags = let e = (bags id).owes in rw e refl
 

@@ -100,7 +100,7 @@ pub fn due_list(
 }
 
 /// The list, emptied, with room for the tasks that are due in the next tick of a region that owes one. Its bag is whole then.
-pub fn owed_list(
+fn owed_list(
     alloc: Global,
     regions: &Regions,
     store: &mut Store,
