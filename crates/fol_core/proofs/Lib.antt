@@ -25,6 +25,7 @@ pub mod AheadBegins
 pub mod AheadQuiet
 pub mod AheadEnds
 pub mod AheadTouched
+pub mod HeldTouched
 pub mod DueLists
 pub mod BeginKept
 pub mod BeginTick

@@ -2,7 +2,7 @@
 use Rattle.std.proofs.Common.{◌≡◌, ℕ, zero, suc, ◌+◌, ◌-◌, ◌≤◌, ◌<◌, refl, sym, ◌∙◌, ap, arith, Bool, true, false, inl, inr, List, [], ◌∷◌, ◌++◌, length, length-append, slice_index_or, slice_set}
 use Rattle.std.specs.Prelude.{cond}
 use Rattle.std.proofs.Math.Path.{fun_ext}
-use Rattle.std.proofs.lemmas.Bool.{cases_Bool, cases_eq, cases_lt, true≢false}
+use Rattle.std.proofs.lemmas.Bool.{cases_Bool, cases_eq, cases_lt, false_from_ne_true, true≢false}
 use Rattle.std.proofs.Math.ListN.{get_or-append, get_or-eq_default}
 use Rattle.std.proofs.Math.Seq.{get_or-append_right}
 use Rattle.std.proofs.lemmas.List.{get_or-set_same, get_or-set_other, length-set}
@@ -56,6 +56,10 @@ mark_below marks id on = elim (cases_lt id (length marks)) [
 pub count_off : (marks : List Bool) → ((r : ℕ) → mark marks r ≡ false) → mark_count marks ≡ 0
 unfolding mark_count
 count_off marks none = count_zero (mark marks) (length marks) none
+
+-- where they are none, no region has a mark
+pub none_counted : (marks : List Bool) → mark_count marks ≡ 0 → (r : ℕ) → mark marks r ≡ false
+none_counted marks none r = false_from_ne_true (mark marks r) (λ on. let one = count_removed marks r (mark_below marks r on) on in omega (arith, none, one))
 
 pub count_none : mark_count [] ≡ 0
 unfolding mark_count count_below

@@ -17,7 +17,6 @@ use Rattle.fol_model.specs.World.{World}
 use Rattle.fol_model.specs.Run.{load_answer, unload_answer}
 use Rattle.fol_core.specs.Meaning.{Meaning, Records, Unchanged, is_prepared, world_of}
 use Rattle.fol_core.specs.Ticks.{IsTick}
-use Rattle.fol_data.specs.declared.tick.Tick.{Tick}
 use Rattle.fol_core.specs.declared.answers.Posting.{Posting}
 use Rattle.fol_core.specs.declared.answers.Posting.TheVariants as postings
 use Rattle.fol_core.specs.declared.answers.Phase.{Phase}

@@ -1,13 +1,15 @@
 //! Ticks that are made before their Begins are recorded, and what an event may touch meanwhile.
 
 ghost use Rattle.std.specs.Prelude.{◌≡◌, ◌≤◌, true, false, [], filter, length, IfOk, IfSome, IsTrue};
-ghost use Rattle.fol_model.specs.Geometry.{is_chunk};
+ghost use Rattle.fol_model.specs.Geometry.{is_chunk, section_of as section_around};
 ghost use Rattle.fol_model.specs.GridState.{is_ready};
 ghost use Rattle.fol_model.specs.Universe.{numbers_below};
+ghost use Rattle.fol_regions.specs.Table.{grid_state};
+ghost use Rattle.fol_regions.specs.Touched.{is_touched};
 ghost use Rattle.fol_store.specs.Stock.{bag_of};
-ghost use Rattle.fol_core.specs.Ahead.{Learns, PreparedAreReady, Prepares, Withdraws, may_touch};
+ghost use Rattle.fol_core.specs.Ahead.{Learns, NonePrepared, PreparedAreReady, Prepares, Withdraws, may_touch};
 ghost use Rattle.fol_core.specs.Answers.{is_free, is_over};
-ghost use Rattle.fol_core.specs.Meaning.{IsReadyToBegin, is_prepared, world_of};
+ghost use Rattle.fol_core.specs.Meaning.{IsReadyToBegin, is_prepared, mark_count, world_of};
 ghost use Rattle.fol_core.specs.Ticks.{IsTick};
 ghost use Rattle.fol_core.specs.Undone.{IsRoomAgain};
 
@@ -15,10 +17,11 @@ use crate::machine::{Core, Room};
 use crate::ticks::due_room;
 use crate::undone::undo;
 use fol_data::Tick;
-use fol_model::{ChunkPos, Event, PackedEntry, State, Task};
+use fol_model::{ChunkPos, Event, PackedEntry, SectionPos, State, Task, section_of};
+use fol_regions::Regions;
 use fol_world::begins::{hand_out, tick_of};
 use fol_world::tables::Tables;
-use std::alloc::AllocError;
+use std::alloc::{AllocError, Global};
 
 impl Core {
     /// The Ready regions, prepared ones among them, that an event on this chunk may touch, rising: the one that owns the section of the
@@ -30,9 +33,18 @@ impl Core {
         ensures listed { IfOk result (λ ids. ids.items ≡ filter (may_touch (world_of self.now) c)
             (numbers_below (world_of self.now).grid.next)) }
     {
-        let mut ids = self.tables.regions.touched(self.alloc, c)?;
+        let home = section_of(&self.tables.grid, c);
+        let mut ids = list_touched(self.alloc, &self.tables.regions, home, c)?;
         ids.retain(|id| self.is_ready(*id));
         Ok(ids)
+    }
+
+    /// How many regions are prepared. Where it is 0, none is.
+    pub fn prepared_count(&self) -> u64
+        ensures count { result ≡ mark_count self.now.prepared }
+        ensures none { result ≡ 0 → NonePrepared self.now }
+    {
+        self.marks.count()
     }
 
     /// Whether a region is Ready after the history.
@@ -95,6 +107,33 @@ impl Core {
         self.tables.course.size -= 1;
         self.room = room_again(&self.tables, id, due);
         self.room.is_some()
+    }
+}
+
+/// The regions that an event on a chunk of this section may touch, rising. Where the chunk is held, an added hold makes no section present,
+/// and only the owner is looked up.
+fn list_touched(
+    alloc: Global,
+    regions: &Regions,
+    home: SectionPos,
+    c: ChunkPos,
+) -> Result<Vec<u64>, AllocError>
+    requires in_range { IsTrue (is_chunk c) }
+    requires home { home ≡ section_around (grid_state regions.now).grid c }
+    ensures { IfOk result (λ ids. ids.items ≡ filter (is_touched (grid_state regions.now) c)
+        (numbers_below (grid_state regions.now).next)) }
+{
+    if regions.holds(c) == 0 {
+        return regions.touched(alloc, c);
+    }
+    regions.keeps_rules();
+    let mut ids = Vec::new(alloc);
+    match regions.owner(home) {
+        Some(id) => {
+            ids.push(id)?;
+            Ok(ids)
+        }
+        None => unreachable!(),
     }
 }
 

@@ -1,4 +1,5 @@
 pub mod CalledBack
+pub mod Crossing
 pub mod EventsKept
 pub mod Facts
 pub mod FitTicks
