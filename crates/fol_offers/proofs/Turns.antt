@@ -96,10 +96,10 @@ module _ (w k r : ℕ) (h zs since : List Entry) (b e : Entry) (t : TakeTurns w 
       t.turns before x rest k q at starts zs b ys r (ahead ∙ ap (λ (z : Entry). zs ++ z ∷ ys) (sym first)) begins (none_before r ys (x ∷ rest) runs)
 
   none_behind : NoneOpen k (h ++ e ∷ [])
-  none_behind before x rest q same starts open = elim (in_longer h before rest e x same) [
+  none_behind before x rest q same starts unended = elim (in_longer h before rest e x same) [
     | inl last ↦ absurd (true≢false (sym ends ∙ ap (is_end r) (ap (λ (y : Entry). y.event) (sym last.1) ∙ starts)))
     | inr old ↦
-        let run : NoEnd q (old.0 ++ e ∷ []) = subst (NoEnd q) old.2 open in
+        let run : NoEnd q (old.0 ++ e ∷ []) = subst (NoEnd q) old.2 unended in
         let mid : NoEnd q old.0 = none_before q old.0 (e ∷ []) run in
         elim (stands zs (b ∷ since) before x old.0 (sym is ∙ old.1)) [
           | inl s ↦ t.turns zs b since k r is begins before x s.between q s.first starts (none_before q s.between (b ∷ since) (subst (NoEnd q) s.behind mid))

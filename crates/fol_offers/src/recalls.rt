@@ -115,7 +115,8 @@ impl Offers {
         }
     }
 
-    /// Calls back what an event on this chunk may touch. Fails only when out of memory; then nothing has changed.
+    /// Calls back what an event on this chunk may touch, which is not looked at where no tick is offered. Fails only when out of memory; then
+    /// nothing has changed.
     pub(crate) fn clear(
         &mut self,
         slots: &Slots<Offer>,
@@ -127,6 +128,9 @@ impl Offers {
         ensures ok { OnOk result (CallsBack self.old self.new by (may_touch (world_of self.old.core) c)) }
         ensures err { OnErr result (self.new ≡ self.old) }
     {
+        if self.core.prepared_count() == 0 {
+            return Ok(());
+        }
         let touched = self.core.touched(c)?;
         self.call_all_back(slots, by, touched.as_slice());
         Ok(())

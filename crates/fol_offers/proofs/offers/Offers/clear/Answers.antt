@@ -1,11 +1,11 @@
-use Rattle.std.proofs.Common.{◌≡◌, ℕ, List, subst}
+use Rattle.std.proofs.Common.{◌≡◌, ◌∙◌, ℕ, List, subst, sym, true≢false}
 use Rattle.std.specs.List.{filter}
 use Rattle.fol_model.specs.Universe.{numbers_below}
-use Rattle.fol_core.specs.Ahead.{PreparedAreReady, may_touch}
+use Rattle.fol_core.specs.Ahead.{NonePrepared, PreparedAreReady, may_touch}
 use Rattle.fol_core.specs.Meaning.{world_of}
 use Rattle.fol_tick_laws.specs.Touching.{lists}
 use Rattle.fol_offers.specs.Shown.{CallsBack, Shown}
-use Rattle.fol_offers.proofs.CalledBack.{back_listed}
+use Rattle.fol_offers.proofs.CalledBack.{back_listed, back_none}
 use Rattle.fol_offers.proofs.offers.Offers.clear.Goals as goal
 
 pub returns-clause-ok : goal.returns-clause-ok
@@ -13,3 +13,8 @@ returns-clause-ok c = back_listed c.args.self.now c.call_all_back.new.self c.arg
     (subst (λ (v : Shown). PreparedAreReady v.core) c.self.view_is c.touched.ensures.ready)
     (subst (λ (v : Shown). c.in_ok-touched.touched.items ≡ filter (may_touch (world_of v.core) c.args.c) (numbers_below (world_of v.core).grid.next)) c.self.view_is c.in_ok-touched.ensures.listed)
     (subst (λ (xs : List ℕ). CallsBack c.args.self.now c.call_all_back.new.self c.args.by (lists xs)) c.as_slice.ensures.value c.call_all_back.ensures)
+
+pub returns-then-prepared_count-eq0-clause-ok : goal.returns-then-prepared_count-eq0-clause-ok
+returns-then-prepared_count-eq0-clause-ok c =
+    let none : NonePrepared c.args.self.now.core = subst (λ (v : Shown). NonePrepared v.core) c.self.view_is (c.prepared_count.ensures.none c.if-prepared_count-eq0.true) in
+    back_none c.args.self.now c.args.by (may_touch (world_of c.args.self.now.core) c.args.c) (λ r on. absurd (true≢false (sym on ∙ none r)))

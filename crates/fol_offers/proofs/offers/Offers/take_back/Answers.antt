@@ -1,4 +1,6 @@
-use Rattle.std.proofs.Common.{rules, ◌≡◌, ℕ, ◌<◌, List, refl, sym, subst, false, Some}
+use Rattle.std.proofs.Common.{rules, ◌≡◌, ℕ, ◌<◌, List, ◌++◌, refl, sym, ap, subst, false, Some}
+use Rattle.std.proofs.lemmas.Bool.{eq-eqb}
+use Rattle.fol_model.specs.declared.events.Entry.{Entry}
 use Rattle.fol_data.specs.declared.tick.Tick.{Tick}
 use Rattle.fol_core.specs.Ahead.{Spares}
 use Rattle.fol_core.specs.Meaning.{Meaning, is_prepared, world_of}
@@ -7,9 +9,11 @@ use Rattle.fol_tick_laws.specs.OpenTicks.{IsOpen}
 use Rattle.fol_slots.specs.Shown.{Keeper, held_slot}
 use Rattle.fol_offers.specs.declared.offer.Offer.{Offer}
 use Rattle.fol_offers.specs.Ends.{wishes_may_touch}
+use Rattle.fol_offers.specs.InTurn.{IsFree}
 use Rattle.fol_offers.specs.Shown.{Shown}
 use Rattle.fol_offers.specs.Tied.{of_tick}
 use Rattle.fol_offers.proofs.MetTicks.{end_spares, gives_slot, out_when_open, tied_taken_in}
+use Rattle.fol_offers.proofs.Turns.{end_frees}
 use Rattle.fol_offers.proofs.Tying.{tied_stays}
 use Rattle.fol_offers.proofs.offers.Offers.take_back.Goals as goal
 
@@ -56,5 +60,13 @@ clear-requires c =
     let has = gives_slot c.self.inside.core c.self.inside.keeper c.self.inside.places c.args.seat c.args.tick.now c.self.invariant c.requires.ran c.take_in-seat.ensures.not_kept c.take_in-seat.ensures.claimed in
     subst (λ (x : ℕ). 0 < x) (sym c.in-Some.ensures.some.1) has.some
 
-pub returns-clause-free-in-Ok : goal.returns-clause-free-in-Ok
-returns-clause-free-in-Ok c = end_frees
+pub returns-in-Some-clause-free : goal.returns-in-Some-clause-free
+returns-in-Some-clause-free c =
+    let m : Meaning = c.self.inside.core in
+    let s : Keeper Offer = c.self.inside.keeper in
+    let tick : Tick = c.args.tick.now in
+    let out : IsOut m tick = out_when_open m c.args.seat tick c.requires.ran
+    (subst (λ (v : Shown). (t : Tick) → c.args.seat.claimed ≡ Some (of_tick t) → IsOpen v.core (record t { worker = c.args.seat.number })) (sym c.self.view_is) c.requires.open) in
+    let free = end_frees s.workers tick.worker tick.region m.history (out.made.before ++ out.made.between) out.made.since _ _ c.self.invariant.in_turn out.made.begin refl out.made.runs_on (eq-eqb tick.region tick.region refl) in
+    let now : IsFree s.workers c.end.new.self.history tick.worker = subst (λ (h : List Entry). IsFree s.workers h tick.worker) (sym c.in-Ok.ensures.recorded.history) free in
+    subst (λ (k : ℕ). IsFree k c.end.new.self.history tick.worker) (sym (ap (λ (x : Keeper Offer). x.workers) c.take_in-seat.ensures.keeper)) now
