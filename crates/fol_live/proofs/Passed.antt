@@ -1,6 +1,6 @@
 -- A tick that was given back, and ticks behind it that were passed over.
 use Rattle.std.proofs.Common.{◌≡◌, ℕ, ◌∙◌, sym, ap, subst, List, ◌++◌, append_assoc}
-use Rattle.std.specs.Prelude.{All, Result, Ok, Err}
+use Rattle.std.specs.Prelude.{Result, Ok, Err}
 use Rattle.std.specs.declared.alloc.AllocError.{AllocError}
 use Rattle.std.proofs.lemmas.List.Elements.{All-append}
 use Rattle.fol_model.specs.declared.events.Entry.{Entry}

@@ -7,7 +7,7 @@ ghost use Rattle.fol_slots.specs.Table.{slots_id};
 ghost use Rattle.fol_core.specs.Ticks.{SameTick};
 ghost use Rattle.fol_offers.specs.Ends.{GivesBack, Has};
 ghost use Rattle.fol_offers.specs.InTurn.{IsFree};
-ghost use Rattle.fol_live.specs.Turns.{EndsAndPasses, HasOpen, Learns, PassesOn};
+ghost use Rattle.fol_live.specs.Turns.{Ends, EndsAndPasses, HasOpen, Learns, PassesOn};
 
 use crate::world::World;
 use fol_data::Tick;
@@ -39,9 +39,8 @@ impl World {
     }
 
     /// Ends the tick that a worker claimed, once all of its tasks ran, passes over at most `most` ticks of its region behind it in which nothing
-    /// happens, and offers what is owed then. Returns the new length of the history,
-    /// with the seat, which holds no slot any more. If memory runs out, no End is recorded, and the worker has its tick still, which is
-    /// the same.
+    /// happens, and offers what is owed then. Returns the length of the history with the End, with the seat, which holds no slot any more. If
+    /// memory runs out, no End is recorded, and the worker has its tick still, which is the same.
     pub fn end(
         &mut self,
         slots: &Slots<Offer>,
@@ -57,13 +56,42 @@ impl World {
         ensures kept { OnErr result.1 (result.0 ≡ seat) }
         ensures same { OnErr result.1 (SameTick tick.old tick.new) }
     {
+        let by = tick.worker;
+        let region = tick.region;
+        let (seat, answer) = self.end_tick(slots, seat, tick);
+        match answer {
+            Ok(length) => {
+                self.pass(slots, by, region, most);
+                self.offer_rest(slots);
+                (seat, Ok(length))
+            }
+            Err(_) => {
+                self.offer_rest(slots);
+                (seat, Err(AllocError))
+            }
+        }
+    }
+
+    /// The End alone. Behind it the worker has no tick open.
+    fn end_tick(
+        &mut self,
+        slots: &Slots<Offer>,
+        seat: WorkerSeat<Offer>,
+        tick: &mut Tick,
+    ) -> (WorkerSeat<Offer>, Result<u64, AllocError>)
+        requires own { self.old.slots ≡ slots_id slots.now }
+        requires seat { seat.slots ≡ slots_id slots.now }
+        requires ran { GivesBack seat tick.old }
+        ensures ends { Ends self.old self.new tick.old result.1 }
+        ensures free { OnOk result.1
+            (IsFree self.new.workers self.new.history tick.old.worker) }
+        ensures freed { OnOk result.1 (result.0 ≡ freed seat) }
+        ensures kept { OnErr result.1 (result.0 ≡ seat) }
+        ensures same { OnErr result.1 (SameTick tick.old tick.new) }
+    {
         self.is_short = true;
         let (seat, answer) = self.offers.end(self.alloc, slots, seat, tick);
         self.offers.keeps();
-        if answer.is_ok() {
-            self.pass(slots, tick.worker, tick.region, most);
-        }
-        self.offer_rest(slots);
         (seat, answer)
     }
 
@@ -73,7 +101,8 @@ impl World {
         requires free { IsFree self.old.workers self.old.history by }
         ensures { PassesOn self.old self.new by most }
     {
-        self.offers.pass(slots, by, region, most);
+        self.is_short = true;
+        let _passed = self.offers.pass(slots, by, region, most);
         self.offers.keeps();
     }
 }

@@ -1,28 +1,22 @@
-use Rattle.std.proofs.Common.{◌∙◌, ap, subst}
-use Rattle.fol_offers.specs.Shown as offers
-use Rattle.fol_live.specs.Kept.{IsKept}
-use Rattle.fol_live.specs.Shown.{shown}
-use Rattle.fol_live.specs.Turns.{Ends}
-use Rattle.fol_live.proofs.Answering.{Tells}
-use Rattle.fol_live.proofs.Ending.{ends}
-use Rattle.fol_live.proofs.Moved.{carried}
+use Rattle.std.proofs.Common.{ℕ, sym, subst}
+use Rattle.std.specs.Prelude.{Result}
+use Rattle.std.specs.declared.alloc.AllocError.{AllocError}
+use Rattle.fol_live.specs.Shown.{Shown}
+use Rattle.fol_live.specs.Turns.{Ends, PassesOn}
 use Rattle.fol_live.proofs.world.World.end.Goals as goal
 
-pub invariant_of-self : goal.invariant_of-self
-invariant_of-self c =
-    let old : offers.Shown = c.deref_mut.result.now in
-    let new : offers.Shown = c.end-seat.new.self in
-    let kept : IsKept (shown old) = rw c.deref_mut.ensures.value c.self.invariant.0 in
-    let there : Tells c.deref.result.now = record { grid = c.keeps.ensures.grid; run = c.keeps.ensures.run; turns = c.keeps.ensures.in_turn } in
-    let tells : Tells new = subst Tells c.deref.ensures there in
-    ((ends old new c.args.tick.now c.end-seat.result.1 kept tells c.end-seat.ensures.ends).keeps, λ never. absurd (cc))
+pub returns-in-Ok-clause-ends : goal.returns-in-Ok-clause-ends
+returns-in-Ok-clause-ends c = record {
+  ended = c.end_tick-seat.new.self;
+  ends = subst (λ (r : Result ℕ AllocError). Ends c.args.self.now c.end_tick-seat.new.self c.args.tick.now r) c.in-Ok.is c.end_tick-seat.ensures.ends;
+  passed = subst (λ (s : Shown). PassesOn c.end_tick-seat.new.self s c.args.tick.now.worker c.args.most) (sym c.offer_rest.ensures) c.pass.ensures;
+  refused = tt;
+}
 
-pub returns-clause-ends : goal.returns-clause-ends
-returns-clause-ends c =
-    let old : offers.Shown = c.deref_mut.result.now in
-    let new : offers.Shown = c.end-seat.new.self in
-    let kept : IsKept (shown old) = rw c.deref_mut.ensures.value c.self.invariant.0 in
-    let there : Tells c.deref.result.now = record { grid = c.keeps.ensures.grid; run = c.keeps.ensures.run; turns = c.keeps.ensures.in_turn } in
-    let tells : Tells new = subst Tells c.deref.ensures there in
-    carried (λ a b. Ends a b c.args.tick.now c.end-seat.result.1) (ap shown c.deref_mut.ensures.value ∙ c.self.view_is) c.offer_rest.ensures
-    (ends old new c.args.tick.now c.end-seat.result.1 kept tells c.end-seat.ensures.ends)
+pub returns-in-Err-clause-ends : goal.returns-in-Err-clause-ends
+returns-in-Err-clause-ends c = record {
+  ended = c.end_tick-seat.new.self;
+  ends = subst (λ (r : Result ℕ AllocError). Ends c.args.self.now c.end_tick-seat.new.self c.args.tick.now r) c.in-Err.is c.end_tick-seat.ensures.ends;
+  passed = tt;
+  refused = c.offer_rest-in-Err.ensures;
+}
