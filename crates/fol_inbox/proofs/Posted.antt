@@ -17,39 +17,45 @@ use Rattle.fol_core.specs.declared.answers.Posting.TheVariants.{Full, Over, Post
 use Rattle.fol_core.specs.Answers.{post_result}
 use Rattle.fol_core.specs.Meaning.{Records, Stays, Unchanged, world_of}
 use Rattle.fol_live.specs.Calls.{Posts, Turn}
-use Rattle.fol_live.specs.Goes.{Goes}
 use Rattle.fol_live.specs.Seat.{Shown, meaning_of}
-use Rattle.fol_live.proofs.OneTurn.{none_own, one_own}
+use Rattle.fol_live.proofs.OwnTurns.{none_does, one_does}
 use Rattle.fol_inbox.specs.declared.letter.Letter.{Letter}
 use Rattle.fol_inbox.specs.declared.letter.Receipt.{Receipt}
-use Rattle.fol_inbox.specs.Drains.{PostsOne, is_finished}
+use Rattle.fol_inbox.specs.Drains.{PostsNone, PostsOne, is_finished}
 use Rattle.fol_inbox.specs.Letters.{letter, post_of}
 use Rattle.fol_inbox.specs.Receipts.{post_places}
 use Rattle.fol_inbox.proofs.Places.{places_more, places_same}
 
-module _ (old now new : Shown) (t : Turn old now new) where
+module _ (old now new : Shown) (t : Turn old now new) (hand : new.hand ≡ old.hand) where
   -- the letter was posted
   posts_one : (l : Letter) (r : Receipt) → Records (meaning_of now) (meaning_of new) old.number (Post old.number l.chunk l.delay l.action r.answer)
       → r.sender ≡ l.sender → r.place ≡ l.place → r.entry + 1 ≡ length new.seen → PostsOne old new l r
   posts_one l r told sender place last =
       let e : Entry = post_of old.number l r in
-      let seen : new.seen ≡ (old.seen ++ t.looks.between) ++ e ∷ [] = told.history ∙ ap (λ (es : List Entry). es ++ e ∷ []) t.looks.seen in
-      let long : length new.seen ≡ length (old.seen ++ t.looks.between) + 1 = ap length seen ∙ length-append (old.seen ++ t.looks.between) (e ∷ []) in
+      let looks = t.looks in
+      let before : List Entry = old.seen ++ (looks.between ++ looks.learnt) in
+      let seen : new.seen ≡ before ++ e ∷ [] = told.history ∙ ap (λ (es : List Entry). es ++ e ∷ []) looks.seen in
+      let long : length new.seen ≡ length before + 1 = ap length seen ∙ length-append before (e ∷ []) in
       record {
-        goes = (one_own old now new e.event t told).goes;
-        place = ap (λ (es : List Entry). post_places old.number 0 es) seen ∙ places_more old.number old.seen t.looks.between l r t.looks.others (omega (arith, last, long));
+        does = one_does old now new e.event refl t told;
+        hand = hand;
+        place = ap (λ (es : List Entry). post_places old.number 0 es) seen ∙ places_more old.number old.seen looks.between looks.learnt l r looks.others looks.late (omega (arith, last, long));
         sender = sender;
         letter = place;
       }
 
-  goes_still : Stays (meaning_of now) (meaning_of new) → Goes old new []
-  goes_still told = (none_own old now new t told).goes
+  -- none was
+  posts_nothing : Stays (meaning_of now) (meaning_of new) → PostsNone old new
+  posts_nothing told =
+      let looks = t.looks in
+      record {
+        does = none_does old now new t told;
+        hand = hand;
+        place = ap (λ (es : List Entry). post_places old.number 0 es) (told.history ∙ looks.seen) ∙ places_same old.number old.seen looks.between looks.learnt looks.others looks.late;
+      }
 
-  places_still : Stays (meaning_of now) (meaning_of new) → post_places old.number 0 new.seen ≡ post_places old.number 0 old.seen
-  places_still told = ap (λ (es : List Entry). post_places old.number 0 es) (told.history ∙ t.looks.seen) ∙ places_same old.number old.seen t.looks.between t.looks.others
-
-  finished_still : Stays (meaning_of now) (meaning_of new) → (world_of (meaning_of now)).finished ≡ true → is_finished new ≡ true
-  finished_still told over = ap (λ (m : Opening × List Entry). (world m.0 m.1).finished) (λ i. (told.opening i, told.history i)) ∙ over
+finished_still : (now new : Shown) → Stays (meaning_of now) (meaning_of new) → (world_of (meaning_of now)).finished ≡ true → is_finished new ≡ true
+finished_still now new told over = ap (λ (m : Opening × List Entry). (world m.0 m.1).finished) (λ i. (told.opening i, told.history i)) ∙ over
 
 stays : (s u : Shown) → Unchanged (meaning_of s) (meaning_of u) → Stays (meaning_of s) (meaning_of u)
 stays s u told = record { opening = told.opening; history = told.history; prepared = told.prepared }
@@ -74,29 +80,28 @@ pub posts_posted : (old new : Shown) (l : Letter) (n : ℕ) (r : Receipt) → Po
 posts_posted old new l n r did names answer last =
     let told : Records (meaning_of did.now) (meaning_of new) old.number (Post old.number l.chunk l.delay l.action r.answer)
     = subst (λ (a : Accept). Records (meaning_of did.now) (meaning_of new) old.number (Post old.number l.chunk l.delay l.action a)) (sym answer) did.recorded in
-    posts_one old did.now new did.turn l r told names.0 names.1 last
+    posts_one old did.now new did.turn did.hand l r told names.0 names.1 last
 
 pub posts_full : (old new : Shown) (l : Letter) (present wanted : ℕ) (r : Receipt) → Posts old new l.chunk l.delay l.action (Ok (Full present wanted)) → (r.sender ≡ l.sender) × (r.place ≡ l.place) → r.answer ≡ accepts.Full present wanted
     → r.entry + 1 ≡ length new.seen → PostsOne old new l r
 posts_full old new l present wanted r did names answer last =
     let told : Records (meaning_of did.now) (meaning_of new) old.number (Post old.number l.chunk l.delay l.action r.answer)
     = subst (λ (a : Accept). Records (meaning_of did.now) (meaning_of new) old.number (Post old.number l.chunk l.delay l.action a)) (sym answer) did.recorded in
-    posts_one old did.now new did.turn l r told names.0 names.1 last
+    posts_one old did.now new did.turn did.hand l r told names.0 names.1 last
 
 same_letter : (l : Letter) (a : Action) → a ≡ l.action → letter l.sender l.place l.chunk l.delay a ≡ l
 same_letter l a same = ap (λ (x : Action). letter l.sender l.place l.chunk l.delay x) same
 
 pub posts_over : (old new : Shown) (l : Letter) (a : Action) → Posts old new l.chunk l.delay l.action (Ok (Over a))
-    → (letter l.sender l.place l.chunk l.delay a ≡ l) × Goes old new [] × (post_places old.number 0 new.seen ≡ post_places old.number 0 old.seen) × (is_finished new ≡ true)
+    → (letter l.sender l.place l.chunk l.delay a ≡ l) × PostsNone old new × (is_finished new ≡ true)
 posts_over old new l a did =
     let told : Stays (meaning_of did.now) (meaning_of new) = stays did.now new did.recorded in
     let w : World = world_of (meaning_of did.now) in (
       same_letter l a (over_same w l.chunk l.action a did.answer),
-      goes_still old did.now new did.turn told,
-      places_still old did.now new did.turn told,
-      finished_still old did.now new did.turn told (over_finished w l.chunk l.action a did.answer),
+      posts_nothing old did.now new did.turn did.hand told,
+      finished_still did.now new told (over_finished w l.chunk l.action a did.answer),
     )
 
 pub posts_refused : (old new : Shown) (l : Letter) (a : Action) → Posts old new l.chunk l.delay l.action (Err a)
-    → (letter l.sender l.place l.chunk l.delay a ≡ l) × Goes old new [] × (post_places old.number 0 new.seen ≡ post_places old.number 0 old.seen)
-posts_refused old new l a did = (same_letter l a did.back, goes_still old did.now new did.turn did.refused, places_still old did.now new did.turn did.refused)
+    → (letter l.sender l.place l.chunk l.delay a ≡ l) × PostsNone old new
+posts_refused old new l a did = (same_letter l a did.back, posts_nothing old did.now new did.turn did.hand did.refused)

@@ -1,21 +1,20 @@
 -- What a drainer keeps, and what a call does to it, letter by letter.
-use Rattle.std.proofs.Common.{◌≡◌, ℕ, zero, suc, ◌+◌, true, false, List, [], ◌∷◌, ◌++◌, length, map, take, sym, refl, ap, ◌∙◌, subst, arith, append-nil, append_assoc, length-append, Option, Some, None}
+use Rattle.std.proofs.Common.{◌≡◌, ℕ, zero, suc, ◌+◌, List, [], ◌∷◌, ◌++◌, length, map, take, sym, refl, ap, ◌∙◌, subst, arith, append-nil, append_assoc, length-append, Option, Some, None}
 use Rattle.std.specs.Prelude.{◌<◌, Result, Ok, Err, IsErr}
 use Rattle.std.specs.declared.alloc.AllocError.{AllocError}
 use Rattle.std.proofs.lemmas.List.{map-append}
 use lib.ListN.{length-map}
 use Rattle.fol_model.specs.declared.events.Entry.{Entry}
-use Rattle.fol_live.specs.Busy.{is_busy}
-use Rattle.fol_live.specs.Goes.{Goes, goes_both, goes_none}
-use Rattle.fol_live.specs.Seat.{Shown}
-use Rattle.fol_live.proofs.Busies.{busy_both}
+use Rattle.fol_live.specs.Goes.{Does, does_both, does_none}
+use Rattle.fol_live.specs.Seat.{Shown, held_in}
+use Rattle.fol_live.specs.Seat as seats
 use Rattle.fol_inbox.specs.declared.drain.Drained.{Drained}
 use Rattle.fol_inbox.specs.declared.drain.Step.{Step}
 use Rattle.fol_inbox.specs.declared.letter.Letter.{Letter}
 use Rattle.fol_inbox.specs.declared.letter.Receipt.{Receipt}
 use Rattle.fol_inbox.specs.declared.notes.Notes.{Notes}
 use Rattle.fol_inbox.specs.Draining.{Draining, draining}
-use Rattle.fol_inbox.specs.Drains.{Drains, IsSameDrainer, PostsMore, PostsOne, Steps, TakesUp}
+use Rattle.fol_inbox.specs.Drains.{Drains, IsSameDrainer, PostsMore, PostsNone, PostsOne, Steps, TakesUp}
 use Rattle.fol_inbox.specs.Letters.{held_list, post_of, posts_of}
 use Rattle.fol_inbox.specs.Notes.{drainer_notes, notes_taken}
 use Rattle.fol_inbox.specs.Receipts.{AreReceipts, IsDrainer, letter_names, post_places, receipt_entries, receipt_names}
@@ -38,10 +37,6 @@ posts_append n (l ∷ ls) ms (r ∷ rs) qs e = ap (λ es. post_of n l r ∷ es) 
 
 named_as_many : (ls : List Letter) (rs : List Receipt) → receipt_names rs ≡ letter_names ls → length ls ≡ length rs
 named_as_many ls rs same = sym (length-map ls (λ (l : Letter). (l.sender, l.place))) ∙ ap length (sym same) ∙ length-map rs (λ (r : Receipt). (r.sender, r.place))
-
--- a post leaves it open whether a seat holds a tick
-busy_post : (es : List Entry) (n : ℕ) (l : Letter) (r : Receipt) → is_busy (es ++ post_of n l r ∷ []) ≡ is_busy es
-busy_post es n l r = busy_both false es (post_of n l r ∷ [])
 
 -- ---- what was taken
 
@@ -94,18 +89,18 @@ module _ (s since : Shown) (p q : Pass) (rs : List Receipt) (held : Option Lette
         ap (λ x. take (length (rs ++ r ∷ [])) x) (last ∙ sym (append-nil (ls ++ l ∷ []))) ∙ take_front (ls ++ l ∷ []) [] (length (rs ++ r ∷ [])) n
 
     number : s.number ≡ since.number
-    number = h.law.goes.number
+    number = h.law.does.goes.number
 
     law_more : AreReceipts (draining u since q (rs ++ r ∷ []) None)
     unfolding ls
     law_more =
-        let goes : Goes since u (posts_of since.number ls rs ++ post_of s.number l r ∷ []) = goes_both since s u (posts_of since.number ls rs) (post_of s.number l r ∷ []) h.law.goes posted.goes in
+        let does : Does since u (posts_of since.number ls rs ++ post_of s.number l r ∷ []) = does_both since s u (posts_of since.number ls rs) (post_of s.number l r ∷ []) h.law.does posted.does in
         let posts : posts_of since.number ls rs ++ post_of s.number l r ∷ [] ≡ posts_of since.number (take (length (rs ++ r ∷ [])) q.me.view.client.taken) (rs ++ r ∷ [])
         = ap (λ n. posts_of since.number ls rs ++ post_of n l r ∷ []) number ∙ sym (posts_append since.number ls (l ∷ []) rs (r ∷ []) as_many)
         ∙ ap (λ xs. posts_of since.number xs (rs ++ r ∷ [])) (sym letters_more) in
         let place : post_places since.number 0 u.seen ≡ post_places since.number 0 s.seen ++ r.entry ∷ [] = subst (λ n. post_places n 0 u.seen ≡ post_places n 0 s.seen ++ r.entry ∷ []) number posted.place in
         record {
-          goes = subst (λ es. Goes since u es) posts goes;
+          does = subst (λ es. Does since u es) posts does;
           places = place ∙ ap (λ ps. ps ++ r.entry ∷ []) h.law.places ∙ append_assoc (post_places since.number 0 since.seen) (receipt_entries rs) (r.entry ∷ [])
               ∙ ap (λ ps. post_places since.number 0 since.seen ++ ps) (sym (map-append (λ (x : Receipt). x.entry) rs (r ∷ [])));
           names = map-append (λ (x : Receipt). (x.sender, x.place)) rs (r ∷ []) ∙ ap (λ xs. xs ++ (r.sender, r.place) ∷ []) h.law.names
@@ -119,7 +114,7 @@ module _ (s since : Shown) (p q : Pass) (rs : List Receipt) (held : Option Lette
       notes = notes_on p.me.view.client q.me.view.client held (Some l) t h.notes;
       taken = last ∙ sym letters_more ∙ sym (append-nil (take (length (rs ++ r ∷ [])) q.me.view.client.taken));
       may = tt;
-      no_tick = ap is_busy posted.goes.mine ∙ busy_post s.mine s.number l r ∙ h.no_tick;
+      no_tick = ap held_in posted.hand ∙ h.no_tick;
       law = law_more;
     }
 
@@ -132,7 +127,7 @@ module _ (s since : Shown) (p q : Pass) (rs : List Receipt) (held : Option Lette
       each = refl;
       letters = letters_more;
       receipts = refl;
-      goes = posted.goes;
+      does = posted.does;
       taken = fresh held (Some l);
       in_turn = append-nil (take (length (rs ++ r ∷ [])) q.me.view.client.taken) ∙ letters_more ∙ sym last
           ∙ taken_on p.me.view.client q.me.view.client held (Some l) t ∙ ap (λ xs. xs ++ fresh held (Some l)) h.taken;
@@ -140,7 +135,7 @@ module _ (s since : Shown) (p q : Pass) (rs : List Receipt) (held : Option Lette
 
   -- ---- it was not posted, and is held
 
-  module _ (u : Shown) (may : CanPost l) (goes : Goes s u []) (places : post_places s.number 0 u.seen ≡ post_places s.number 0 s.seen) where
+  module _ (u : Shown) (may : CanPost l) (none : PostsNone s u) where
     letters_same : take (length rs) q.me.view.client.taken ≡ ls
     letters_same = ap (λ x. take (length rs) x) last ∙ take_front ls (l ∷ []) (length rs) as_many
 
@@ -154,10 +149,10 @@ module _ (s since : Shown) (p q : Pass) (rs : List Receipt) (held : Option Lette
           notes = notes_on p.me.view.client q.me.view.client held (Some l) t h.notes;
           taken = last ∙ ap (λ xs. xs ++ l ∷ []) (sym letters_same);
           may = may;
-          no_tick = ap is_busy (goes.mine ∙ append-nil s.mine) ∙ h.no_tick;
+          no_tick = ap held_in none.hand ∙ h.no_tick;
           law = record {
-            goes = subst (λ es. Goes since u es) posts (goes_both since s u (posts_of since.number ls rs) [] h.law.goes goes);
-            places = subst (λ n. post_places n 0 u.seen ≡ post_places n 0 s.seen) h.law.goes.number places ∙ h.law.places;
+            does = subst (λ es. Does since u es) posts (does_both since s u (posts_of since.number ls rs) [] h.law.does none.does);
+            places = subst (λ n. post_places n 0 u.seen ≡ post_places n 0 s.seen) h.law.does.goes.number none.place ∙ h.law.places;
             names = h.law.names ∙ ap letter_names (sym letters_same);
           };
         }
@@ -171,7 +166,7 @@ module _ (s since : Shown) (p q : Pass) (rs : List Receipt) (held : Option Lette
       each = refl;
       letters = letters_same ∙ sym (append-nil ls);
       receipts = sym (append-nil rs);
-      goes = goes;
+      does = none.does;
       taken = fresh held (Some l);
       in_turn = ap (λ xs. xs ++ l ∷ []) letters_same ∙ sym last ∙ taken_on p.me.view.client q.me.view.client held (Some l) t ∙ ap (λ xs. xs ++ fresh held (Some l)) h.taken;
     }
@@ -197,7 +192,7 @@ module _ (s since : Shown) (p q : Pass) (rs : List Receipt) (held : Option Lette
     may = tt;
     no_tick = h.no_tick;
     law = record {
-      goes = subst (λ (x : Notes). Goes since s (posts_of since.number (take (length rs) x.taken) rs)) (sym same) h.law.goes;
+      does = subst (λ (x : Notes). Does since s (posts_of since.number (take (length rs) x.taken) rs)) (sym same) h.law.does;
       places = h.law.places;
       names = h.law.names ∙ ap (λ (x : Notes). letter_names (take (length rs) x.taken)) (sym same);
     };
@@ -214,7 +209,7 @@ module _ (s since : Shown) (p q : Pass) (rs : List Receipt) (held : Option Lette
         each = refl;
         letters = letters ∙ sym (append-nil ls);
         receipts = sym (append-nil rs);
-        goes = goes_none s;
+        does = does_none s;
         taken = [];
         in_turn = ap (λ xs. xs ++ []) letters ∙ ap (λ (x : Option Letter). ls ++ held_list x) (sym nothing) ∙ sym (append-nil (ls ++ held_list held));
       }
@@ -229,7 +224,7 @@ posts_still a b same = subst (λ (d : Draining). PostsMore 0 a d) (sym same) rec
   each = refl;
   letters = sym (append-nil a.letters);
   receipts = sym (append-nil a.receipts);
-  goes = goes_none a.seat;
+  does = does_none a.seat;
   taken = [];
   in_turn = sym (append-nil (a.letters ++ held_list a.held));
 }
@@ -241,7 +236,7 @@ posts_both m n a b c f g =
     let f_each = f.each in
     let g_each = g.each in
     let posts : posts_of a.seat.number f.more f.answers ++ posts_of b.seat.number g.more g.answers ≡ posts_of a.seat.number (f.more ++ g.more) (f.answers ++ g.answers)
-    = ap (λ k. posts_of a.seat.number f.more f.answers ++ posts_of k g.more g.answers) f.goes.number ∙ sym (posts_append a.seat.number f.more g.more f.answers g.answers (f_many ∙ sym f_each)) in
+    = ap (λ k. posts_of a.seat.number f.more f.answers ++ posts_of k g.more g.answers) f.does.goes.number ∙ sym (posts_append a.seat.number f.more g.more f.answers g.answers (f_many ∙ sym f_each)) in
     record {
       more = f.more ++ g.more;
       answers = f.answers ++ g.answers;
@@ -249,7 +244,7 @@ posts_both m n a b c f g =
       each = length-append f.answers g.answers ∙ omega (arith, f_each, g_each);
       letters = g.letters ∙ ap (λ xs. xs ++ g.more) f.letters ∙ append_assoc a.letters f.more g.more;
       receipts = g.receipts ∙ ap (λ xs. xs ++ g.answers) f.receipts ∙ append_assoc a.receipts f.answers g.answers;
-      goes = subst (λ es. Goes a.seat c.seat es) posts (goes_both a.seat b.seat c.seat _ _ f.goes g.goes);
+      does = subst (λ es. Does a.seat c.seat es) posts (does_both a.seat b.seat c.seat _ _ f.does g.does);
       taken = f.taken ++ g.taken;
       in_turn = g.in_turn ∙ ap (λ xs. xs ++ g.taken) f.in_turn ∙ append_assoc (a.letters ++ held_list a.held) f.taken g.taken;
     }
@@ -259,10 +254,17 @@ pub posts_on : (n : ℕ) (a b c : Draining) → PostsMore n a b → PostsMore 0 
 posts_on n a b c f g = subst (λ (k : ℕ). PostsMore k a c) (omega arith) (posts_both n 0 a b c f g)
 
 pub same_drainer : (a : Draining) → IsSameDrainer a a
-same_drainer a = record { inbox = refl; senders = refl; since = refl; lock = refl; number = refl }
+same_drainer a = record { inbox = refl; senders = refl; since = refl; lock = refl; number = refl; hand = refl }
 
 pub same_both : (a b c : Draining) → IsSameDrainer a b → IsSameDrainer b c → IsSameDrainer a c
-same_both a b c f g = record { inbox = g.inbox ∙ f.inbox; senders = g.senders ∙ f.senders; since = g.since ∙ f.since; lock = g.lock ∙ f.lock; number = g.number ∙ f.number }
+same_both a b c f g = record {
+  inbox = g.inbox ∙ f.inbox;
+  senders = g.senders ∙ f.senders;
+  since = g.since ∙ f.since;
+  lock = g.lock ∙ f.lock;
+  number = g.number ∙ f.number;
+  hand = g.hand ∙ f.hand;
+}
 
 -- ---- out of memory
 
@@ -274,7 +276,7 @@ pub drains_err : (max n : ℕ) (a b : Draining) (r : Result Drained AllocError) 
 drains_err max n a b (Ok d) err low more = absurd (cc)
 drains_err max n a b (Err e) err low more = (n, low, more)
 
-pub new_drainer : (seat since : Shown) (p : Pass) (n : ℕ) → since ≡ seat → is_busy seat.mine ≡ false → IsIdle p → p.me.view.client ≡ drainer_notes n [] [] → IsDrainer seat since p [] None
+pub new_drainer : (seat since : Shown) (p : Pass) (n : ℕ) → since ≡ seat → seats.held seat ≡ None → IsIdle p → p.me.view.client ≡ drainer_notes n [] [] → IsDrainer seat since p [] None
 new_drainer seat since p n is no_tick idle notes = record {
   idle = idle;
   notes = notes ∙ ap (λ (v : Notes). drainer_notes v.dealt v.taken []) (sym notes);
@@ -284,7 +286,7 @@ new_drainer seat since p n is no_tick idle notes = record {
   law =
       let none : take 0 p.me.view.client.taken ≡ [] = ap (λ (v : Notes). take 0 v.taken) notes in
       subst (λ (x : Shown). AreReceipts (draining seat x p [] None)) (sym is) record {
-        goes = subst (λ xs. Goes seat seat (posts_of seat.number xs [])) (sym none) (goes_none seat);
+        does = subst (λ xs. Does seat seat (posts_of seat.number xs [])) (sym none) (does_none seat);
         places = sym (append-nil (post_places seat.number 0 seat.seen));
         names = ap letter_names (sym none);
       };

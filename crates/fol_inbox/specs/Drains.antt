@@ -2,7 +2,7 @@
 use Rattle.std.specs.Prelude.{◌≡◌, ℕ, ◌+◌, ◌<◌, Bool, true, List, [], ◌∷◌, ◌++◌, length, Option, Some, None, IsSome, Result, Ok, Err}
 use Rattle.std.specs.declared.alloc.AllocError.{AllocError}
 use Rattle.fol_core.specs.Meaning.{world_of}
-use Rattle.fol_live.specs.Goes.{Goes}
+use Rattle.fol_live.specs.Goes.{Does}
 use Rattle.fol_live.specs.Seat.{Shown, meaning_of}
 use Rattle.fol_inbox.specs.declared.letter.Letter.{Letter}
 use Rattle.fol_inbox.specs.declared.letter.Receipt.{Receipt}
@@ -28,8 +28,9 @@ pub record IsSameDrainer (old new : Draining) : Type 0 where
   pub since : new.since ≡ old.since
   pub lock : new.seat.lock ≡ old.seat.lock
   pub number : new.seat.number ≡ old.seat.number
+  pub hand : new.seat.hand ≡ old.seat.hand
 
--- so many letters were posted, and the seat recorded nothing else
+-- so many letters were posted, and the seat recorded nothing else but Begins that it learnt of
 pub record PostsMore (n : ℕ) (old new : Draining) : Type 0 where
   -- the letters, and their receipts
   pub more : List Letter
@@ -38,7 +39,7 @@ pub record PostsMore (n : ℕ) (old new : Draining) : Type 0 where
   pub each : length answers ≡ n
   pub letters : new.letters ≡ old.letters ++ more
   pub receipts : new.receipts ≡ old.receipts ++ answers
-  pub goes : Goes old.seat new.seat (posts_of old.seat.number more answers)
+  pub does : Does old.seat new.seat (posts_of old.seat.number more answers)
   -- these were taken from the queue; the letter that was held went before them
   pub taken : List Letter
   pub in_turn : new.letters ++ held_list new.held ≡ (old.letters ++ held_list old.held) ++ taken
@@ -65,13 +66,20 @@ TakesUp old new None None = new ≡ old
 
 -- the letter was posted, with this receipt
 pub record PostsOne (old new : Shown) (l : Letter) (r : Receipt) : Type 0 where
-  pub goes : Goes old new (post_of old.number l r ∷ [])
+  pub does : Does old new (post_of old.number l r ∷ [])
+  pub hand : new.hand ≡ old.hand
   pub place : post_places old.number 0 new.seen ≡ post_places old.number 0 old.seen ++ r.entry ∷ []
   pub sender : r.sender ≡ l.sender
   pub letter : r.place ≡ l.place
 
+-- no letter was posted
+pub record PostsNone (old new : Shown) : Type 0 where
+  pub does : Does old new []
+  pub hand : new.hand ≡ old.hand
+  pub place : post_places old.number 0 new.seen ≡ post_places old.number 0 old.seen
+
 -- what became of the letter
 abbrev pub Attempts : Shown → Shown → Letter → Attempt → Type 0
 Attempts old new l (attempts.Posted r) = PostsOne old new l r
-Attempts old new l (attempts.Over m) = (m ≡ l) × Goes old new [] × (post_places old.number 0 new.seen ≡ post_places old.number 0 old.seen) × (is_finished new ≡ true)
-Attempts old new l (attempts.NoMemory m) = (m ≡ l) × Goes old new [] × (post_places old.number 0 new.seen ≡ post_places old.number 0 old.seen)
+Attempts old new l (attempts.Over m) = (m ≡ l) × PostsNone old new × (is_finished new ≡ true)
+Attempts old new l (attempts.NoMemory m) = (m ≡ l) × PostsNone old new

@@ -1,11 +1,11 @@
 -- What the receipts of a drainer say.
-use Rattle.std.specs.Prelude.{◌≡◌, ℕ, suc, nat_eq, Bool, true, false, ◌&&◌, if◌then◌else◌, List, [], ◌∷◌, ◌++◌, length, map, take, Option, IfSome}
+use Rattle.std.specs.Prelude.{◌≡◌, ℕ, suc, nat_eq, Bool, true, false, ◌&&◌, if◌then◌else◌, List, [], ◌∷◌, ◌++◌, length, map, take, Option, None, IfSome}
 use Rattle.fol_model.specs.declared.events.Event.{Event}
 use Rattle.fol_model.specs.declared.events.Event.TheVariants.{Post}
 use Rattle.fol_model.specs.declared.events.Entry.{Entry}
-use Rattle.fol_live.specs.Busy.{is_busy}
-use Rattle.fol_live.specs.Goes.{Goes}
+use Rattle.fol_live.specs.Goes.{Does}
 use Rattle.fol_live.specs.Seat.{Shown}
+use Rattle.fol_live.specs.Seat as seats
 use Rattle.fol_inbox.specs.declared.letter.Letter.{Letter}
 use Rattle.fol_inbox.specs.declared.letter.Receipt.{Receipt}
 use Rattle.fol_inbox.specs.Draining.{Draining, draining}
@@ -35,8 +35,8 @@ receipt_entries rs = map (λ (r : Receipt). r.entry) rs
 
 -- the receipts are, in order, the posts that the seat made since the start
 pub record AreReceipts (d : Draining) : Type 0 where
-  -- since the start the seat recorded the posts of these letters, with the answers of the receipts, and nothing else
-  pub goes : Goes d.since d.seat (posts_of d.since.number d.letters d.receipts)
+  -- since the start the seat recorded the posts of these letters, with the answers of the receipts, and nothing else but Begins that it learnt of
+  pub does : Does d.since d.seat (posts_of d.since.number d.letters d.receipts)
   -- each receipt has the place of its post
   pub places : post_places d.since.number 0 d.seat.seen ≡ post_places d.since.number 0 d.since.seen ++ receipt_entries d.receipts
   -- and names its letter
@@ -48,5 +48,5 @@ pub record IsDrainer (seat since : Shown) (p : Pass) (receipts : List Receipt) (
   pub notes : p.me.view.client ≡ drainer_notes p.me.view.client.dealt p.me.view.client.taken []
   pub taken : p.me.view.client.taken ≡ take (length receipts) p.me.view.client.taken ++ held_list held
   pub may : IfSome held CanPost
-  pub no_tick : is_busy seat.mine ≡ false
+  pub no_tick : seats.held seat ≡ None
   pub law : AreReceipts (draining seat since p receipts held)

@@ -1,7 +1,7 @@
 //! The end of an inbox.
 
-ghost use Rattle.std.specs.Prelude.{◌≡◌, ◌++◌, false, All};
-ghost use Rattle.fol_live.specs.Busy.{is_busy};
+ghost use Rattle.std.specs.Prelude.{◌≡◌, ◌++◌, None, All};
+ghost use Rattle.fol_live.specs.Seat.{held};
 ghost use Rattle.fol_inbox.specs.Letters.{held_list};
 
 use crate::drainer::Drainer;
@@ -92,7 +92,7 @@ impl Inbox {
         ensures receipts { result.receipts.items ≡ drainer.receipts }
         ensures held { result.held ≡ drainer.held }
         ensures seat { result.seat ≡ drainer.seat }
-        ensures no_tick { is_busy result.seat.mine ≡ false }
+        ensures no_tick { held result.seat ≡ None }
         ensures posted { AreReceipts drainer }
         ensures law { InboxLaw drainer.senders senders.items
             ((drainer.letters ++ held_list result.held) ++ result.rest) }

@@ -53,7 +53,8 @@ impl Inbox {
 
     /// Posts letters, the one that is held first and then those of the queue in order, until so many are posted or there are no more. Over
     /// exactly where fewer are posted, Finish stands in the history and a letter is held; the next call begins with it. Out of memory
-    /// loses nothing: each letter that was posted has its receipt, and one that was taken and not posted is held.
+    /// loses nothing: each letter that was posted has its receipt, and one that was taken and not posted is held. The seat records the posts, and
+    /// nothing else but Begins that it learns of.
     pub fn drain<R: Wait>(
         &self,
         rt: &R,

@@ -1,8 +1,8 @@
 //! The inbox, and how it starts.
 
-ghost use Rattle.std.specs.Prelude.{◌≡◌, ◌≤◌, false, [], IfOk, IfErr, All, vec_capacity};
+ghost use Rattle.std.specs.Prelude.{◌≡◌, ◌≤◌, [], None, IfOk, IfErr, All, vec_capacity};
 ghost use Rattle.crossbeam_queue.specs.SegTies.{IsSegPassOf};
-ghost use Rattle.fol_live.specs.Busy.{is_busy};
+ghost use Rattle.fol_live.specs.Seat.{held};
 ghost use Rattle.fol_inbox.specs.Notes.{drainer_notes, first_notes};
 ghost use Rattle.fol_inbox.specs.Draining.{IsNewDrainer};
 ghost use Rattle.fol_inbox.specs.Sending.{AreNewSenders, Sending};
@@ -41,7 +41,7 @@ impl Inbox {
     /// An empty inbox with 1 to 64 senders, whose letters this seat will post. The seat holds no tick. Out of memory hands the seat back.
     pub fn start(alloc: Global, seat: Seat, senders: u32) -> Result<InboxParts, Seat>
         requires count { (1 ≤ senders) × (senders ≤ 64) }
-        requires no_tick { is_busy seat.mine ≡ false }
+        requires no_tick { held seat ≡ None }
         ensures senders { IfOk result (λ parts.
             AreNewSenders (inbox_id parts.inbox) senders parts.senders.items) }
         ensures inboxes { IfOk result (λ parts.

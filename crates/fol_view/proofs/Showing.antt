@@ -8,10 +8,10 @@ use Rattle.fol_model.specs.declared.events.Entry.{Entry}
 use Rattle.fol_model.specs.declared.openings.Opening.{Opening}
 use Rattle.fol_lock.specs.Log.{StartsWith}
 use Rattle.fol_live.specs.Calls.{ListsOwners}
-use Rattle.fol_live.specs.Goes.{Goes}
+use Rattle.fol_live.specs.Goes.{Does}
 use Rattle.fol_live.specs.Seat.{Shown}
 use Rattle.fol_live.specs.declared.answers.Owners.{Owners}
-use Rattle.fol_live.proofs.OneTurn.{none_own}
+use Rattle.fol_live.proofs.OwnTurns.{none_does}
 use Rattle.fol_model.specs.Outputs.{owner_rows}
 use Rattle.fol_model.specs.Run.{world}
 use Rattle.logbook.specs.Pages.{Named}
@@ -50,16 +50,16 @@ starts_more : {X : Type 0} (xs ys zs : List X) → StartsWith ys xs → StartsWi
 starts_more xs ys zs s t = (s.0 ++ t.0, t.1 ∙ (ap (λ l. l ++ t.0) s.1 ∙ append_assoc xs s.0 t.0))
 
 -- its seat asked for the owners
-pub went_on : {s t : Shown} {r : Result Owners AllocError} → ListsOwners s t r → Goes s t []
-went_on {s} {t} l = (none_own s l.now t l.turn l.same).goes
+pub went_on : {s t : Shown} {r : Result Owners AllocError} → ListsOwners s t r → Does s t []
+went_on {s} {t} l = none_does s l.now t l.turn l.same
 
 pub is_now : (t : Shown) (p : Publication) → p.front ≡ length t.seen → p.rows ≡ owner_rows (world t.opening t.seen) → p ≡ publication_of t.opening t.seen
 is_now t p front rows = λ i. publication (front i) (rows i)
 
 -- its seat has seen more
-pub still : {own : List Entry} (s t : Shown) (list : List Publication) → Goes s t own → All (IsPublication s.opening s.seen) list → All (IsPublication t.opening t.seen) list
-still s t list g all = All-weaker (IsPublication s.opening s.seen) (IsPublication t.opening t.seen)
-    (λ p i. record { prefix = i.prefix; starts = starts_more i.prefix s.seen t.seen i.starts (g.rest, g.seen); is = i.is ∙ ap (λ (o : Opening). publication_of o i.prefix) (sym g.opening) }) list all
+pub still : {ds : List Entry} (s t : Shown) (list : List Publication) → Does s t ds → All (IsPublication s.opening s.seen) list → All (IsPublication t.opening t.seen) list
+still s t list d all = All-weaker (IsPublication s.opening s.seen) (IsPublication t.opening t.seen)
+    (λ p i. record { prefix = i.prefix; starts = starts_more i.prefix s.seen t.seen i.starts (d.goes.rest, d.goes.seen); is = i.is ∙ ap (λ (o : Opening). publication_of o i.prefix) (sym d.goes.opening) }) list all
 
 -- it has published what its seat has seen now
 pub more : (t : Shown) (list : List Publication) (p : Publication) → All (IsPublication t.opening t.seen) list → p ≡ publication_of t.opening t.seen → All (IsPublication t.opening t.seen) (list ++ p ∷ [])
@@ -72,15 +72,15 @@ follows t list p all is = All-weaker (IsPublication t.opening t.seen) (λ (q : P
 -- ---- what the writer keeps
 
 -- where nothing was published
-pub kept : (s t : Shown) (all : Listed) (front : ℕ) (head : Named) (shown : Option Showing) → Goes s t [] → Writes s all front head shown → Writes t all front head shown
-kept s t all front head shown goes w = record { head_is = w.head_is; shows = w.shows; each = still s t all.list goes w.each; front_is = w.front_is }
+pub kept : (s t : Shown) (all : Listed) (front : ℕ) (head : Named) (shown : Option Showing) → Does s t [] → Writes s all front head shown → Writes t all front head shown
+kept s t all front head shown does w = record { head_is = w.head_is; shows = w.shows; each = still s t all.list does w.each; front_is = w.front_is }
 
 -- where this was
-pub grown : (s t : Shown) (all new : Listed) (front : ℕ) (head : Named) (before shown : Option Showing) (p : Publication) → Goes s t [] → Writes s all front head before
+pub grown : (s t : Shown) (all new : Listed) (front : ℕ) (head : Named) (before shown : Option Showing) (p : Publication) → Does s t [] → Writes s all front head before
     → p ≡ publication_of t.opening t.seen → new.book ≡ all.book → new.list ≡ all.list ++ p ∷ [] → shown ≡ Some (showing new p) → (n : ℕ) → n ≡ p.front → Writes t new n head shown
-grown s t all new front head before shown p goes w is book list shows n front_is = record {
+grown s t all new front head before shown p does w is book list shows n front_is = record {
   head_is = w.head_is ∙ ap head_of (sym book);
   shows = subst (λ (x : Option Showing). HasBook x new.book) (sym shows) refl;
-  each = subst (λ (l : List Publication). All (IsPublication t.opening t.seen) l) (sym list) (more t all.list p (still s t all.list goes w.each) is);
+  each = subst (λ (l : List Publication). All (IsPublication t.opening t.seen) l) (sym list) (more t all.list p (still s t all.list does w.each) is);
   front_is = (p, (all.list, list), front_is);
 }

@@ -1,7 +1,7 @@
 //! How a view begins and ends.
 
 ghost use Rattle.std.specs.Prelude.{◌≡◌, ◌<◌, ◌≤◌, ◌∷◌, [], length, All, IfOk, IfErr};
-ghost use Rattle.fol_live.specs.Goes.{Goes};
+ghost use Rattle.fol_live.specs.Goes.{Does};
 ghost use Rattle.fol_live.specs.Lives.{live_id};
 ghost use Rattle.fol_view.specs.Publications.{Listed, publication_of};
 
@@ -40,7 +40,8 @@ pub struct ViewParts {
 
 impl View {
     /// A view with 1 to 64 readers, whose writer has this seat. The owners after all of the history, which the seat then has seen, are
-    /// published. Fails only when out of memory, and then gives the seat back. A seat whose tick is open can't end it before `close` gives it back.
+    /// published. Fails only when out of memory, and then gives the seat back. The seat records nothing but Begins that it learns of. One that
+    /// holds a tick holds it still, and can't release it before `close` gives the seat back.
     pub fn start<R: Wait>(
         rt: &R,
         alloc: Global,
@@ -51,7 +52,8 @@ impl View {
         requires count { (0 < readers) × (readers ≤ 64) }
         requires own { seat.lock ≡ live_id live.now }
         ensures book { IfOk result (λ p. p.writer.book ≡ p.view.book) }
-        ensures goes { IfOk result (λ p. Goes seat p.writer.seat []) }
+        ensures does { IfOk result (λ p. Does seat p.writer.seat []) }
+        ensures hand { IfOk result (λ p. p.writer.seat.hand ≡ seat.hand) }
         ensures first { IfOk result (λ p. p.writer.list
             ≡ publication_of p.writer.seat.opening p.writer.seat.seen ∷ []) }
         ensures readers { IfOk result (λ p.
@@ -59,7 +61,7 @@ impl View {
             × (r.list ≡ p.writer.list)) p.readers.items) }
         ensures count { IfOk result (λ p. (p.view.readers ≡ readers)
             × (length p.readers.items ≡ readers)) }
-        ensures back { IfErr result (λ s. Goes seat s []) }
+        ensures back { IfErr result (λ s. Does seat s [] × (s.hand ≡ seat.hand)) }
     {
         let mut seat = seat;
         let Ok(list) = Vec::with_capacity(alloc, readers as usize) else {

@@ -1,7 +1,7 @@
 //! The one who publishes.
 
 ghost use Rattle.std.specs.Prelude.{◌≡◌, ◌∷◌, [], ◌++◌, length, All, IfOk, OnOk, OnErr};
-ghost use Rattle.fol_live.specs.Goes.{Goes};
+ghost use Rattle.fol_live.specs.Goes.{Does};
 ghost use Rattle.fol_live.specs.Lives.{live_id};
 ghost use Rattle.fol_view.specs.Boards.{HasShown, MayShow};
 ghost use Rattle.fol_view.specs.Publications.{IsLastFront, IsPublication, Rises, publication_of};
@@ -69,8 +69,8 @@ impl Model for OwnerWriter {
 }
 
 impl OwnerWriter {
-    /// Publishes the owners after all of the history, which its seat then has seen, and returns their front. If memory runs out, what is
-    /// published is as before.
+    /// Publishes the owners after all of the history, which its seat then has seen, and returns their front. The seat records nothing but
+    /// Begins that it learns of, and a tick that it holds it holds still. If memory runs out, what is published is as before.
     pub fn refresh<R: Wait>(
         &mut self,
         rt: &R,
@@ -79,7 +79,8 @@ impl OwnerWriter {
     ) -> Result<u64, AllocError>
         requires own { self.old.seat.lock ≡ live_id live.now }
         ensures book { self.new.book ≡ self.old.book }
-        ensures goes { Goes self.old.seat self.new.seat [] }
+        ensures does { Does self.old.seat self.new.seat [] }
+        ensures hand { self.new.seat.hand ≡ self.old.seat.hand }
         ensures front { IfOk result (λ n. n ≡ length self.new.seat.seen) }
         ensures published { OnOk result (self.new.list
             ≡ self.old.list ++ publication_of self.new.seat.opening self.new.seat.seen ∷ []) }

@@ -62,7 +62,7 @@ invariant_of-drainer-in-Over g c =
     let t = subst (λ (x : Option Letter). TakesUp d.pass.me.view.client c.next_letter.new.pass.me.view.client x (Some l)) c.take-held.ensures.value c.in-Some.ensures.taken in
     let over = c.in-Over.ensures in
     subst (λ (x : List Receipt × Letter). IsDrainer c.post.new.seat d.since.value c.next_letter.new.pass x.0 (Some x.1)) (λ i. (sym c.in_ok-reserve.ensures.items i, sym over.0 i))
-    (drainer_holds d.seat d.since.value d.pass c.next_letter.new.pass d.receipts.items d.held l c.drainer.invariant idle t c.post.new.seat c.in-Some.ensures.may over.1 over.2)
+    (drainer_holds d.seat d.since.value d.pass c.next_letter.new.pass d.receipts.items d.held l c.drainer.invariant idle t c.post.new.seat c.in-Some.ensures.may over.1)
 
 pub returns-in-Over-clause-step : goal.returns-in-Over-clause-step
 returns-in-Over-clause-step g c =
@@ -73,8 +73,8 @@ returns-in-Over-clause-step g c =
     let t = subst (λ (x : Option Letter). TakesUp d.pass.me.view.client c.next_letter.new.pass.me.view.client x (Some l)) c.take-held.ensures.value c.in-Some.ensures.taken in
     let over = c.in-Over.ensures in
     let posts = subst (λ (x : List Receipt × Letter). PostsMore 0 (draining d.seat d.since.value d.pass d.receipts.items d.held) (draining c.post.new.seat d.since.value c.next_letter.new.pass x.0 (Some x.1))) (λ i. (sym c.in_ok-reserve.ensures.items i, sym over.0 i))
-    (posts_none d.seat d.since.value d.pass c.next_letter.new.pass d.receipts.items d.held l c.drainer.invariant idle t c.post.new.seat c.in-Some.ensures.may over.1 over.2) in
-    (subst (λ (x : Draining). PostsMore 0 x (draining c.post.new.seat d.since.value c.next_letter.new.pass c.reserve.new.self.items (Some c.in-Over.letter))) c.drainer.view_is posts, refl, over.3)
+    (posts_none d.seat d.since.value d.pass c.next_letter.new.pass d.receipts.items d.held l c.drainer.invariant idle t c.post.new.seat c.in-Some.ensures.may over.1) in
+    (subst (λ (x : Draining). PostsMore 0 x (draining c.post.new.seat d.since.value c.next_letter.new.pass c.reserve.new.self.items (Some c.in-Over.letter))) c.drainer.view_is posts, refl, over.2)
 
 pub invariant_of-drainer-in-NoMemory : goal.invariant_of-drainer-in-NoMemory
 invariant_of-drainer-in-NoMemory g c =
@@ -85,7 +85,7 @@ invariant_of-drainer-in-NoMemory g c =
     let t = subst (λ (x : Option Letter). TakesUp d.pass.me.view.client c.next_letter.new.pass.me.view.client x (Some l)) c.take-held.ensures.value c.in-Some.ensures.taken in
     let none = c.in-NoMemory.ensures in
     subst (λ (x : List Receipt × Letter). IsDrainer c.post.new.seat d.since.value c.next_letter.new.pass x.0 (Some x.1)) (λ i. (sym c.in_ok-reserve.ensures.items i, sym none.0 i))
-    (drainer_holds d.seat d.since.value d.pass c.next_letter.new.pass d.receipts.items d.held l c.drainer.invariant idle t c.post.new.seat c.in-Some.ensures.may none.1 none.2)
+    (drainer_holds d.seat d.since.value d.pass c.next_letter.new.pass d.receipts.items d.held l c.drainer.invariant idle t c.post.new.seat c.in-Some.ensures.may none.1)
 
 pub returns-in-NoMemory-clause-step : goal.returns-in-NoMemory-clause-step
 returns-in-NoMemory-clause-step g c =
@@ -96,5 +96,5 @@ returns-in-NoMemory-clause-step g c =
     let t = subst (λ (x : Option Letter). TakesUp d.pass.me.view.client c.next_letter.new.pass.me.view.client x (Some l)) c.take-held.ensures.value c.in-Some.ensures.taken in
     let none = c.in-NoMemory.ensures in
     let posts = subst (λ (x : List Receipt × Letter). PostsMore 0 (draining d.seat d.since.value d.pass d.receipts.items d.held) (draining c.post.new.seat d.since.value c.next_letter.new.pass x.0 (Some x.1))) (λ i. (sym c.in_ok-reserve.ensures.items i, sym none.0 i))
-    (posts_none d.seat d.since.value d.pass c.next_letter.new.pass d.receipts.items d.held l c.drainer.invariant idle t c.post.new.seat c.in-Some.ensures.may none.1 none.2) in
+    (posts_none d.seat d.since.value d.pass c.next_letter.new.pass d.receipts.items d.held l c.drainer.invariant idle t c.post.new.seat c.in-Some.ensures.may none.1) in
     subst (λ (x : Draining). PostsMore 0 x (draining c.post.new.seat d.since.value c.next_letter.new.pass c.reserve.new.self.items (Some c.in-NoMemory.letter))) c.drainer.view_is posts

@@ -1,5 +1,5 @@
 use Rattle.std.proofs.Common.{rules, ◌≡◌, ◌∙◌, sym, ap, subst, [], Option, Some}
-use Rattle.fol_live.specs.Goes.{Goes}
+use Rattle.fol_live.specs.Goes.{Does}
 use Rattle.fol_view.specs.Publications.{Publication, publication_of}
 use Rattle.fol_view.specs.Boards.{Showing, showing}
 use Rattle.fol_view.specs.Rows.{AreInOrder}
@@ -11,20 +11,20 @@ use Rattle.fol_view.proofs.writer.OwnerWriter.refresh.Goals as goal
 pub of-requires : goal.of-requires
 of-requires g c = subst AreInOrder (sym c.in_ok-owners.ensures.rows) (in_order _)
 
-pub returns-in_err-owners-clause-goes : goal.returns-in_err-owners-clause-goes
-returns-in_err-owners-clause-goes g c = subst (λ (w : Writing). Goes w.seat c.owner_rows.new.seat []) c.self.view_is (went_on c.owner_rows.ensures)
+pub returns-in_err-owners-clause-does : goal.returns-in_err-owners-clause-does
+returns-in_err-owners-clause-does g c = subst (λ (w : Writing). Does w.seat c.owner_rows.new.seat []) c.self.view_is (went_on c.owner_rows.ensures)
 
-pub returns-in_err-publication-clause-goes : goal.returns-in_err-publication-clause-goes
-returns-in_err-publication-clause-goes g c = subst (λ (w : Writing). Goes w.seat c.owner_rows.new.seat []) c.self.view_is (went_on c.owner_rows.ensures)
+pub returns-in_err-publication-clause-does : goal.returns-in_err-publication-clause-does
+returns-in_err-publication-clause-does g c = subst (λ (w : Writing). Does w.seat c.owner_rows.new.seat []) c.self.view_is (went_on c.owner_rows.ensures)
 
-pub returns-in_err-copy-clause-goes : goal.returns-in_err-copy-clause-goes
-returns-in_err-copy-clause-goes g c = subst (λ (w : Writing). Goes w.seat c.owner_rows.new.seat []) c.self.view_is (went_on c.owner_rows.ensures)
+pub returns-in_err-copy-clause-does : goal.returns-in_err-copy-clause-does
+returns-in_err-copy-clause-does g c = subst (λ (w : Writing). Does w.seat c.owner_rows.new.seat []) c.self.view_is (went_on c.owner_rows.ensures)
 
-pub returns-then-len-ge-MOST_PUBLICATIONS-clause-goes : goal.returns-then-len-ge-MOST_PUBLICATIONS-clause-goes
-returns-then-len-ge-MOST_PUBLICATIONS-clause-goes g c = subst (λ (w : Writing). Goes w.seat c.owner_rows.new.seat []) c.self.view_is (went_on c.owner_rows.ensures)
+pub returns-then-len-ge-MOST_PUBLICATIONS-clause-does : goal.returns-then-len-ge-MOST_PUBLICATIONS-clause-does
+returns-then-len-ge-MOST_PUBLICATIONS-clause-does g c = subst (λ (w : Writing). Does w.seat c.owner_rows.new.seat []) c.self.view_is (went_on c.owner_rows.ensures)
 
-pub returns-clause-goes : goal.returns-clause-goes
-returns-clause-goes g c = subst (λ (w : Writing). Goes w.seat c.owner_rows.new.seat []) c.self.view_is (went_on c.owner_rows.ensures)
+pub returns-clause-does : goal.returns-clause-does
+returns-clause-does g c = subst (λ (w : Writing). Does w.seat c.owner_rows.new.seat []) c.self.view_is (went_on c.owner_rows.ensures)
 
 pub invariant_of-self : goal.invariant_of-self
 invariant_of-self g c = kept c.self.inside.seat c.owner_rows.new.seat c.self.inside.all c.self.inside.front _ _ (went_on c.owner_rows.ensures) c.self.invariant
