@@ -8,7 +8,8 @@ loop-command-init g c =
     let same = gives.0 in
     record {
       same = same_self c.args.caller.now;
-      worker = back_self c.args.worker c.requires.works;
+      worker = back_self c.args.worker c.requires.rests.works;
+      rests = c.requires.rests;
       counted = gives.1 ∙ c.args.commands.ok.0 ∙ ap length (sym gives.0);
       carries = rw same c.requires.starts;
       limits = rw same c.requires.limits;

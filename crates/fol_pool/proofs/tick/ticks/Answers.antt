@@ -1,20 +1,29 @@
-use Rattle.std.proofs.Common.{Ok, Err}
-use Rattle.fol_pool.proofs.Going.{stop_works}
-use Rattle.fol_pool.proofs.TickSteps.{begin_asks}
+use Rattle.std.proofs.Common.{◌≡◌, sym, ◌∙◌, arith, false, Ok, Err}
+use Rattle.fol_pool.proofs.Going.{same_then, went_well}
+use Rattle.fol_pool.proofs.TickSteps.{claim_holds, claim_same, miss_rests, miss_same}
 use Rattle.fol_pool.proofs.tick.ticks.Goals as goal
 
-pub run_on-back-requires-clause-holds : goal.run_on-back-requires-clause-holds
-run_on-back-requires-clause-holds g c κs within =
-    rw c.in-Ok-Got.field-0-is at (begin_asks c.pass_over.new.seat c.begin.new.seat (Ok c.in-Ok-Got.field-0) c.pass_over.ensures.works c.in-Ok-Got.ensures)
+pub try_begin-requires-clause-worker : goal.try_begin-requires-clause-worker
+try_begin-requires-clause-worker g c κs within = let some = c.loop-turn.invariant.rests.works.calm.some in λ zero. absurd (omega (arith, some, zero))
 
-pub returns-in-Ok-Idle-clause-works : goal.returns-in-Ok-Idle-clause-works
-returns-in-Ok-Idle-clause-works g c =
-    rw c.in-Ok-Idle.field-0-is at (begin_asks c.pass_over.new.seat c.begin.new.seat (Ok c.in-Ok-Idle.field-0) c.pass_over.ensures.works c.in-Ok-Idle.ensures)
+pub run_and_end-back-requires-clause-own : goal.run_and_end-back-requires-clause-own
+run_and_end-back-requires-clause-own g c κs within =
+    (claim_same c.loop-turn.seat c.try_begin.new.seat c.in-Got.tick c.in-Got.ensures).lock ∙ c.loop-turn.invariant.same.lock ∙ c.requires.own
 
-pub returns-in-Ok-Over-clause-works : goal.returns-in-Ok-Over-clause-works
-returns-in-Ok-Over-clause-works g c =
-    rw c.in-Ok-Over.field-0-is at (begin_asks c.pass_over.new.seat c.begin.new.seat (Ok c.in-Ok-Over.field-0) c.pass_over.ensures.works c.in-Ok-Over.ensures)
+pub run_and_end-back-requires-clause-holds : goal.run_and_end-back-requires-clause-holds
+run_and_end-back-requires-clause-holds g c κs within = claim_holds c.loop-turn.seat c.try_begin.new.seat c.in-Got.tick c.loop-turn.invariant.rests c.in-Got.ensures
 
-pub returns-in-Err-clause-works : goal.returns-in-Err-clause-works
-returns-in-Err-clause-works g c =
-    stop_works c.begin.new.seat c.stop.new.seat (begin_asks c.pass_over.new.seat c.begin.new.seat (Err c.in-Err.field-0) c.pass_over.ensures.works c.in-Err.ensures) c.stop.ensures
+pub returns-in-Idle-clause-same : goal.returns-in-Idle-clause-same
+returns-in-Idle-clause-same g c = same_then _ _ _ c.loop-turn.invariant.same (miss_same c.loop-turn.seat c.try_begin.new.seat c.in-Idle.ensures)
+
+pub returns-in-Idle-clause-works : goal.returns-in-Idle-clause-works
+returns-in-Idle-clause-works g c = (miss_rests c.loop-turn.seat c.try_begin.new.seat c.loop-turn.invariant.rests c.in-Idle.ensures).works
+
+pub returns-in-Idle-clause-rests : goal.returns-in-Idle-clause-rests
+returns-in-Idle-clause-rests g c = miss_rests c.loop-turn.seat c.try_begin.new.seat c.loop-turn.invariant.rests c.in-Idle.ensures
+
+pub loop-turn-preserved : goal.loop-turn-preserved
+loop-turn-preserved g c = record {
+  same = same_then _ _ _ c.loop-turn.invariant.same (same_then _ _ _ (claim_same c.loop-turn.seat c.try_begin.new.seat c.in-Got.tick c.in-Got.ensures) c.run_and_end-back.ensures.same);
+  rests = went_well c.run_and_end-back.result.1 (sym c.is_err.ensures.value ∙ c.if-is_err.false) c.run_and_end-back.ensures.rests;
+}
