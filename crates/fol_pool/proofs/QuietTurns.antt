@@ -91,7 +91,7 @@ module _ (o : Opening) (k w : ℕ) (before late : List Entry) (some : 1 ≤ k) (
       let here = stopped_before o known passed go in
       let still : Turns k (start o) idle known idle
       = stays_idle o k known before late refl keeps.grid (before_entry (start o) known passed keeps.run) (all_before IsSigned known passed keeps.signed) some begins
-          (t (stopped_before o before late here)) (none_open r c n keeps) in
+      (t (stopped_before o before late here)) (none_open r c n keeps) in
       turns_both k (start o) idle idle idle known passed still (quiet_turns k r c (world o known) (suc n) (run_behind (start o) known passed keeps.run))
 
   pub whole_passed : (r c n : ℕ) → Keeps w o (known ++ quiet_ticks k r c n) → WasWhole o (known ++ quiet_ticks k r c n) k

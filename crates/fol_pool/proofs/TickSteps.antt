@@ -100,7 +100,7 @@ module _ (s now : Shown) (tick : Tick) (holds : Holds s tick) (looks : Looks s n
       = whole.ticks (stopped_before now.opening whole.seen (whole.rest ++ behind) (rw cut at go)) in
       let t : Turns s.number (start now.opening) idle now.seen (ticking offered.region (asking offered.due) [])
       = late_turn now.opening s.number now.seen whole.seen (whole.rest ++ behind) cut looks.keeps.grid looks.keeps.run looks.keeps.signed looks.keeps.turns.turns holds.works.calm.some
-          begins before offered refl opened.made opened.is.of in
+      begins before offered refl opened.made opened.is.of in
       let number = looks.number in
       let is = holds.out.is in
       rw (number, is) t
@@ -200,7 +200,7 @@ module _ (s u : Shown) (tick done : Tick) (xs : List HostCall) (holds : Holds s 
         let keeps = rw (opening, seen) at (g.keeps did.looks.keeps) in
         let on : Turns k (start now.opening) idle (now.seen ++ g.rest) (ticking tick.region [] (told (hosted tick.due) xs))
         = deeds_go_on now.opening k (now.seen ++ g.rest) now.seen g.rest refl keeps.grid keeps.run keeps.signed keeps.turns.turns holds.works.calm.some tick.region (asking tick.due) [] []
-            (told (hosted tick.due) xs) (entries_of k xs) (start now.opening) at_begin own asked in
+        (told (hosted tick.due) xs) (entries_of k xs) (start now.opening) at_begin own asked in
         let number = g.number in
         rw (number, same, opening, seen) on
 
@@ -218,7 +218,7 @@ module _ (s u : Shown) (tick done : Tick) (xs : List HostCall) (holds : Holds s 
         let before : Turns u.number (start now.opening) idle u.seen (ticking tick.region [] (told (hosted tick.due) xs))
         = rw opening (turns_called (stopped_before u.opening u.seen behind (rw (opening, seen) at go))) in
         let t = stays_in_tick now.opening u.number now.seen u.seen behind looks.seen keeps.grid keeps.run keeps.signed keeps.turns.turns some
-            (looks_begin u now looks) tick.region [] (told (hosted tick.due) xs) before in
+        (looks_begin u now looks) tick.region [] (told (hosted tick.due) xs) before in
         rw (region, number) t
 
   turns_ran : Hosts s xs u → (now : Shown) → Looks u now → (world now.opening now.seen).stopped ≡ false
@@ -306,7 +306,7 @@ module _ (s u : Shown) (tick : Tick) (most n : ℕ) (ran : HasRun s tick) (did :
       let w = world_of (meaning_of now) in
       let before : Turns k (start now.opening) idle now.seen (ticking tick.region [] ran.told)
       = subst (λ (j : ℕ). Turns j (start now.opening) idle now.seen (ticking tick.region [] ran.told)) did.turn.looks.number
-          (ran.ticks now did.turn.looks (stopped_before now.opening now.seen (end ∷ []) go)) in
+      (ran.ticks now did.turn.looks (stopped_before now.opening now.seen (end ∷ []) go)) in
       end_turns now.opening now.seen k tick.worker tick.region (w.tick tick.region + 1) ran.told tick.log.ran
       (answers (run_down w tick.region tick.log.ran) (ticked w tick.region tick.log.ran).wishes) mine ran.again before
 
