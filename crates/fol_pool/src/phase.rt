@@ -8,7 +8,7 @@ ghost use Rattle.fol_pool.specs.Works.{IsBack, Rests, SameSeat};
 
 use crate::commands::GivesUp;
 use crate::patience::Patience;
-use crate::tick::{Rest, ticks};
+use crate::tick::ticks;
 use fol_io::Gate;
 use fol_live::{Close, Live, Seat};
 use std::alloc::Global;
@@ -40,7 +40,7 @@ pub(crate) fn end_phase<R: Wait, G: Gate + Sync>(
         worker = back;
         match rest {
             Err(_) => return (worker, Err(GivesUp)),
-            Ok(Rest::Left | Rest::Idle) => match live.close_phase(rt, caller) {
+            Ok(_) => match live.close_phase(rt, caller) {
                 Ok(Close::Closed) => return (worker, Ok(())),
                 Ok(Close::NotYet(_)) => patience.step_back(rt),
                 Ok(Close::NoPhase | Close::Over) | Err(_) => return (worker, Err(GivesUp)),
