@@ -1,6 +1,7 @@
 -- A worker that passes over ticks in which nothing happens.
-use Rattle.std.proofs.Common.{◌≡◌, ℕ, zero, suc, refl, sym, true, false, List, [], ◌∷◌, ◌++◌}
+use Rattle.std.proofs.Common.{◌≡◌, ℕ, ◌≤◌, zero, suc, refl, sym, true, false, List, [], ◌∷◌, ◌++◌, append_assoc, append-nil}
 use Rattle.std.specs.Prelude.{◌+◌, nat_eq}
+use Rattle.std.specs.List.{AllByRecursion}
 use Rattle.std.proofs.lemmas.Bool.{eq-eqb}
 use Rattle.fol_model.specs.ActionStep.{Flat, Recorded}
 use Rattle.fol_model.specs.End.{outcome_in, ticked}
@@ -10,22 +11,25 @@ use Rattle.fol_model.specs.QueuedTask.{begun}
 use Rattle.fol_model.specs.Run.{RunFrom, after_all, world}
 use Rattle.fol_model.specs.World.{World, due, start}
 use Rattle.fol_model.specs.declared.events.Entry.{Entry}
+use Rattle.fol_model.specs.declared.events.Event.TheVariants.{Begin, End}
+use Rattle.fol_model.specs.declared.openings.Opening.{Opening}
 use Rattle.fol_model.specs.declared.tasks.Outcome.{Outcome}
 use Rattle.fol_model.specs.declared.tasks.Ran.{Ran}
 use Rattle.fol_model.specs.declared.tasks.Task.{Task}
 use Rattle.fol_core.specs.Quiet.{quiet_tick, quiet_ticks}
 use Rattle.fol_core.proofs.FinishedRun.{before_entry}
-use Rattle.fol_core.specs.Meaning.{world_of}
-use Rattle.fol_seat_laws.specs.Signed.{is_phase}
+use Rattle.fol_seat_laws.specs.InTurn.{NoneOpen}
+use Rattle.fol_laws.proofs.SortedRows.{all_append}
+use Rattle.fol_seat_laws.specs.Late.{OnlyBegins}
+use Rattle.fol_seat_laws.specs.Signed.{IsSigned}
 use Rattle.fol_seat_laws.specs.Turns.{Turns}
+use Rattle.fol_seat_laws.specs.Worked.{WasWhole}
+use Rattle.fol_seat_laws.proofs.LateTurns.{stays_idle}
+use Rattle.fol_seat_laws.proofs.Splits.{all_before}
 use Rattle.fol_seat_laws.proofs.Stopping.{run_behind}
 use Rattle.fol_seat_laws.proofs.Turning.{turns_both}
-use Rattle.fol_live.specs.Calls.{PassesOver}
-use Rattle.fol_live.specs.Seat.{Shown, meaning_of}
-use Rattle.fol_live.proofs.OneTurn.{passed_own}
-use Rattle.fol_live.proofs.QuietEntries.{all_quiet}
-use Rattle.fol_pool.specs.Works.{SameSeat, Works}
-use Rattle.fol_pool.proofs.Going.{calm_goes, goes_looks, same_goes, stopped_before, stopped_to, turns_still, turns_to}
+use Rattle.fol_live.specs.Kept.{Keeps}
+use Rattle.fol_pool.proofs.Going.{IsCalm, stopped_before}
 
 -- a tick in which no task ran has none
 none_ran : (rec : Recorded) (given : ℕ → Outcome) (f : Flat) (ts : List Task) → [] ≡ outcomes rec given f ts → ts ≡ []
@@ -51,33 +55,48 @@ quiet_turns k r t w (suc n) run =
     let ys = quiet_tick k r (t + suc n) in
     turns_both k w idle idle idle xs ys (quiet_turns k r t w n (before_entry w xs ys run)) (one_quiet k r (t + suc n) (after_all w xs) (run_behind w xs ys run))
 
--- ---- the call
+pub quiet_calm : (k r t n : ℕ) → AllByRecursion IsCalm (quiet_ticks k r t n)
+unfolding quiet_ticks
+quiet_calm k r t zero = tt
+quiet_calm k r t (suc n) =
+    all_append IsCalm (quiet_ticks k r t n) (quiet_tick k r (t + suc n)) (quiet_calm k r t n) (refl, (refl, tt))
 
-module _ (s u : Shown) (n : ℕ) (did : PassesOver s u n) where
-  abbrev now : Shown
-  now = did.now
+-- the first of them begins with a Begin
+quiet_first : (k r t n : ℕ) → (more : List Entry) × (quiet_ticks k r t (suc n) ≡ (record { by = k; event = Begin k r }) ∷ more)
+unfolding quiet_ticks
+quiet_first k r t zero = ((record { by = k; event = End k r (t + suc zero) [] [] }) ∷ [], refl)
+quiet_first k r t (suc n) =
+    let first = quiet_first k r t n in
+    let ys = quiet_tick k r (t + suc (suc n)) in
+    let is = first.1 in
+    (first.0 ++ ys, rw is refl)
 
-  abbrev passed : List Entry
-  passed = quiet_ticks s.number did.region ((world_of (meaning_of now)).tick did.region) n
+-- ---- behind a tick
 
-  turns_passed : Works s → (world u.opening u.seen).stopped ≡ false → Turns u.number (start u.opening) idle u.seen idle
-  turns_passed works go =
-      let opening = did.turn.adds.opening in
-      let seen = did.passed.history in
-      let whole = stopped_to now.opening u.opening (now.seen ++ passed) u.seen false opening seen go in
-      let before = turns_still s now idle works.calm (goes_looks s now did.turn.looks) works.ticks (stopped_before now.opening now.seen passed whole) in
-      let first = turns_to now.number s.number now.opening now.opening now.seen now.seen idle (sym did.turn.looks.number) refl refl before in
-      let run : RunFrom (start now.opening) (now.seen ++ passed) = rw (opening, seen) at did.turn.adds.keeps.run in
-      turns_to s.number u.number now.opening u.opening (now.seen ++ passed) u.seen idle (passed_own s u n did).0.number opening seen
-      (turns_both s.number (start now.opening) idle idle idle now.seen passed first
-      (quiet_turns s.number did.region ((world_of (meaning_of now)).tick did.region) (world now.opening now.seen) n (run_behind (start now.opening) now.seen passed run)))
+-- a worker that is at nothing, behind Begins that it learnt of and ticks that it passed over
+module _ (o : Opening) (k w : ℕ) (before late : List Entry) (some : 1 ≤ k) (begins : OnlyBegins k late) (t : (world o before).stopped ≡ false → Turns k (start o) idle before idle) where
+  abbrev known : List Entry
+  known = before ++ late
 
-  pub passed_works : Works s → Works u
-  passed_works works = record {
-    calm = calm_goes s u passed works.calm (passed_own s u n did).0
-        (all_quiet s.number did.region ((world_of (meaning_of now)).tick did.region) (λ (e : Entry). is_phase e.event ≡ false) n (λ t. (refl, (refl, tt))));
-    ticks = turns_passed works;
-  }
+  none_open : (r c n : ℕ) → Keeps w o (known ++ quiet_ticks k r c (suc n)) → NoneOpen k known
+  none_open r c n keeps =
+      let first = quiet_first k r c n in
+      let is : known ++ quiet_ticks k r c (suc n) ≡ known ++ (record { by = k; event = Begin k r }) ∷ first.0 = (let is = first.1 in rw is refl) in
+      keeps.turns.turns known (record { by = k; event = Begin k r }) first.0 k r is refl
 
-  pub passed_same : SameSeat s u
-  passed_same = same_goes s u passed (passed_own s u n did).0
+  some_passed : (r c n : ℕ) → Keeps w o (known ++ quiet_ticks k r c (suc n)) → (world o (known ++ quiet_ticks k r c (suc n))).stopped ≡ false
+      → Turns k (start o) idle (known ++ quiet_ticks k r c (suc n)) idle
+  some_passed r c n keeps go =
+      let passed = quiet_ticks k r c (suc n) in
+      let here = stopped_before o known passed go in
+      let still : Turns k (start o) idle known idle
+      = stays_idle o k known before late refl keeps.grid (before_entry (start o) known passed keeps.run) (all_before IsSigned known passed keeps.signed) some begins
+      (t (stopped_before o before late here)) (none_open r c n keeps) in
+      turns_both k (start o) idle idle idle known passed still (quiet_turns k r c (world o known) (suc n) (run_behind (start o) known passed keeps.run))
+
+  pub whole_passed : (r c n : ℕ) → Keeps w o (known ++ quiet_ticks k r c n) → WasWhole o (known ++ quiet_ticks k r c n) k
+  unfolding quiet_ticks
+  whole_passed r c zero keeps = record { seen = before; rest = late; is = append-nil known; behind = begins; ticks = t }
+  whole_passed r c (suc n) keeps =
+      let passed = quiet_ticks k r c (suc n) in
+      record { seen = known ++ passed; rest = []; is = sym (append-nil (known ++ passed)); behind = tt; ticks = some_passed r c n keeps }

@@ -1,11 +1,10 @@
 -- All seats together, when the world is closed.
 use Rattle.std.proofs.Common.{◌≡◌, ℕ, zero, suc, ◌+◌, ◌<◌, ◌≤◌, refl, sym, ◌∙◌, ap, subst, true, inl, inr, List, [], ◌∷◌, ◌++◌, length, arith, append_assoc, append-nil, All, Contains}
-use Rattle.std.specs.Prelude.{Bool, Result, Ok, Err, IfOk, OnOk}
+use Rattle.std.specs.Prelude.{◌-◌, Bool, Result, Ok, Err, IfOk, OnOk}
 use Rattle.std.specs.List.{AllByRecursion}
 use Rattle.std.proofs.lemmas.Bool.{cases_eq}
-use Rattle.std.proofs.lemmas.List.{map-append}
+use Rattle.std.proofs.lemmas.List.{append_cancel_left, map-append}
 use Rattle.std.proofs.lemmas.List.Elements.{All-contains, All-from_recursion, Contains-append_left, Contains-append_right, Contains-push, recursion_from_All}
-use Rattle.fol_lock.specs.Seat.{LockId}
 use Rattle.fol_lock.proofs.Logs.{given_by-append}
 use Rattle.fol_model.specs.declared.closings.Closing.{Closing}
 use Rattle.fol_model.specs.declared.events.Entry.{Entry}
@@ -14,20 +13,17 @@ use Rattle.fol_model.specs.declared.openings.Opening.{Opening}
 use Rattle.fol_model.specs.declared.scripts.Command.{Command}
 use Rattle.fol_model.specs.Legal.{Legal, orders}
 use Rattle.fol_model.specs.Outputs.{Outputs}
-use Rattle.fol_seat_laws.specs.Signed.{IsBegunBelow, IsSelfBegun, own_of}
-use Rattle.fol_seat_laws.specs.Worked.{Called, Worked}
+use Rattle.fol_seat_laws.specs.Signed.{own_of}
+use Rattle.fol_seat_laws.specs.Worked.{Called, WasWhole, Worked}
 use Rattle.fol_seat_laws.proofs.LegalSeats.{seats_make_legal}
 use Rattle.fol_live.specs.Kept.{Keeps}
-use Rattle.fol_live.specs.Seat.{Shown}
+use Rattle.fol_live.specs.Seat.{LiveId, Shown}
 use Rattle.fol_live.specs.Seats.{AreAllSeats, ClosesAll, Knows, newcomer, numbers_of}
 use Rattle.fol_pool.specs.Script.{HasFinished}
 use Rattle.fol_pool.specs.Team.{AreBack}
 use Rattle.fol_pool.specs.Works.{IsBack, SameSeat}
+use Rattle.fol_pool.proofs.Going.{begins_both}
 use Rattle.fol_pool.proofs.Newcomers.{NewFrom}
-
-append_cancel : (xs ys zs : List Entry) → xs ++ ys ≡ xs ++ zs → ys ≡ zs
-append_cancel [] ys zs same = same
-append_cancel (x ∷ xs) ys zs same = append_cancel xs ys zs (cc)
 
 all_before : {X : Type 0} (P : X → Type 0) (xs ys : List X) → AllByRecursion P (xs ++ ys) → AllByRecursion P xs
 all_before P [] ys all = tt
@@ -57,7 +53,7 @@ as_many (x ∷ gs) (y ∷ bs) all = ap suc (as_many gs bs all.1)
 
 -- ---- what each of them shows
 
-module _ (l : LockId) (o : Opening) where
+module _ (l : LiveId) (o : Opening) where
   locks_back : (n : ℕ) (gs bs : List Shown) → NewFrom l o n gs → AreBack gs bs → AllByRecursion (λ (s : Shown). s.lock ≡ l) bs
   locks_back n [] [] new all = tt
   locks_back n [] (y ∷ bs) new all = absurd all
@@ -111,17 +107,20 @@ worked_one o h k g b number opening back knows =
     let is : h ≡ b.seen ++ rest = knows.seen.1 in
     let both : own_of b.number b.seen ++ own_of b.number rest ≡ own_of b.number b.seen ++ []
     = sym (given_by-append (λ (e : Entry). e.by) b.number b.seen rest) ∙ ap (own_of b.number) (sym is) ∙ knows.mine ∙ sym knows.own ∙ sym (append-nil (own_of b.number b.seen)) in
-    let none : own_of b.number rest ≡ [] = append_cancel (own_of b.number b.seen) (own_of b.number rest) [] both in
+    let none : own_of b.number rest ≡ [] = append_cancel_left (own_of b.number b.seen) (own_of b.number rest) [] both in
+    let whole : WasWhole o b.seen k = (let w = back.works.whole in rw (opening, number) at w) in
     record {
-      seen = b.seen;
-      rest = rest;
-      is = is;
-      behind = rw number at none;
-      ticks = (let t = back.works.ticks in rw (opening, number) at t);
+      whole = record {
+        seen = whole.seen;
+        rest = whole.rest ++ rest;
+        is = (let seen = whole.is in is ∙ ap (λ (es : List Entry). es ++ rest) seen ∙ append_assoc whole.seen whole.rest rest);
+        behind = begins_both k whole.rest rest whole.behind (rw (← number, none) tt);
+        ticks = whole.ticks;
+      };
       calm = (let mine = knows.mine in rw (← number, mine) back.works.calm.calm);
     }
 
-module _ (l : LockId) (o : Opening) (h : List Entry) where
+module _ (l : LiveId) (o : Opening) (h : List Entry) where
   worked_each : (n k : ℕ) (gs bs : List Shown) → NewFrom l o n gs → AreBack gs bs → AllByRecursion (Knows o h) bs → n ≤ k → k < n + length gs → Worked o h k
   worked_each n k [] [] new all knows low high = absurd (omega (arith, low, high))
   worked_each n k [] (y ∷ bs) new all knows low high = absurd all
@@ -150,17 +149,11 @@ called_all o h c script done knows =
       calls = rw mine done.calls;
     }
 
--- each Begin is of one of the workers
-begun_below : (w : ℕ) (es : List Entry) → AllByRecursion IsSelfBegun es → AllByRecursion (λ (e : Entry). e.by ≤ w) es → AllByRecursion (IsBegunBelow w) es
-begun_below w [] begun low = tt
-begun_below w (e ∷ es) begun low =
-    ((λ starts. let own = (begun.0 starts).own in record { some = rw own (begun.0 starts).some; low = rw own low.0 }), begun_below w es begun.1 low.1)
-
 low_entries : (w : ℕ) (ns : List ℕ) (es : List Entry) → AllByRecursion (λ (k : ℕ). k ≤ w) ns → AllByRecursion (λ (e : Entry). Contains ns e.by) es → AllByRecursion (λ (e : Entry). e.by ≤ w) es
 low_entries w ns [] low all = tt
 low_entries w ns (e ∷ es) low all = (All-contains (λ (k : ℕ). k ≤ w) ns e.by (All-from_recursion (λ (k : ℕ). k ≤ w) ns low) all.0, low_entries w ns es low all.1)
 
-module _ (l : LockId) (o : Opening) (bs : List Shown) (c : Shown) (r : Closing) (caller : SameSeat (newcomer l o 0) c) (closes : ClosesAll (bs ++ c ∷ []) r) where
+module _ (l : LiveId) (o : Opening) (w : ℕ) (bs : List Shown) (c : Shown) (r : Closing) (caller : SameSeat (newcomer l o 0) c) (closes : ClosesAll w (bs ++ c ∷ []) r) where
   known : AllByRecursion (Knows r.opening r.history) (bs ++ c ∷ [])
   known = recursion_from_All (Knows r.opening r.history) (bs ++ c ∷ []) closes.of.each
 
@@ -170,31 +163,33 @@ module _ (l : LockId) (o : Opening) (bs : List Shown) (c : Shown) (r : Closing) 
   here : AllByRecursion (Knows o r.history) (bs ++ c ∷ [])
   here = subst (λ (p : Opening). AllByRecursion (Knows p r.history) (bs ++ c ∷ [])) opening_is known
 
-  keeps : Keeps o r.history
+  keeps : Keeps w o r.history
   keeps = rw opening_is at closes.of.keeps
 
   pub outputs_together : Outputs o r.history r
   outputs_together = subst (λ (p : Opening). Outputs p r.history r) opening_is closes.rows
 
-  module _ (w : ℕ) (gs : List Shown) (script : List Command) (new : NewFrom l o 1 gs) (many : length gs ≡ w) (all : AreBack gs bs) (done : HasFinished c script) where
+  module _ (gs : List Shown) (script : List Command) (new : NewFrom l o 1 gs) (many : length gs ≡ w) (all : AreBack gs bs) (done : HasFinished c script) where
     low : AllByRecursion (λ (e : Entry). e.by ≤ w) r.history
     low = low_entries w (numbers_of (bs ++ c ∷ [])) r.history (all_low l o w gs bs c new many all caller)
         (recursion_from_All (λ (e : Entry). Contains (numbers_of (bs ++ c ∷ [])) e.by) r.history closes.of.others)
 
     pub legal_together : Legal o script w r.history
     legal_together =
-        seats_make_legal o script w r.history keeps.grid keeps.run keeps.signed low (begun_below w r.history keeps.begun low)
+        seats_make_legal o script w r.history keeps.grid keeps.run keeps.signed low keeps.turns.below
         (called_all o r.history c script done (all_last (Knows o r.history) bs c here))
         (λ k some high. worked_each l o r.history 1 k gs bs new all (all_before (Knows o r.history) bs (c ∷ []) here) some (omega (arith, many, high)))
 
--- what an answer with a closing comes to
-pub legal_answer : {E : Type 0} (l : LockId) (o : Opening) (w : ℕ) (gs bs : List Shown) (c : Shown) (script : List Command) (finished : Bool) (r : Result Closing E) → NewFrom l o 1 gs
-    → length gs ≡ w → AreBack gs bs → SameSeat (newcomer l o 0) c → (finished ≡ true → HasFinished c script) → OnOk r (finished ≡ true) → IfOk r (λ k. ClosesAll (bs ++ c ∷ []) k)
-    → IfOk r (λ k. Legal o script w k.history)
-legal_answer l o w gs bs c script finished (Ok k) new many all caller done ok closes = legal_together l o bs c k caller closes w gs script new many all (done ok)
-legal_answer l o w gs bs c script finished (Err e) new many all caller done ok closes = tt
+-- what an answer with a closing comes to, where so many seats were dealt
+pub legal_answer : {E : Type 0} (l : LiveId) (o : Opening) (w count : ℕ) (gs bs : List Shown) (c : Shown) (script : List Command) (finished : Bool) (r : Result Closing E) → count ≡ w + 1
+    → NewFrom l o 1 gs → length gs ≡ w → AreBack gs bs → SameSeat (newcomer l o 0) c → (finished ≡ true → HasFinished c script) → OnOk r (finished ≡ true)
+    → IfOk r (λ k. ClosesAll (count - 1) (bs ++ c ∷ []) k) → IfOk r (λ k. Legal o script w k.history)
+legal_answer l o w count gs bs c script finished (Ok k) dealt new many all caller done ok closes =
+    let same : count - 1 ≡ w = omega (arith, dealt) in
+    legal_together l o w bs c k caller (rw same at closes) gs script new many all (done ok)
+legal_answer l o w count gs bs c script finished (Err e) dealt new many all caller done ok closes = tt
 
-pub outputs_answer : {E : Type 0} (l : LockId) (o : Opening) (bs : List Shown) (c : Shown) (r : Result Closing E) → SameSeat (newcomer l o 0) c
-    → IfOk r (λ k. ClosesAll (bs ++ c ∷ []) k) → IfOk r (λ k. Outputs o k.history k)
-outputs_answer l o bs c (Ok k) caller closes = outputs_together l o bs c k caller closes
-outputs_answer l o bs c (Err e) caller closes = tt
+pub outputs_answer : {E : Type 0} (l : LiveId) (o : Opening) (w : ℕ) (bs : List Shown) (c : Shown) (r : Result Closing E) → SameSeat (newcomer l o 0) c
+    → IfOk r (λ k. ClosesAll w (bs ++ c ∷ []) k) → IfOk r (λ k. Outputs o k.history k)
+outputs_answer l o w bs c (Ok k) caller closes = outputs_together l o w bs c k caller closes
+outputs_answer l o w bs c (Err e) caller closes = tt

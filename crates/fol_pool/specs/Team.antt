@@ -1,13 +1,12 @@
 -- The seats of a world on their way through the threads.
 use Rattle.std.specs.Prelude.{◌≡◌, List, [], ◌∷◌}
-use Rattle.fol_lock.specs.Seat.{LockId}
-use Rattle.fol_live.specs.Seat.{Shown}
-use Rattle.fol_pool.specs.Works.{IsBack, Works}
+use Rattle.fol_live.specs.Seat.{LiveId, Shown}
+use Rattle.fol_pool.specs.Works.{IsBack, Rests}
 
--- it is a worker's seat of this world, whose ticks are whole
-pub record IsReady (lock : LockId) (s : Shown) : Type 0 where
+-- it is a worker's seat of this world, whose ticks are whole, and which holds none
+pub record IsReady (lock : LiveId) (s : Shown) : Type 0 where
   pub own : s.lock ≡ lock
-  pub works : Works s
+  pub rests : Rests s
 
 -- the seats that were given came back, each in its place, and their ticks are whole
 abbrev pub AreBack : List Shown → List Shown → Type 0

@@ -5,7 +5,7 @@ ghost use Rattle.std.specs.List.{list_all};
 ghost use Rattle.fol_live.specs.Lives.{live_id};
 ghost use Rattle.fol_model.specs.IsScript.{is_command};
 ghost use Rattle.fol_pool.specs.Script.{Carries, HasFinished, Issued};
-ghost use Rattle.fol_pool.specs.Works.{IsBack, SameSeat, Works};
+ghost use Rattle.fol_pool.specs.Works.{IsBack, Rests, SameSeat};
 
 use crate::commands::{GivesUp, finish, load, open_phase, post, repeated, unload};
 use crate::phase::end_phase;
@@ -37,7 +37,7 @@ pub(crate) fn lead<R: Wait, G: Gate + Sync>(
     requires starts { Carries caller commands.items commands.items }
     requires limits { IsTrue (list_all is_command commands.items) }
     requires worker_own { worker.lock ≡ live_id live.now }
-    requires works { Works worker }
+    requires rests { Rests worker }
     ensures caller { SameSeat caller result.caller }
     ensures worker { IsBack worker result.worker }
     ensures finished { result.finished ≡ true → HasFinished result.caller commands.items }
@@ -68,7 +68,7 @@ fn carry_out<R: Wait, G: Gate + Sync>(
     requires starts { Carries caller.old commands.items commands.items }
     requires limits { IsTrue (list_all is_command commands.items) }
     requires worker_own { worker.lock ≡ live_id live.now }
-    requires works { Works worker }
+    requires rests { Rests worker }
     ensures same { SameSeat caller.old caller.new }
     ensures worker { IsBack worker result.0 }
     ensures finished { OnOk result.1 (HasFinished caller.new commands.items) }
@@ -98,9 +98,10 @@ fn issue<R: Wait, G: Gate + Sync>(
     requires zero { caller.old.number ≡ 0 }
     requires limits { IsTrue (is_command command) }
     requires worker_own { worker.lock ≡ live_id live.now }
-    requires works { Works worker }
+    requires rests { Rests worker }
     ensures same { SameSeat caller.old caller.new }
     ensures worker { IsBack worker result.0 }
+    ensures rests { OnOk result.1 (Rests result.0) }
     ensures issued { OnOk result.1 (Issued caller.old caller.new command) }
 {
     match command {

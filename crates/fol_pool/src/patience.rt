@@ -98,6 +98,11 @@ impl Patience {
         }
     }
 
+    /// Whether it is time to ask whether the history is over: it was met by nothing again and again.
+    pub(crate) fn asks(&self) -> bool {
+        self.misses > SPINS && self.misses % 4 == 0
+    }
+
     /// Whether so many seats in the lock are too many: more than bearable, or under pressure any.
     pub(crate) fn is_crowded(&self, crowd: u64) -> bool {
         crowd > BEARABLE_CROWD || (crowd > 0 && self.pressure > self.bearable)

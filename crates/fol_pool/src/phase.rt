@@ -4,11 +4,11 @@ ghost use Rattle.std.specs.Prelude.{◌≡◌, OnOk};
 ghost use Rattle.fol_live.specs.Lives.{live_id};
 ghost use Rattle.fol_model.specs.declared.scripts.Command.TheVariants as commands;
 ghost use Rattle.fol_pool.specs.Script.{Issued};
-ghost use Rattle.fol_pool.specs.Works.{IsBack, SameSeat, Works};
+ghost use Rattle.fol_pool.specs.Works.{IsBack, Rests, SameSeat};
 
 use crate::commands::GivesUp;
 use crate::patience::Patience;
-use crate::tick::{Rest, ticks};
+use crate::tick::ticks;
 use fol_io::Gate;
 use fol_live::{Close, Live, Seat};
 use std::alloc::Global;
@@ -27,9 +27,10 @@ pub(crate) fn end_phase<R: Wait, G: Gate + Sync>(
     requires own { caller.old.lock ≡ live_id live.now }
     requires zero { caller.old.number ≡ 0 }
     requires worker_own { worker.lock ≡ live_id live.now }
-    requires works { Works worker }
+    requires rests { Rests worker }
     ensures same { SameSeat caller.old caller.new }
     ensures worker { IsBack worker result.0 }
+    ensures rests { OnOk result.1 (Rests result.0) }
     ensures issued { OnOk result.1 (Issued caller.old caller.new commands.End) }
 {
     let mut worker = worker;
@@ -38,8 +39,8 @@ pub(crate) fn end_phase<R: Wait, G: Gate + Sync>(
         let (back, rest) = ticks(rt, alloc, live, worker, &mut patience, gate);
         worker = back;
         match rest {
-            Rest::Over => return (worker, Err(GivesUp)),
-            Rest::Left | Rest::Idle => match live.close_phase(rt, caller) {
+            Err(_) => return (worker, Err(GivesUp)),
+            Ok(_) => match live.close_phase(rt, caller) {
                 Ok(Close::Closed) => return (worker, Ok(())),
                 Ok(Close::NotYet(_)) => patience.step_back(rt),
                 Ok(Close::NoPhase | Close::Over) | Err(_) => return (worker, Err(GivesUp)),

@@ -1,6 +1,6 @@
 //! A script from its first command to its closing.
 
-ghost use Rattle.std.specs.Prelude.{◌≡◌, ◌<◌, ◌≤◌, ◌++◌, ◌∷◌, [], All, IfOk, OnOk, true, vec_len, vec_capacity};
+ghost use Rattle.std.specs.Prelude.{◌≡◌, ◌-◌, ◌<◌, ◌≤◌, ◌++◌, ◌∷◌, [], All, IfOk, OnOk, true, vec_len, vec_capacity};
 ghost use Rattle.fol_live.specs.Lives.{live_id};
 ghost use Rattle.fol_live.specs.Seats.{AreAllSeats, ClosesAll};
 ghost use Rattle.fol_lock.specs.Lock.{seat_count};
@@ -50,7 +50,8 @@ fn close(alloc: Global, live: Live, ended: Ended) -> Result<Closing, AllocError>
     requires all { AreAllSeats (seat_count live.lock) (ended.workers.items ++ ended.caller ∷ []) }
     requires room { vec_len ended.workers < vec_capacity ended.workers }
     ensures finished { OnOk result (ended.finished ≡ true) }
-    ensures closing { IfOk result (λ c. ClosesAll (ended.workers.items ++ ended.caller ∷ []) c) }
+    ensures closing { IfOk result (λ c.
+        ClosesAll (seat_count live.lock - 1) (ended.workers.items ++ ended.caller ∷ []) c) }
 {
     let Ended {
         caller,

@@ -6,7 +6,7 @@ ghost use Rattle.fol_live.specs.Lives.{live_id};
 ghost use Rattle.fol_model.specs.IsScript.{is_command};
 ghost use Rattle.fol_pool.specs.Script.{Carries, HasFinished};
 ghost use Rattle.fol_pool.specs.Team.{AreBack, IsReady};
-ghost use Rattle.fol_pool.specs.Works.{IsBack, SameSeat, Works};
+ghost use Rattle.fol_pool.specs.Works.{IsBack, Rests, SameSeat};
 
 use crate::lead::{Led, lead};
 use crate::work::{HandsBack, work};
@@ -107,7 +107,7 @@ fn team<'s, E, R: Threads + Wait + Sync, G: Gate + Sync>(
         HandsBack(Snapshot::of(&seat)),
         move || -> Seat
             requires own { seat.lock ≡ live_id live.now }
-            requires works { Works seat }
+            requires rests { Rests seat }
             ensures { IsBack seat result }
         { work(rt, alloc, live, seat, gate) },
     ) {

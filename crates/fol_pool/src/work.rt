@@ -2,7 +2,7 @@
 
 ghost use Rattle.std.specs.Prelude.{◌≡◌};
 ghost use Rattle.fol_live.specs.Lives.{live_id};
-ghost use Rattle.fol_pool.specs.Works.{SameSeat, Works};
+ghost use Rattle.fol_pool.specs.Works.{Rests, SameSeat, Works};
 
 use crate::patience::Patience;
 use crate::tick::{Rest, ticks};
@@ -32,7 +32,7 @@ pub(crate) fn work<R: Wait, G: Gate + Sync>(
     gate: &G,
 ) -> Seat
     requires own { seat.lock ≡ live_id live.now }
-    requires works { Works seat }
+    requires rests { Rests seat }
     ensures same { SameSeat seat result }
     ensures works { Works result }
 {
@@ -46,9 +46,29 @@ pub(crate) fn work<R: Wait, G: Gate + Sync>(
         let (back, rest) = ticks(rt, alloc, live, seat, &mut patience, gate);
         seat = back;
         match rest {
-            Rest::Left | Rest::Idle => patience.step_back(rt),
-            Rest::Over => return seat,
+            Ok(Rest::Left) => patience.step_back(rt),
+            Ok(Rest::Idle) => {
+                patience.step_back(rt);
+                if is_over(rt, live, &mut seat, &patience) {
+                    return seat;
+                }
+            }
+            Err(_) => return seat,
         }
     }
     unreachable!()
+}
+
+/// Whether the history is over, where it is time to ask.
+fn is_over<R: Wait>(rt: &R, live: &Live, seat: &mut Seat, patience: &Patience) -> bool
+    requires own { seat.old.lock ≡ live_id live.now }
+    requires rests { Rests seat.old }
+    ensures same { SameSeat seat.old seat.new }
+    ensures rests { Rests seat.new }
+{
+    if patience.asks() {
+        live.ended(rt, seat)
+    } else {
+        false
+    }
 }

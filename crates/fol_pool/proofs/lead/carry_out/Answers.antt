@@ -1,15 +1,10 @@
-use Rattle.std.proofs.Common.{◌∙◌, sym, ap, length}
-use Rattle.fol_pool.proofs.Going.{back_self, same_self}
+use Rattle.std.proofs.Common.{◌∙◌, sym}
+use Rattle.std.proofs.lemmas.Result.{on_ok_weaker}
+use Rattle.fol_pool.proofs.Carrying.{carries_end, has_finished}
 use Rattle.fol_pool.proofs.lead.carry_out.Goals as goal
 
-pub loop-command-init : goal.loop-command-init
-loop-command-init g c =
-    let gives = c.into_iter-command-iterator.ensures.into_iter_gives in
-    let same = gives.0 in
-    record {
-      same = same_self c.args.caller.now;
-      worker = back_self c.args.worker c.requires.works;
-      counted = gives.1 ∙ c.args.commands.ok.0 ∙ ap length (sym gives.0);
-      carries = rw same c.requires.starts;
-      limits = rw same c.requires.limits;
-    }
+pub returns-clause-finished : goal.returns-clause-finished
+returns-clause-finished g c =
+    let none = sym c.loop-command.invariant.counted ∙ c.in-None.ensures.steps.0 in
+    let carries = carries_end c.loop-command.caller _ c.args.commands.items none c.loop-command.invariant.carries in
+    on_ok_weaker c.finish.result (has_finished c.loop-command.caller c.finish.new.caller c.args.commands.items carries c.finish.ensures.same) c.finish.ensures.finished

@@ -1,7 +1,7 @@
 use Rattle.std.proofs.Common.{◌≡◌, ◌∙◌, arith}
 use Rattle.fol_model.specs.GridNumbers.{IsGrid}
-use Rattle.fol_lock.specs.Seat.{LockId}
 use Rattle.fol_live.specs.Lives.{live_id}
+use Rattle.fol_live.specs.Seat.{LiveId}
 use Rattle.fol_live.specs.Seats.{newcomer}
 use Rattle.fol_pool.specs.Works.{SameSeat}
 use Rattle.fol_pool.proofs.Newcomers.{Dealt, all_ready, dealt}
@@ -10,7 +10,7 @@ use Rattle.fol_pool.proofs.script.run_script.Goals as goal
 
 pub play-ended-requires-clause-ready : goal.play-ended-requires-clause-ready
 play-ended-requires-clause-ready g c κs within =
-    let l : LockId = live_id c.in_ok-live.field-0.live in
+    let l : LiveId = live_id c.in_ok-live.field-0.live in
     let d : Dealt l c.args.opening c.args.workers c.remove-caller.result c.remove-caller.new.self.items
     = dealt l c.args.opening c.args.workers c.in_ok-live.field-0.seats.items c.remove-caller.result c.remove-caller.new.self.items c.in_ok-live.ensures.seats c.remove-caller.ensures.value c.remove-caller.ensures.items in
     let grid : IsGrid c.args.opening.grid = rw (← c.opening.view_is) c.opening.invariant.grid in
@@ -18,7 +18,7 @@ play-ended-requires-clause-ready g c κs within =
 
 pub close-requires-clause-own : goal.close-requires-clause-own
 close-requires-clause-own g c =
-    let l : LockId = live_id c.in_ok-live.field-0.live in
+    let l : LiveId = live_id c.in_ok-live.field-0.live in
     let d : Dealt l c.args.opening c.args.workers c.remove-caller.result c.remove-caller.new.self.items
     = dealt l c.args.opening c.args.workers c.in_ok-live.field-0.seats.items c.remove-caller.result c.remove-caller.new.self.items c.in_ok-live.ensures.seats c.remove-caller.ensures.value c.remove-caller.ensures.items in
     let first = d.caller in
@@ -27,7 +27,7 @@ close-requires-clause-own g c =
 
 pub close-requires-clause-all : goal.close-requires-clause-all
 close-requires-clause-all g c =
-    let l : LockId = live_id c.in_ok-live.field-0.live in
+    let l : LiveId = live_id c.in_ok-live.field-0.live in
     let d : Dealt l c.args.opening c.args.workers c.remove-caller.result c.remove-caller.new.self.items
     = dealt l c.args.opening c.args.workers c.in_ok-live.field-0.seats.items c.remove-caller.result c.remove-caller.new.self.items c.in_ok-live.ensures.seats c.remove-caller.ensures.value c.remove-caller.ensures.items in
     let first = d.caller in
@@ -41,20 +41,20 @@ close-requires-clause-room g c =
 
 pub returns-clause-legal : goal.returns-clause-legal
 returns-clause-legal g c =
-    let l : LockId = live_id c.in_ok-live.field-0.live in
+    let l : LiveId = live_id c.in_ok-live.field-0.live in
     let d : Dealt l c.args.opening c.args.workers c.remove-caller.result c.remove-caller.new.self.items
     = dealt l c.args.opening c.args.workers c.in_ok-live.field-0.seats.items c.remove-caller.result c.remove-caller.new.self.items c.in_ok-live.ensures.seats c.remove-caller.ensures.value c.remove-caller.ensures.items in
     let first = d.caller in
     let same : SameSeat (newcomer l c.args.opening 0) c.play-ended.result.caller = rw first at c.play-ended.ensures.caller in
     let script : c.into_vec-commands.result.items ≡ c.args.script = c.into_vec-commands.ensures ∙ c.script.view_is in
-    legal_answer l c.args.opening c.args.workers c.remove-caller.new.self.items c.play-ended.result.workers.items c.play-ended.result.caller c.args.script c.play-ended.result.finished c.close.result
-    d.workers d.many c.play-ended.ensures.workers same (rw script at c.play-ended.ensures.finished) c.close.ensures.finished c.close.ensures.closing
+    legal_answer l c.args.opening c.args.workers _ c.remove-caller.new.self.items c.play-ended.result.workers.items c.play-ended.result.caller c.args.script c.play-ended.result.finished c.close.result
+    c.in_ok-live.ensures.count d.workers d.many c.play-ended.ensures.workers same (rw script at c.play-ended.ensures.finished) c.close.ensures.finished c.close.ensures.closing
 
 pub returns-clause-outputs : goal.returns-clause-outputs
 returns-clause-outputs g c =
-    let l : LockId = live_id c.in_ok-live.field-0.live in
+    let l : LiveId = live_id c.in_ok-live.field-0.live in
     let d : Dealt l c.args.opening c.args.workers c.remove-caller.result c.remove-caller.new.self.items
     = dealt l c.args.opening c.args.workers c.in_ok-live.field-0.seats.items c.remove-caller.result c.remove-caller.new.self.items c.in_ok-live.ensures.seats c.remove-caller.ensures.value c.remove-caller.ensures.items in
     let first = d.caller in
     let same : SameSeat (newcomer l c.args.opening 0) c.play-ended.result.caller = rw first at c.play-ended.ensures.caller in
-    outputs_answer l c.args.opening c.play-ended.result.workers.items c.play-ended.result.caller c.close.result same c.close.ensures.closing
+    outputs_answer l c.args.opening _ c.play-ended.result.workers.items c.play-ended.result.caller c.close.result same c.close.ensures.closing

@@ -20,7 +20,7 @@ spawn_with-requires-clause-runs g t c κs within =
     let items = c.in-Some.ensures.items in
     let l = live_id c.args.live.now in
     let ready : IsReady l c.in-Some.seat = all_last (IsReady l) c.pop.new.self.items c.in-Some.seat (rw items at c.requires.ready) in
-    (ready.own, (ready.works, (search rules, search rules)))
+    (ready.own, (ready.rests, (search rules, search rules)))
 
 pub spawn_with-requires-in-Err-clause-own : goal.spawn_with-requires-in-Err-clause-own
 spawn_with-requires-in-Err-clause-own g t c κs within =
@@ -30,13 +30,13 @@ spawn_with-requires-in-Err-clause-own g t c κs within =
     let ready : IsReady l c.in-Some.seat = all_last (IsReady l) c.pop.new.self.items c.in-Some.seat (rw items at c.requires.ready) in
     rw closure ready.own
 
-pub spawn_with-requires-in-Err-clause-works : goal.spawn_with-requires-in-Err-clause-works
-spawn_with-requires-in-Err-clause-works g t c κs within =
+pub spawn_with-requires-in-Err-clause-rests : goal.spawn_with-requires-in-Err-clause-rests
+spawn_with-requires-in-Err-clause-rests g t c κs within =
     let items = c.in-Some.ensures.items in
     let closure = c.in-Err.ensures.err in
     let l = live_id c.args.live.now in
     let ready : IsReady l c.in-Some.seat = all_last (IsReady l) c.pop.new.self.items c.in-Some.seat (rw items at c.requires.ready) in
-    rw closure ready.works
+    rw closure ready.rests
 
 pub push_reserved-requires-in-Ok : goal.push_reserved-requires-in-Ok
 push_reserved-requires-in-Ok g t c =

@@ -1,10 +1,10 @@
 use Rattle.std.proofs.lemmas.Result.{on_err_weaker, on_ok_weaker}
-use Rattle.fol_live.proofs.Held.{held_may_run}
+use Rattle.fol_live.proofs.HeldTicks.{held_may_run}
 use Rattle.fol_pool.proofs.TickSteps.{came_to_run, came_to_stuck}
 use Rattle.fol_pool.proofs.tick.run.Goals as goal
 
 pub run_tick-ran-requires : goal.run_tick-ran-requires
-run_tick-ran-requires g c = held_may_run c.args.seat c.args.tick.now c.requires.holds.held
+run_tick-ran-requires g c = held_may_run c.args.seat c.args.tick.now c.requires.holds.out
 
 pub returns-clause-ran : goal.returns-clause-ran
 returns-clause-ran g c =

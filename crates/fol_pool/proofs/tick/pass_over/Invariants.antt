@@ -1,5 +1,0 @@
-use Rattle.fol_pool.specs.Works.{SameSeat, Works}
-use Rattle.fol_pool.proofs.tick.pass_over.Given as goal
-
-abbrev pub invariant-loop-turn : goal.invariant-loop-turn
-invariant-loop-turn g l = record { same : SameSeat l.initial.seat l.seat; works : Works l.seat }
