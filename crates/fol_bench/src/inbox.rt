@@ -1,7 +1,8 @@
 //! Letters that are sent to an inbox, beside posts that wait for the lock of the world.
 
-ghost use Rattle.std.specs.Prelude.{◌≡◌, ◌<◌, ◌≤◌, [], All};
+ghost use Rattle.std.specs.Prelude.{◌≡◌, ◌<◌, ◌≤◌, None, All};
 ghost use Rattle.fol_live.specs.Lives.{live_id};
+ghost use Rattle.fol_live.specs.Seat.{held};
 ghost use Rattle.fol_inbox.specs.Ids.{inbox_id};
 ghost use Rattle.fol_inbox.specs.Sending.{Sending};
 
@@ -66,7 +67,7 @@ fn time_inbox<R: Threads + Wait + Sync + Clock>(
     threads: u32,
 ) -> io::Result<Duration>
     requires threads { (0 < threads) × (threads ≤ 64) }
-    requires new { seat.mine ≡ [] }
+    requires free { held seat ≡ None }
 {
     let Ok(
         InboxParts {

@@ -1,7 +1,8 @@
 //! Shared worlds, for workloads of several threads.
 
-ghost use Rattle.std.specs.Prelude.{◌≡◌, ◌<◌, ◌≤◌, ◌-◌, [], All, IfOk, vec_len};
+ghost use Rattle.std.specs.Prelude.{◌≡◌, ◌<◌, ◌≤◌, ◌-◌, None, All, IfOk, vec_len};
 ghost use Rattle.fol_live.specs.Lives.{live_id};
+ghost use Rattle.fol_live.specs.Seat.{held};
 
 use crate::report::bare_opening;
 use fol_live::{Live, LiveAndSeats, Seat};
@@ -13,7 +14,7 @@ pub fn start(alloc: Global, seats: u32) -> Result<LiveAndSeats, AllocError>
     ensures many { IfOk result (λ made. vec_len made.seats ≡ seats) }
     ensures own { IfOk result (λ made. All (λ seat. seat.lock ≡ live_id made.live)
         made.seats.items) }
-    ensures new { IfOk result (λ made. All (λ seat. seat.mine ≡ []) made.seats.items) }
+    ensures free { IfOk result (λ made. All (λ seat. held seat ≡ None) made.seats.items) }
 {
     Live::start(alloc, bare_opening(alloc), seats)
 }
@@ -22,11 +23,11 @@ pub fn start(alloc: Global, seats: u32) -> Result<LiveAndSeats, AllocError>
 pub fn take_seat(live: &Live, seats: &mut Vec<Seat>) -> Seat
     requires some { 0 < vec_len seats.old }
     requires own { All (λ seat. seat.lock ≡ live_id live.now) seats.old.items }
-    requires new { All (λ seat. seat.mine ≡ []) seats.old.items }
-    ensures seat { (result.lock ≡ live_id live.now) × (result.mine ≡ []) }
+    requires free { All (λ seat. held seat ≡ None) seats.old.items }
+    ensures seat { (result.lock ≡ live_id live.now) × (held result ≡ None) }
     ensures fewer { vec_len seats.new ≡ vec_len seats.old - 1 }
     ensures own { All (λ seat. seat.lock ≡ live_id live.now) seats.new.items }
-    ensures new { All (λ seat. seat.mine ≡ []) seats.new.items }
+    ensures free { All (λ seat. held seat ≡ None) seats.new.items }
 {
     let _world = live;
     let Some(seat) = seats.pop() else {

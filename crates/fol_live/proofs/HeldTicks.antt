@@ -38,7 +38,11 @@ same_self t = record {
 }
 
 -- a host is the same seat, with the same in its hand
-hosts_number : (old new : Shown) (calls : List HostCall) → Hosts old calls new → new.number ≡ old.number
+pub hosts_lock : (old new : Shown) (calls : List HostCall) → Hosts old calls new → new.lock ≡ old.lock
+hosts_lock old new calls (inl none) = ap (λ (s : Shown). s.lock) none.1
+hosts_lock old new calls (inr did) = did.does.goes.lock ∙ did.looks.lock
+
+pub hosts_number : (old new : Shown) (calls : List HostCall) → Hosts old calls new → new.number ≡ old.number
 hosts_number old new calls (inl none) = ap (λ (s : Shown). s.number) none.1
 hosts_number old new calls (inr did) = did.does.goes.number ∙ did.looks.number
 

@@ -17,4 +17,5 @@ pub mod Hosted
 pub mod Releasing
 pub mod Dealing
 pub mod Gathering
+pub mod FreeSeats
 pub mod Crossing

@@ -1,3 +1,1 @@
 mod FourSeats
-mod FreeSeats
-mod HostSeats

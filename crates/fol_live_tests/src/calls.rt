@@ -6,7 +6,7 @@ ghost use Rattle.fol_live_tests.specs.FreeSeats.{IsFree};
 
 use crate::compare::same;
 use fol_live::{Close, Finish, Live, LivePhase, Posting, Seat};
-use fol_model::{Action, ChunkPos, Loaded, Unloaded};
+use fol_model::{Action, ChunkPos, Loaded, OwnerRow, SectionPos, Unloaded};
 use std::process::Abort;
 use std::sync::Wait;
 
@@ -82,17 +82,35 @@ pub fn ended<R: Abort + Wait>(rt: &R, live: &Live, seat: &mut Seat, wanted: bool
     same(rt, &live.ended(rt, seat), &wanted);
 }
 
-/// So many sections are present, after so much of the history.
-pub fn owner_rows<R: Abort + Wait>(rt: &R, live: &Live, seat: &mut Seat, rows: usize, front: u64)
+/// So many sections are present, after so much of the history, and section (3, 0) is of this region.
+pub fn owner_rows<R: Abort + Wait>(
+    rt: &R,
+    live: &Live,
+    seat: &mut Seat,
+    rows: usize,
+    front: u64,
+    owner: u64,
+)
     requires own { seat.old.lock ≡ live_id live.now }
     ensures own { seat.new.lock ≡ live_id live.now }
     ensures number { seat.new.number ≡ seat.old.number }
 {
     match live.owner_rows(rt, seat) {
         Ok(owners) => {
-            same(rt, &owners.rows.len(), &rows);
-            same(rt, &owners.front, &front);
+            let found = owner_of(owners.rows.as_slice(), SectionPos { x: 3, z: 0 });
+            same(rt, &(owners.rows.len(), owners.front), &(rows, front));
+            same(rt, &found, &Some(owner));
         }
         Err(_) => panic!(rt; "memory"),
     }
+}
+
+/// The region that owns a section.
+fn owner_of(rows: &[OwnerRow], section: SectionPos) -> Option<u64> {
+    for row in rows {
+        if row.at == section {
+            return Some(row.region);
+        }
+    }
+    None
 }

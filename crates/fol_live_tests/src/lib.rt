@@ -11,4 +11,6 @@ mod claims;
 #[cfg(test)]
 mod compare;
 #[cfg(test)]
+mod history;
+#[cfg(test)]
 mod seats;

@@ -7,8 +7,8 @@ ghost use Rattle.fol_live.specs.Lives.{live_id};
 ghost use Rattle.fol_live_tests.specs.FreeSeats.{IsFree};
 
 use crate::compare::same;
-use fol_live::{Live, LiveAndSeats, LiveHost, Seat, TryBegin};
 use fol_data::Tick;
+use fol_live::{Live, LiveAndSeats, LiveHost, Seat, TryBegin};
 use fol_model::{Grid, Opening, Sequence};
 use fol_tick::run_tick;
 use std::alloc::Global;
@@ -98,28 +98,39 @@ fn run<R: Abort + Wait>(rt: &R, alloc: Global, live: &Live, seat: Seat, tick: &m
     }
 }
 
-/// Gives a tick back that has run.
-fn release<R: Abort + Wait>(rt: &R, live: &Live, seat: &mut Seat, tick: Tick)
+/// Gives a tick back that has run. Of the ticks behind it, in which nothing happens, this many are passed over: each is a Begin and an End.
+fn release<R: Abort + Wait>(rt: &R, live: &Live, seat: &mut Seat, tick: Tick, quiet: u32)
     requires own { seat.old.lock ≡ live_id live.now }
     requires holds { HoldsRun seat.old tick }
     ensures free { IsFree (live_id live.now) seat.new }
     ensures number { seat.new.number ≡ seat.old.number }
 {
-    match live.release(rt, seat, tick) {
-        Ok(length) => same(rt, &length, &seat.front()),
+    match live.release(rt, seat, tick, quiet) {
+        Ok(length) => same(
+            rt,
+            &seat.front().checked_sub(length),
+            &Some(u64::from(quiet) * 2),
+        ),
         Err(_) => panic!(rt; "memory"),
     }
 }
 
-/// Runs a tick and gives it back.
-pub fn end<R: Abort + Wait>(rt: &R, alloc: Global, live: &Live, seat: Seat, mut tick: Tick) -> Seat
+/// Runs a tick and gives it back, with so many quiet ones behind it.
+pub fn end<R: Abort + Wait>(
+    rt: &R,
+    alloc: Global,
+    live: &Live,
+    seat: Seat,
+    mut tick: Tick,
+    quiet: u32,
+) -> Seat
     requires own { seat.lock ≡ live_id live.now }
     requires holds { HoldsTick seat tick }
     ensures free { IsFree (live_id live.now) result }
     ensures number { result.number ≡ seat.number }
 {
     let mut seat = run(rt, alloc, live, seat, &mut tick);
-    release(rt, live, &mut seat, tick);
+    release(rt, live, &mut seat, tick, quiet);
     seat
 }
 

@@ -6,8 +6,9 @@ use Rattle.std.specs.Option.{unwrap_or}
 use Rattle.fol_model.specs.declared.openings.Opening.{Opening}
 use Rattle.fol_lock.specs.Seat as locks
 use Rattle.fol_lock.specs.Seat.{AreNew, LockId}
-use Rattle.fol_live.specs.Seat.{Shown}
+use Rattle.fol_live.specs.Seat.{LiveId, Shown}
 use Rattle.fol_live.specs.Seats.{AreNewSeats, newcomer}
+use Rattle.fol_live.proofs.FreeSeats.{new_holds_none}
 use Rattle.fol_inbox.specs.Sending.{AreNewSenders, InboxId, Sending, new_sender}
 use Rattle.fol_server.specs.Dealt.{AreFrom, IsNewPage, IsNewSeat}
 
@@ -46,9 +47,9 @@ from_get P make n (suc k) (x ∷ xs) many holds each =
           each (suc i) (omega arith) ∙ ap (λ m. Some (make m)) more),
     )
 
-pub seats_from : (lock : LockId) (o : Opening) (count : ℕ) (seats : List Shown) → AreNewSeats lock o count seats → AreFrom (IsNewSeat lock) 0 count seats
+pub seats_from : (lock : LiveId) (o : Opening) (count : ℕ) (seats : List Shown) → AreNewSeats lock o count seats → AreFrom (IsNewSeat lock) 0 count seats
 seats_from lock o count seats new =
-    from_get (IsNewSeat lock) (newcomer lock o) 0 count seats new.as_many (λ i. (refl, refl, refl))
+    from_get (IsNewSeat lock) (newcomer lock o) 0 count seats new.as_many (λ i. (refl, refl, new_holds_none lock i))
     (λ i low. let same : i ≡ 0 + i = omega arith in new.each i low ∙ ap (λ m. Some (newcomer lock o m)) same)
 
 pub pages_from : {O E : Type 0} (lock : LockId) (o : O) (count : ℕ) (pages : List (locks.Shown O E)) → AreNew lock o count pages → AreFrom (IsNewPage lock) 0 count pages

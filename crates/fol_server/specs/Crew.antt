@@ -1,16 +1,18 @@
 -- Who belongs to a server, and what stays the same of them while they work.
-use Rattle.std.specs.Prelude.{ℕ, ◌≡◌, ◌≢◌, Option, IfSome}
+use Rattle.std.specs.Prelude.{ℕ, ◌≡◌, ◌≢◌, Option, None, IfSome}
 use Rattle.fol_data.specs.declared.tick.Tick.{Tick}
 use Rattle.fol_lock.specs.Seat.{IsIdle}
 use Rattle.fol_live.specs.Held.{HoldsRun}
 use Rattle.fol_live.specs.Lives.{live_id}
-use Rattle.fol_live.specs.Seat.{Shown}
+use Rattle.fol_live.specs.Seat.{Shown, held}
 use Rattle.fol_view.specs.Publications.{Listed}
 use Rattle.fol_follow.specs.Books.{book_id}
 use Rattle.fol_inbox.specs.Ids.{inbox_id}
 use Rattle.fol_inbox.specs.Sending.{Sending}
 use Rattle.fol_server.specs.declared.server.Server.{Server}
 use Rattle.fol_server.specs.declared.worker.Worker.{Worker}
+use Rattle.fol_server.specs.declared.worker.Tried.{Tried}
+use Rattle.fol_server.specs.declared.worker.Tried.TheVariants.{Done, Idle, GaveUp}
 use Rattle.fol_server.specs.declared.lead.Lead.{Lead}
 use Rattle.fol_server.specs.declared.team.Crew.{Crew}
 
@@ -22,7 +24,17 @@ IsSameSeat old new = (new.lock ≡ old.lock) × (new.number ≡ old.number)
 abbrev pub Ran : Shown → Shown → Option Tick → Type 0
 Ran old new tick = IsSameSeat old new × IfSome tick (λ t. HoldsRun new t)
 
--- its seats are of the server's world and book, and it may begin ticks
+-- it holds no tick, and so may claim one
+abbrev pub IsFree : Worker → Type 0
+IsFree w = held w.seat ≡ None
+
+-- it holds none, unless it gave up
+abbrev pub IsFreeAfter : Tried → Worker → Type 0
+IsFreeAfter Done w = IsFree w
+IsFreeAfter Idle w = IsFree w
+IsFreeAfter GaveUp w = Unit {0}
+
+-- its seats are of the server's world and book, and it is a worker's
 abbrev pub IsWorkerOf : Server → Worker → Type 0
 IsWorkerOf server w = (w.seat.lock ≡ live_id server.live) × (w.seat.number ≢ 0) × IsIdle (book_id server.book) w.pages
 
@@ -67,3 +79,9 @@ pub record IsSameCrew (old new : Crew) : Type 0 where
   pub third : IsSameWorker old.third new.third
   pub sender : IsSameSender old.sender new.sender
   pub reader : IsSameReader old.reader new.reader
+
+-- none of its workers holds a tick
+pub record AreFree (crew : Crew) : Type 0 where
+  pub lead : IsFree crew.lead.worker
+  pub second : IsFree crew.second
+  pub third : IsFree crew.third

@@ -1,8 +1,8 @@
 //! Who opens and closes the days.
 
-ghost use Rattle.std.specs.Prelude.{◌≡◌, ◌≤◌, IsTrue};
+ghost use Rattle.std.specs.Prelude.{◌≡◌, ◌≤◌, IsTrue, OnOk};
 ghost use Rattle.fol_model.specs.Geometry.{is_chunk};
-ghost use Rattle.fol_server.specs.Crew.{IsLeadOf, IsSameLead};
+ghost use Rattle.fol_server.specs.Crew.{IsFree, IsLeadOf, IsSameLead};
 
 use crate::server::Server;
 use crate::towns::{COURIER, ROAD, Town};
@@ -51,7 +51,9 @@ pub fn first_days<R: Wait>(
     lead: &mut Lead,
 ) -> Result<(), GivesUp>
     requires of { IsLeadOf server.now lead.old }
+    requires free { IsFree lead.old.worker }
     ensures same { IsSameLead lead.old lead.new }
+    ensures free { OnOk result (IsFree lead.new.worker) }
 {
     load(rt, alloc, server, lead, Town::First.chunk())?;
     load(rt, alloc, server, lead, Town::Second.chunk())?;
@@ -71,6 +73,7 @@ pub fn last_day<R: Wait>(
     lead: &mut Lead,
 ) -> Result<(), GivesUp>
     requires of { IsLeadOf server.now lead.old }
+    requires free { IsFree lead.old.worker }
     ensures same { IsSameLead lead.old lead.new }
 {
     post_letters(rt, server, lead, ALL_LETTERS)?;
@@ -93,6 +96,7 @@ fn load<R: Wait>(
     requires of { IsLeadOf server.now lead.old }
     requires in_range { IsTrue (is_chunk chunk) }
     ensures same { IsSameLead lead.old lead.new }
+    ensures worker { lead.new.worker ≡ lead.old.worker }
 {
     match server.live.load(rt, &mut lead.caller, chunk) {
         Ok(Loaded::Counted) => {}
@@ -117,7 +121,9 @@ fn travel<R: Wait>(
     town: Town,
 ) -> Result<(), GivesUp>
     requires of { IsLeadOf server.now lead.old }
+    requires free { IsFree lead.old.worker }
     ensures same { IsSameLead lead.old lead.new }
+    ensures free { OnOk result (IsFree lead.new.worker) }
 {
     let action = Action::Send {
         entity: COURIER,
@@ -139,7 +145,9 @@ fn travel<R: Wait>(
 /// One day: opens it, ticks until each region has had all its ticks, and closes it.
 fn run_day<R: Wait>(rt: &R, alloc: Global, server: &Server, lead: &mut Lead) -> Result<(), GivesUp>
     requires of { IsLeadOf server.now lead.old }
+    requires free { IsFree lead.old.worker }
     ensures same { IsSameLead lead.old lead.new }
+    ensures free { OnOk result (IsFree lead.new.worker) }
 {
     match server.live.open_phase(rt, &mut lead.caller, TICKS) {
         Ok(LivePhase::Opened) => {}
@@ -150,7 +158,7 @@ fn run_day<R: Wait>(rt: &R, alloc: Global, server: &Server, lead: &mut Lead) -> 
     for _turn in rt.forever() {
         match tick(rt, alloc, server, &mut lead.worker) {
             Tried::Done => {}
-            Tried::Over => return Err(GivesUp),
+            Tried::GaveUp => return Err(GivesUp),
             Tried::Idle => {
                 if close_day(rt, server, lead)? {
                     return Ok(());
@@ -166,6 +174,7 @@ fn run_day<R: Wait>(rt: &R, alloc: Global, server: &Server, lead: &mut Lead) -> 
 fn close_day<R: Wait>(rt: &R, server: &Server, lead: &mut Lead) -> Result<bool, GivesUp>
     requires of { IsLeadOf server.now lead.old }
     ensures same { IsSameLead lead.old lead.new }
+    ensures worker { lead.new.worker ≡ lead.old.worker }
 {
     post_letters(rt, server, lead, FEW_LETTERS)?;
     match server.live.close_phase(rt, &mut lead.caller) {
@@ -180,6 +189,7 @@ fn post_letters<R: Wait>(rt: &R, server: &Server, lead: &mut Lead, most: u32) ->
     requires of { IsLeadOf server.now lead.old }
     requires most { (1 ≤ most) × (most ≤ 65536) }
     ensures same { IsSameLead lead.old lead.new }
+    ensures worker { lead.new.worker ≡ lead.old.worker }
 {
     match server
         .inbox

@@ -1,11 +1,11 @@
 //! What all share, and how it is opened.
 
-ghost use Rattle.std.specs.Prelude.{◌≡◌, false, IfOk};
-ghost use Rattle.fol_live.specs.Busy.{is_busy};
+ghost use Rattle.std.specs.Prelude.{◌≡◌, None, IfOk};
 ghost use Rattle.fol_live.specs.Lives.{live_id};
+ghost use Rattle.fol_live.specs.Seat.{held};
 ghost use Rattle.fol_inbox.specs.Draining.{IsNewDrainer};
 ghost use Rattle.fol_inbox.specs.Ids.{inbox_id};
-ghost use Rattle.fol_server.specs.Crew.{IsSameSeat};
+ghost use Rattle.fol_server.specs.Crew.{AreFree, IsSameSeat};
 ghost use Rattle.fol_server.specs.Whole.{AllDealt, IsMapFor, IsWholeCrew};
 
 use crate::dealing::{PAGES, SEATS, next_page, next_seat, next_worker};
@@ -91,6 +91,7 @@ struct Sight {
 /// The view comes last, since its writer can't be dropped: `ending` closes it.
 pub fn open<R: Wait>(rt: &R, alloc: Global) -> Result<Opened, GivesUp>
     ensures crew { IfOk result (λ o. IsWholeCrew o.server o.crew) }
+    ensures free { IfOk result (λ o. AreFree o.crew) }
     ensures map { IfOk result (λ o. IsMapFor o.crew.lead.writer o.crew.reader o.map) }
 {
     let Dealt {
@@ -148,7 +149,7 @@ fn open_ways<R: Wait>(
     poster: Seat,
 ) -> Result<Ways, GivesUp>
     requires own { publisher.lock ≡ live_id live.now }
-    requires no_tick { is_busy poster.mine ≡ false }
+    requires no_tick { held poster ≡ None }
     ensures sender { IfOk result (λ w. (w.mail.sender.inbox ≡ inbox_id w.mail.inbox)
         × (w.mail.sender.number ≡ 0)) }
     ensures drainer { IfOk result (λ w.
@@ -171,7 +172,7 @@ fn open_ways<R: Wait>(
 
 /// Opens an inbox with one sender.
 fn open_inbox(alloc: Global, poster: Seat) -> Result<Mail, GivesUp>
-    requires no_tick { is_busy poster.mine ≡ false }
+    requires no_tick { held poster ≡ None }
     ensures sender { IfOk result (λ m. (m.sender.inbox ≡ inbox_id m.inbox)
         × (m.sender.number ≡ 0)) }
     ensures drainer { IfOk result (λ m. IsNewDrainer (inbox_id m.inbox) 1 poster m.drainer) }

@@ -3,9 +3,9 @@
 //! `join_mut` calls its first closure on a new thread and its second one on this thread, and returns when both have returned. Where no thread
 //! can be had, it calls the first one last; so the second one of each pair here never waits for the first.
 
-ghost use Rattle.std.specs.Prelude.{◌≡◌};
+ghost use Rattle.std.specs.Prelude.{◌≡◌, OnOk};
 ghost use Rattle.fol_inbox.specs.Ids.{inbox_id};
-ghost use Rattle.fol_server.specs.Crew.{IsCrewOf, IsLeadOf, IsSameCrew, IsSameLead, IsSameReader, IsSameSender, IsSameWorker, IsWorkerOf};
+ghost use Rattle.fol_server.specs.Crew.{AreFree, IsCrewOf, IsFree, IsLeadOf, IsSameCrew, IsSameLead, IsSameReader, IsSameSender, IsSameWorker, IsWorkerOf};
 
 use crate::builder::build;
 use crate::lead::{GivesUp, Lead, first_days, last_day};
@@ -43,6 +43,7 @@ pub fn run<R: Threads + Wait + Sync>(
     crew: &mut Crew,
 ) -> Outcome
     requires of { IsCrewOf server.now crew.old }
+    requires free { AreFree crew.old }
     ensures same { IsSameCrew crew.old crew.new }
 {
     let Crew {
@@ -57,7 +58,8 @@ pub fn run<R: Threads + Wait + Sync>(
     { watch(rt, reader) };
     let mut play = || -> Result<u32, GivesUp>
         requires { IsWorkerOf server.now second.now × IsWorkerOf server.now third.now
-            × IsLeadOf server.now lead.now × (sender.now.inbox ≡ inbox_id server.now.inbox) }
+            × IsLeadOf server.now lead.now × (sender.now.inbox ≡ inbox_id server.now.inbox)
+            × IsFree second.now × IsFree third.now × IsFree lead.now.worker }
         ensures second { IsSameWorker second.entry.now second.exit.now }
         ensures third { IsSameWorker third.entry.now third.exit.now }
         ensures lead { IsSameLead lead.entry.now lead.exit.now }
@@ -81,18 +83,21 @@ fn play<R: Threads + Wait + Sync>(
     requires third { IsWorkerOf server.now third.old }
     requires lead { IsLeadOf server.now lead.old }
     requires sender { sender.old.inbox ≡ inbox_id server.now.inbox }
+    requires free { IsFree second.old × IsFree third.old × IsFree lead.old.worker }
     ensures second { IsSameWorker second.old second.new }
     ensures third { IsSameWorker third.old third.new }
     ensures lead { IsSameLead lead.old lead.new }
     ensures sender { IsSameSender sender.old sender.new }
 {
     let mut work = ||
-        requires { IsWorkerOf server.now second.now × IsWorkerOf server.now third.now }
+        requires { IsWorkerOf server.now second.now × IsWorkerOf server.now third.now
+            × IsFree second.now × IsFree third.now }
         ensures second { IsSameWorker second.entry.now second.exit.now }
         ensures third { IsSameWorker third.entry.now third.exit.now }
     { work_both(rt, alloc, server, second, third) };
     let mut go = || -> Result<u32, GivesUp>
-        requires { IsLeadOf server.now lead.now × (sender.now.inbox ≡ inbox_id server.now.inbox) }
+        requires { IsLeadOf server.now lead.now × (sender.now.inbox ≡ inbox_id server.now.inbox)
+            × IsFree lead.now.worker }
         ensures lead { IsSameLead lead.entry.now lead.exit.now }
         ensures sender { IsSameSender sender.entry.now sender.exit.now }
     { lead_and_build(rt, alloc, server, lead, sender) };
@@ -109,15 +114,16 @@ fn work_both<R: Threads + Wait + Sync>(
 )
     requires second { IsWorkerOf server.now second.old }
     requires third { IsWorkerOf server.now third.old }
+    requires free { IsFree second.old × IsFree third.old }
     ensures second { IsSameWorker second.old second.new }
     ensures third { IsSameWorker third.old third.new }
 {
     let mut one = ||
-        requires { IsWorkerOf server.now second.now }
+        requires { IsWorkerOf server.now second.now × IsFree second.now }
         ensures { IsSameWorker second.entry.now second.exit.now }
     { work(rt, alloc, server, second) };
     let mut other = ||
-        requires { IsWorkerOf server.now third.now }
+        requires { IsWorkerOf server.now third.now × IsFree third.now }
         ensures { IsSameWorker third.entry.now third.exit.now }
     { work(rt, alloc, server, third) };
     join_mut(rt, &mut one, &mut other);
@@ -134,6 +140,7 @@ fn lead_and_build<R: Threads + Wait + Sync>(
 ) -> Result<u32, GivesUp>
     requires lead { IsLeadOf server.now lead.old }
     requires sender { sender.old.inbox ≡ inbox_id server.now.inbox }
+    requires free { IsFree lead.old.worker }
     ensures lead { IsSameLead lead.old lead.new }
     ensures sender { IsSameSender sender.old sender.new }
 {
@@ -161,7 +168,9 @@ fn build_beside<R: Threads + Wait + Sync>(
 ) -> (u32, Result<(), GivesUp>)
     requires lead { IsLeadOf server.now lead.old }
     requires sender { sender.old.inbox ≡ inbox_id server.now.inbox }
+    requires free { IsFree lead.old.worker }
     ensures lead { IsSameLead lead.old lead.new }
+    ensures free { OnOk result.1 (IsFree lead.new.worker) }
     ensures sender { IsSameSender sender.old sender.new }
 {
     let mut build = || -> u32
@@ -169,8 +178,9 @@ fn build_beside<R: Threads + Wait + Sync>(
         ensures { IsSameSender sender.entry.now sender.exit.now }
     { build(rt, server, sender) };
     let mut days = || -> Result<(), GivesUp>
-        requires { IsLeadOf server.now lead.now }
-        ensures { IsSameLead lead.entry.now lead.exit.now }
+        requires { IsLeadOf server.now lead.now × IsFree lead.now.worker }
+        ensures lead { IsSameLead lead.entry.now lead.exit.now }
+        ensures free { OnOk result (IsFree lead.exit.now.worker) }
     { first_days(rt, alloc, server, lead) };
     join_mut(rt, &mut build, &mut days)
 }

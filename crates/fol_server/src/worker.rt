@@ -3,13 +3,13 @@
 ghost use Rattle.std.specs.Prelude.{◌≡◌};
 ghost use Rattle.fol_live.specs.Held.{HoldsRun, HoldsTick};
 ghost use Rattle.fol_live.specs.Lives.{live_id};
-ghost use Rattle.fol_server.specs.Crew.{IsSameWorker, IsWorkerOf, Ran};
+ghost use Rattle.fol_server.specs.Crew.{IsFree, IsFreeAfter, IsSameWorker, IsWorkerOf, Ran};
 
 use crate::server::Server;
 use core::mem::replace_with;
-use fol_core::Tick;
+use fol_data::Tick;
 use fol_follow::BookSeat;
-use fol_live::{Live, LiveBegin, LiveHost, Seat};
+use fol_live::{Live, LiveHost, Seat, TryBegin};
 use fol_tick::run_tick;
 use std::alloc::Global;
 use std::sync::Wait;
@@ -18,6 +18,9 @@ use std::time::Duration;
 
 /// How long one rests who found nothing to do.
 const REST_MICROS: u64 = 50;
+
+/// After how many looks in a row that found no tick a worker asks whether the history is over.
+const PATIENCE: u32 = 4;
 
 /// A worker has a seat in the world, and one at the book of visits.
 #[derive(Drop)]
@@ -31,40 +34,52 @@ pub struct Worker {
 pub enum Tried {
     /// A region ticked.
     Done,
-    /// No region owed a tick.
+    /// No tick was found.
     Idle,
-    /// The history is over, or memory was not found and the world was stopped.
-    Over,
+    /// Memory was not found, and the world was stopped.
+    GaveUp,
 }
 
-/// Ticks until the history is over.
+/// Ticks until the history is over. A look for a tick takes no turn of the lock and does not tell whether the history is over. To ask for that
+/// takes one, so a worker asks only when it found nothing again and again.
 pub fn work<R: Wait>(rt: &R, alloc: Global, server: &Server, worker: &mut Worker)
     requires of { IsWorkerOf server.now worker.old }
+    requires free { IsFree worker.old }
     ensures same { IsSameWorker worker.old worker.new }
 {
+    let mut misses = 0;
     for _turn in rt.forever() {
         match tick(rt, alloc, server, worker) {
-            Tried::Done => {}
-            Tried::Idle => rest(rt),
-            Tried::Over => return,
+            Tried::Done => misses = 0,
+            Tried::Idle if misses < PATIENCE => {
+                misses += 1;
+                rest(rt);
+            }
+            Tried::Idle => {
+                if server.live.ended(rt, &mut worker.seat) {
+                    return;
+                }
+                misses = 0;
+            }
+            Tried::GaveUp => return,
         }
     }
 }
 
-/// Begins, runs and ends one tick, where a region owes one.
+/// Claims, runs and ends one tick, where one is found.
 pub fn tick<R: Wait>(rt: &R, alloc: Global, server: &Server, worker: &mut Worker) -> Tried
     requires of { IsWorkerOf server.now worker.old }
+    requires free { IsFree worker.old }
     ensures same { IsSameWorker worker.old worker.new }
+    ensures free { IsFreeAfter result worker.new }
 {
-    match server.live.begin(rt, alloc, &mut worker.seat) {
-        Ok(LiveBegin::Got(tick)) => run_and_end(rt, alloc, server, worker, tick),
-        Ok(LiveBegin::Idle) => Tried::Idle,
-        Ok(LiveBegin::Over) => Tried::Over,
-        Err(_) => give_up(rt, server, worker),
+    match server.live.try_begin(&mut worker.seat) {
+        TryBegin::Got(tick) => run_and_end(rt, alloc, server, worker, tick),
+        TryBegin::Idle => Tried::Idle,
     }
 }
 
-/// Runs a tick that was begun, shows it to the book of visits, and gives it back to the world.
+/// Runs a tick that was claimed, shows it to the book of visits, and gives it back to the world.
 fn run_and_end<R: Wait>(
     rt: &R,
     alloc: Global,
@@ -75,6 +90,7 @@ fn run_and_end<R: Wait>(
     requires of { IsWorkerOf server.now worker.old }
     requires holds { HoldsTick worker.old.seat tick }
     ensures same { IsSameWorker worker.old worker.new }
+    ensures free { IsFreeAfter result worker.new }
 {
     let live = &server.live;
     let ran = replace_with(
@@ -111,11 +127,13 @@ fn run<R: Wait>(rt: &R, alloc: Global, live: &Live, seat: Seat, tick: Tick) -> (
     }
 }
 
-/// Ends a tick that has run. The book sees it before the world takes it back, and keeps the visits that it makes.
+/// Ends a tick that has run. The book sees it before the world takes it back, and keeps the visits that it makes. No tick behind it is passed
+/// over, since the book is to see each.
 fn end<R: Wait>(rt: &R, alloc: Global, server: &Server, worker: &mut Worker, tick: Tick) -> Tried
     requires of { IsWorkerOf server.now worker.old }
     requires holds { HoldsRun worker.old.seat tick }
     ensures same { IsSameWorker worker.old worker.new }
+    ensures free { IsFreeAfter result worker.new }
 {
     if server
         .book
@@ -125,7 +143,7 @@ fn end<R: Wait>(rt: &R, alloc: Global, server: &Server, worker: &mut Worker, tic
         drop(tick);
         return give_up(rt, server, worker);
     }
-    match server.live.release(rt, alloc, &mut worker.seat, tick) {
+    match server.live.release(rt, &mut worker.seat, tick, 0) {
         Ok(_length) => Tried::Done,
         Err(_) => give_up(rt, server, worker),
     }
@@ -135,12 +153,13 @@ fn end<R: Wait>(rt: &R, alloc: Global, server: &Server, worker: &mut Worker, tic
 fn give_up<R: Wait>(rt: &R, server: &Server, worker: &mut Worker) -> Tried
     requires of { IsWorkerOf server.now worker.old }
     ensures same { IsSameWorker worker.old worker.new }
+    ensures free { IsFreeAfter result worker.new }
 {
     server.live.stop(rt, &mut worker.seat);
-    Tried::Over
+    Tried::GaveUp
 }
 
-/// Stays away for a moment. Each look for a tick is a turn of the lock, which serves in order, so who finds nothing does not look again at once.
+/// Stays away for a moment, and leaves the processor to those who have something to do.
 pub fn rest<R: Wait>(rt: &R) {
     Parker::new().park_timeout(rt, Duration::from_micros(REST_MICROS));
 }

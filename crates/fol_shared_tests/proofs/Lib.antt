@@ -1,2 +1,1 @@
-mod NewSeats
 mod TwoSenders

@@ -1,20 +1,21 @@
 //! Books beside a shared world: which ticks visit an entity, and where.
 
-ghost use Rattle.std.specs.Prelude.{◌≡◌, ◌≢◌, ◌<◌, ◌≤◌, All};
+ghost use Rattle.std.specs.Prelude.{◌≡◌, ◌≢◌, ◌<◌, ◌≤◌, None};
 ghost use Rattle.fol_lock.specs.Lock.{seat_count};
 ghost use Rattle.fol_live.specs.Held.{HoldsTick};
 ghost use Rattle.fol_live.specs.Lives.{live_id};
+ghost use Rattle.fol_live.specs.Seat.{held};
 ghost use Rattle.fol_lock.specs.Seat.{IsIdle};
 ghost use Rattle.fol_follow.specs.Books.{book_id};
 
 use crate::compare::same;
 use crate::world::{
-    HOME, are_of_two_regions, begin, close_phase, last, load, open_phase, opening, release, run,
+    HOME, are_of_two_regions, claim, close_phase, last, load, open_phase, opening, release, run,
     start,
 };
-use fol_core::{Close, Tick};
+use fol_data::Tick;
 use fol_follow::{Asked, Book, BookAndSeats, BookSeat, Visit, Visiting};
-use fol_live::{Live, LiveAndSeats, LivePhase, Posting, Seat};
+use fol_live::{Close, Live, LiveAndSeats, LivePhase, Posting, Seat};
 use fol_model::{Action, BlockPos, ChunkPos, Loaded, Opening};
 use std::alloc::Global;
 use std::process::Abort;
@@ -125,6 +126,7 @@ fn run_and_end<R: Abort + Wait>(
     requires holds { HoldsTick worker tick }
     requires book_own { IsIdle (book_id book.now) seat.old }
     ensures own { result.lock ≡ live_id live.now }
+    ensures free { held result ≡ None }
     ensures number { result.number ≡ worker.number }
     ensures book_own { IsIdle (book_id book.now) seat.new }
     ensures book_number { seat.new.number ≡ seat.old.number }
@@ -132,7 +134,7 @@ fn run_and_end<R: Abort + Wait>(
     let mut worker = run(rt, alloc, live, worker, &mut tick);
     visit(rt, alloc, book, seat, &tick, Some(wanted));
     visit(rt, alloc, book, seat, &tick, None);
-    release(rt, alloc, live, &mut worker, tick);
+    release(rt, live, &mut worker, tick);
     worker
 }
 
@@ -149,13 +151,15 @@ fn tick_of<R: Abort + Wait>(
 ) -> Seat
     requires own { worker.lock ≡ live_id live.now }
     requires worker { worker.number ≢ 0 }
+    requires free { held worker ≡ None }
     requires book_own { IsIdle (book_id book.now) seat.old }
     ensures own { result.lock ≡ live_id live.now }
+    ensures free { held result ≡ None }
     ensures number { result.number ≡ worker.number }
     ensures book_own { IsIdle (book_id book.now) seat.new }
     ensures book_number { seat.new.number ≡ seat.old.number }
 {
-    let tick = begin(rt, alloc, live, &mut worker);
+    let tick = claim(rt, live, &mut worker);
     let visits = if tick.region == region { wanted } else { &[] };
     run_and_end(rt, alloc, live, worker, book, seat, tick, visits)
 }
@@ -223,8 +227,8 @@ fn a_visit_follows_an_entity_to_another_region(rt: HostRuntime) {
     let mut caller = last(&rt, &live, &mut seats, 0);
     ask(&rt, &book, &mut seat, 1, 1, Asked::Queued(1));
     open(&rt, &live, &mut caller);
-    let tick = begin(&rt, alloc, &live, &mut first);
-    let other = begin(&rt, alloc, &live, &mut second);
+    let tick = claim(&rt, &live, &mut first);
+    let other = claim(&rt, &live, &mut second);
     are_of_two_regions(&rt, &tick, &other);
     let second = run_and_end(&rt, alloc, &live, second, &book, &mut seat, other, &[]);
     let first = run_and_end(&rt, alloc, &live, first, &book, &mut seat, tick, &[]);

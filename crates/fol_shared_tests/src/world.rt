@@ -1,14 +1,14 @@
 //! A small world with numbered seats, and calls of it that are answered as a test wants them.
 
-ghost use Rattle.std.specs.Prelude.{◌≡◌, ◌≢◌, ◌<◌, ◌≤◌, ◌⊎◌, pos, All};
+ghost use Rattle.std.specs.Prelude.{◌≡◌, ◌≢◌, ◌<◌, ◌≤◌, ◌⊎◌, pos, All, None};
 ghost use Rattle.fol_lock.specs.Lock.{seat_count};
 ghost use Rattle.fol_live.specs.Held.{HoldsRun, HoldsTick};
 ghost use Rattle.fol_live.specs.Lives.{live_id};
-ghost use Rattle.fol_shared_tests.specs.NewSeats.{IsNew};
+ghost use Rattle.fol_live.specs.Seat.{held};
 
 use crate::compare::same;
-use fol_core::{Close, Tick};
-use fol_live::{Finish, Live, LiveAndSeats, LiveBegin, LiveHost, LivePhase, Seat};
+use fol_data::Tick;
+use fol_live::{Close, Finish, Live, LiveAndSeats, LiveHost, LivePhase, Seat, TryBegin};
 use fol_model::{BlockPos, ChunkPos, Entity, Grid, Loaded, Opening, Sequence};
 use fol_tick::run_tick;
 use std::alloc::{AllocError, Global};
@@ -49,7 +49,8 @@ pub fn opening(alloc: Global, vx: i32) -> Result<Opening, AllocError>
 pub fn start(rt: &impl Abort, alloc: Global, opening: Opening, seats: u32) -> LiveAndSeats
     requires count { (0 < seats) × (seats ≤ 65) }
     ensures count { seat_count result.live.lock ≡ seats }
-    ensures new { All (IsNew (live_id result.live)) result.seats.items }
+    ensures free { All (λ s. (s.lock ≡ live_id result.live) × (held s ≡ None))
+        result.seats.items }
 {
     Live::start(alloc, opening, seats).expect(rt, "memory")
 }
@@ -58,7 +59,8 @@ pub fn start(rt: &impl Abort, alloc: Global, opening: Opening, seats: u32) -> Li
 pub fn start_standing(rt: &impl Abort, alloc: Global, seats: u32) -> LiveAndSeats
     requires count { (0 < seats) × (seats ≤ 65) }
     ensures count { seat_count result.live.lock ≡ seats }
-    ensures new { All (IsNew (live_id result.live)) result.seats.items }
+    ensures free { All (λ s. (s.lock ≡ live_id result.live) × (held s ≡ None))
+        result.seats.items }
 {
     let opening = opening(alloc, 0).expect(rt, "memory");
     start(rt, alloc, opening, seats)
@@ -66,9 +68,10 @@ pub fn start_standing(rt: &impl Abort, alloc: Global, seats: u32) -> LiveAndSeat
 
 /// The seat with the highest number that is left, which is this one.
 pub fn last(rt: &impl Abort, live: &Live, seats: &mut Vec<Seat>, number: u32) -> Seat
-    requires new { All (IsNew (live_id live.now)) seats.old.items }
-    ensures rest { All (IsNew (live_id live.now)) seats.new.items }
-    ensures new { IsNew (live_id live.now) result }
+    requires free { All (λ s. (s.lock ≡ live_id live.now) × (held s ≡ None)) seats.old.items }
+    ensures rest { All (λ s. (s.lock ≡ live_id live.now) × (held s ≡ None)) seats.new.items }
+    ensures own { result.lock ≡ live_id live.now }
+    ensures free { held result ≡ None }
     ensures number { result.number ≡ number }
 {
     let Some(seat) = seats.pop() else {
@@ -116,17 +119,18 @@ pub fn finish<R: Abort + Wait>(rt: &R, live: &Live, seat: &mut Seat, wanted: Fin
     same(rt, &live.finish(rt, seat), &Ok(wanted));
 }
 
-/// Begins a tick, which a region owes.
-pub fn begin<R: Abort + Wait>(rt: &R, alloc: Global, live: &Live, seat: &mut Seat) -> Tick
+/// Claims a tick, which is offered.
+pub fn claim(rt: &impl Abort, live: &Live, seat: &mut Seat) -> Tick
     requires own { seat.old.lock ≡ live_id live.now }
     requires worker { seat.old.number ≢ 0 }
+    requires free { held seat.old ≡ None }
     ensures own { seat.new.lock ≡ live_id live.now }
     ensures number { seat.new.number ≡ seat.old.number }
     ensures holds { HoldsTick seat.new result }
 {
-    match live.begin(rt, alloc, seat) {
-        Ok(LiveBegin::Got(tick)) => tick,
-        _ => panic!(rt; "a region owes a tick"),
+    match live.try_begin(seat) {
+        TryBegin::Got(tick) => tick,
+        TryBegin::Idle => panic!(rt; "a tick is offered"),
     }
 }
 
@@ -146,13 +150,14 @@ pub fn run<R: Abort + Wait>(rt: &R, alloc: Global, live: &Live, seat: Seat, tick
 }
 
 /// Ends a tick that has run.
-pub fn release<R: Abort + Wait>(rt: &R, alloc: Global, live: &Live, seat: &mut Seat, tick: Tick)
+pub fn release<R: Abort + Wait>(rt: &R, live: &Live, seat: &mut Seat, tick: Tick)
     requires own { seat.old.lock ≡ live_id live.now }
     requires holds { HoldsRun seat.old tick }
     ensures own { seat.new.lock ≡ live_id live.now }
+    ensures free { held seat.new ≡ None }
     ensures number { seat.new.number ≡ seat.old.number }
 {
-    match live.release(rt, alloc, seat, tick) {
+    match live.release(rt, seat, tick, 0) {
         Ok(length) => same(rt, &length, &seat.front()),
         Err(_) => panic!(rt; "memory"),
     }

@@ -1,7 +1,6 @@
 use Rattle.std.proofs.Common.{◌≡◌, ◌∙◌}
 use Rattle.fol_live.specs.Goes.{Hosts}
-use Rattle.fol_live.proofs.HeldTicks.{held_may_run, run_held}
-use Rattle.fol_live_tests.proofs.HostSeats.{hosts_lock, hosts_number}
+use Rattle.fol_live.proofs.HeldTicks.{held_may_run, hosts_lock, hosts_number, run_held}
 use Rattle.fol_live_tests.proofs.seats.run.Goals as goal
 
 pub run_tick-requires : goal.run_tick-requires

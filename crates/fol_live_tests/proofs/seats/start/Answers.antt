@@ -1,4 +1,4 @@
-use Rattle.fol_live_tests.proofs.FreeSeats.{are_free}
+use Rattle.fol_live.proofs.FreeSeats.{are_free}
 use Rattle.fol_live_tests.proofs.seats.start.Goals as goal
 
 pub returns-clause-free : goal.returns-clause-free

@@ -47,3 +47,11 @@ returns-clause-crew g c =
       senders = drainer.senders_is;
       sender = sender.1;
     }
+
+pub returns-clause-free : goal.returns-clause-free
+returns-clause-free g c =
+    let all = c.in_ok-world.ensures.world in
+    let first = all.first in
+    let second = all.second in
+    let third = all.third in
+    record { lead = first.2; second = second.2; third = third.2 }

@@ -1,7 +1,0 @@
-use Rattle.std.proofs.Common.{◌≡◌}
-use Rattle.fol_shared_tests.proofs.live.close.Goals as goal
-
-pub close-requires-clause-all : goal.close-requires-clause-all
-close-requires-clause-all g c =
-    let items : c.expect-seats.result.items ≡ c.args.seats = rw c.expect-seats.ensures at c.from_array.ensures.items in
-    rw items c.requires.all
