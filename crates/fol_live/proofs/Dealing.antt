@@ -82,16 +82,16 @@ module _ (lock : LockId) (o : Origin) where
   shown_first : (k : ℕ) (s : SeatOfLock) (hand : Hand) → s ≡ seat_at k → hand ≡ new_hand (id_of lock o) k → view s hand ≡ shown_at k
   shown_first k s hand seat has = rw (seat, has) refl
 
-  sits_new : (k : ℕ) → CanSit (seat_at k) (new_hand (id_of lock o) k)
-  sits_new zero = record { idle = record { idle = refl; origin = refl; own = refl }; has = refl; front = refl }
-  sits_new (suc n) = record {
+  sits_new : o.slots.slots ≡ 1820 → (k : ℕ) → CanSit (seat_at k) (new_hand (id_of lock o) k)
+  sits_new sized zero = record { idle = record { idle = refl; origin = refl; own = refl }; has = refl; front = refl }
+  sits_new sized (suc n) = record {
     idle = record { idle = refl; origin = refl; own = refl };
-    has = record { slots = refl; number_is = refl; some = omega arith };
+    has = record { sized = sized; slots = refl; number_is = refl; some = omega arith };
     front = refl;
   }
 
-  sits_first : (k : ℕ) (s : SeatOfLock) (hand : Hand) → s ≡ seat_at k → hand ≡ new_hand (id_of lock o) k → CanSit s hand
-  sits_first k s hand seat has = rw (seat, has) (sits_new k)
+  sits_first : o.slots.slots ≡ 1820 → (k : ℕ) (s : SeatOfLock) (hand : Hand) → s ≡ seat_at k → hand ≡ new_hand (id_of lock o) k → CanSit s hand
+  sits_first sized k s hand seat has = rw (seat, has) (sits_new sized k)
 
   all_shown : (k : ℕ) (hand : Hand) (ss : List SeatOfLock) (ws : List (Worker Offer)) → AreFrom seat_at k ss → AreFrom worker_at (suc k) ws → hand ≡ new_hand (id_of lock o) k
       → length ss ≤ suc (length ws) → AreFrom shown_at k (paired hand ss ws)
@@ -101,13 +101,13 @@ module _ (lock : LockId) (o : Origin) where
   all_shown k hand (s ∷ (t ∷ ss)) (w ∷ ws) seats workers has few =
       (shown_first k s hand seats.0 has, all_shown (suc k) (Some w) (t ∷ ss) ws seats.1 workers.1 (ap Some workers.0) (omega (arith, few)))
 
-  all_sit : (k : ℕ) (hand : Hand) (ss : List SeatOfLock) (ws : List (Worker Offer)) → AreFrom seat_at k ss → AreFrom worker_at (suc k) ws → hand ≡ new_hand (id_of lock o) k
+  all_sit : o.slots.slots ≡ 1820 → (k : ℕ) (hand : Hand) (ss : List SeatOfLock) (ws : List (Worker Offer)) → AreFrom seat_at k ss → AreFrom worker_at (suc k) ws → hand ≡ new_hand (id_of lock o) k
       → length ss ≤ suc (length ws) → CanAllSit hand ss ws
-  all_sit k hand [] ws seats workers has few = tt
-  all_sit k hand (s ∷ []) ws seats workers has few = (sits_first k s hand seats.0 has, tt)
-  all_sit k hand (s ∷ (t ∷ ss)) [] seats workers has few = absurd (omega (arith, few))
-  all_sit k hand (s ∷ (t ∷ ss)) (w ∷ ws) seats workers has few =
-      (sits_first k s hand seats.0 has, all_sit (suc k) (Some w) (t ∷ ss) ws seats.1 workers.1 (ap Some workers.0) (omega (arith, few)))
+  all_sit sized k hand [] ws seats workers has few = tt
+  all_sit sized k hand (s ∷ []) ws seats workers has few = (sits_first sized k s hand seats.0 has, tt)
+  all_sit sized k hand (s ∷ (t ∷ ss)) [] seats workers has few = absurd (omega (arith, few))
+  all_sit sized k hand (s ∷ (t ∷ ss)) (w ∷ ws) seats workers has few =
+      (sits_first sized k s hand seats.0 has, all_sit sized (suc k) (Some w) (t ∷ ss) ws seats.1 workers.1 (ap Some workers.0) (omega (arith, few)))
 
   all_free : (k : ℕ) (ws : List (Worker Offer)) → AreFrom worker_at k ws → AllByRecursion IsFree ws
   all_free k [] are = tt
@@ -140,7 +140,7 @@ pub fresh_sit : (seats : List SeatOfLock) (workers : List (Worker Offer)) → Ar
 fresh_sit seats workers fresh =
     let s = fresh.new_seats.as_many in
     let w = fresh.new_workers.count_is in
-    all_sit fresh.lock fresh.origin 0 None seats workers (seats_from fresh.lock fresh.origin (fresh.count + 1) seats fresh.new_seats)
+    all_sit fresh.lock fresh.origin fresh.sized 0 None seats workers (seats_from fresh.lock fresh.origin (fresh.count + 1) seats fresh.new_seats)
     (workers_from fresh.lock fresh.origin fresh.count workers fresh.new_workers) refl (omega (arith, s, w))
 
 pub fresh_free : (seats : List SeatOfLock) (workers : List (Worker Offer)) → AreFresh seats workers → AllByRecursion IsFree workers

@@ -43,7 +43,7 @@ pub hand_after : {E : Type 0} (o : Origin) (number : ℕ) (before after : Hand) 
     → OnOk r (ForSome before (λ w. after ≡ Some (freed w))) → OnErr r (after ≡ before) → HasHand o number after
 hand_after o number None after r tick has gives freed_is kept = absurd gives
 hand_after o number (Some w) after (Ok k) tick has gives freed_is kept =
-    subst (λ (h : Hand). HasHand o number h) (sym (freed_is w refl)) (record { slots = has.slots; number_is = has.number_is; some = has.some })
+    subst (λ (h : Hand). HasHand o number h) (sym (freed_is w refl)) (record { sized = has.sized; slots = has.slots; number_is = has.number_is; some = has.some })
 hand_after o number (Some w) after (Err e) tick has gives freed_is kept = subst (λ (h : Hand). HasHand o number h) (sym kept) has
 
 pub free_after : (before after : Hand) (tick : Tick) → GivesIn before tick → ForSome before (λ w. after ≡ Some (freed w)) → held_in after ≡ None

@@ -61,8 +61,9 @@ shown o s hand = record {
   hand = hand;
 }
 
--- the worker of this number, at the slots of this origin
+-- the worker of this number, at the slots of this origin, of which there are as many as there can be regions that are Ready or tick
 pub record IsOf (o : Origin) (number : ℕ) (w : Worker Offer) : Type 0 where
+  pub sized : o.slots.slots ≡ 1820
   pub slots : w.slots ≡ o.slots
   pub number_is : w.number ≡ number
   pub some : 1 ≤ number

@@ -90,3 +90,4 @@ pub record AreFresh (seats : List (locks.Shown Origin Entry)) (workers : List (W
   pub count : ℕ
   pub new_seats : locks.AreNew lock origin (count + 1) seats
   pub new_workers : AreNew origin.slots count workers
+  pub sized : origin.slots.slots ≡ 1820

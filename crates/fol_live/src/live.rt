@@ -5,7 +5,6 @@ ghost use Rattle.fol_model.specs.declared.closings.OwnerRow.{OwnerRow};
 ghost use Rattle.fol_model.specs.Geometry.{is_chunk};
 ghost use Rattle.fol_model.specs.Limits.{is_action, is_delay, may_post};
 ghost use Rattle.fol_lock.specs.Lock.{seat_count};
-ghost use Rattle.fol_slots.specs.Table.{slot_count};
 ghost use Rattle.fol_live.specs.Results.{released_of};
 
 use crate::answers::{LivePhase, Owners, TryBegin};
@@ -32,7 +31,6 @@ use std::sync::Wait;
 pub struct Live {
     pub(crate) lock: Lock<World>,
     pub(crate) slots: Slots<Offer>,
-    ghost sized: { slot_count slots ≡ 1820 },
 }
 
 /// What `Live::start` makes.

@@ -3,7 +3,7 @@ use Rattle.std.specs.Prelude.{Option}
 use Rattle.atomic_table.specs.Seated.{TableId}
 use Rattle.fol_slots.specs.Shown.{Worker}
 use Rattle.fol_offers.specs.declared.offer.Offer.{Offer}
-use Rattle.fol_live.specs.Seat.{HasHand, IsOf, LiveId, Shown, held, held_in, origin_of}
+use Rattle.fol_live.specs.Seat.{HasHand, IsOf, held, held_in, origin_of}
 use Rattle.fol_live.proofs.live.Live.try_begin.Goals as goal
 
 pub claim-requires-clause-free : goal.claim-requires-clause-free
@@ -13,4 +13,4 @@ pub claim-requires-clause-count : goal.claim-requires-clause-count
 claim-requires-clause-count c =
     let is : IsOf (origin_of c.seat.inside.seat.origin) c.seat.inside.seat.number c.in-Some.hand
     = subst (λ (h : Option (Worker Offer)). HasHand (origin_of c.seat.inside.seat.origin) c.seat.inside.seat.number h) c.in-Some.is c.seat.invariant.1 in
-    ap (λ (z : TableId). z.slots) (is.slots ∙ ap (λ (x : Shown). x.lock.slots) c.seat.view_is ∙ ap (λ (x : LiveId). x.slots) c.requires.own) ∙ c.args.self.now.sized
+    ap (λ (z : TableId). z.slots) is.slots ∙ is.sized
