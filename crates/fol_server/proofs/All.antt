@@ -1,5 +1,5 @@
 -- So many seats with the numbers from 0 on are all seats.
-use Rattle.std.proofs.Common.{◌≡◌, zero, suc, arith, List, [], ◌∷◌}
+use Rattle.std.proofs.Common.{◌≡◌, zero, suc, arith, [], ◌∷◌}
 use Rattle.fol_lock.specs.Seat as locks
 use Rattle.fol_lock.specs.Seat.{AreAll}
 use Rattle.fol_live.specs.Seat.{Shown}

@@ -1,5 +1,5 @@
 -- Who belongs to a server, and what stays the same of them while they work.
-use Rattle.std.specs.Prelude.{ℕ, ◌≡◌, ◌≢◌, Option, None, IfSome}
+use Rattle.std.specs.Prelude.{◌≡◌, ◌≢◌, Option, None, IfSome}
 use Rattle.fol_data.specs.declared.tick.Tick.{Tick}
 use Rattle.fol_lock.specs.Seat.{IsIdle}
 use Rattle.fol_live.specs.Held.{HoldsRun}

@@ -1,5 +1,5 @@
 -- A crew that is whole: with it everything can be closed.
-use Rattle.std.specs.Prelude.{ℕ, ◌≡◌, ◌<◌, []}
+use Rattle.std.specs.Prelude.{◌≡◌, ◌<◌, []}
 use Rattle.std.specs.Vec.{vec_capacity}
 use Rattle.fol_lock.specs.Lock.{seat_count}
 use Rattle.fol_live.specs.Lives.{live_id}

@@ -1,4 +1,4 @@
-use Rattle.std.proofs.Common.{◌≡◌, ◌∙◌, ap, arith}
+use Rattle.std.proofs.Common.{◌∙◌, ap, arith}
 use Rattle.fol_live.specs.Seat.{Shown}
 use Rattle.fol_server.proofs.server.open.Goals as goal
 
