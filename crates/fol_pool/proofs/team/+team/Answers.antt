@@ -10,7 +10,7 @@ use Rattle.fol_pool.proofs.Together.{all_last, as_many, back_more}
 use Rattle.fol_pool.proofs.team.+team.Goals as goal
 
 pub spawn_with-requires-send-F : goal.spawn_with-requires-send-F
-spawn_with-requires-send-F g t c κs within = search (Live-sync, Seat-send, sendable, crosses) depth 20
+spawn_with-requires-send-F g t c κs within = search (c.requires-raw, sendable, crosses, Seat-send, Live-sync) depth 20
 
 pub spawn_with-requires-send-T : goal.spawn_with-requires-send-T
 spawn_with-requires-send-T g t c κs within = search (sendable, Seat-send) depth 14
