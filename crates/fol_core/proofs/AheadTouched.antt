@@ -1,6 +1,6 @@
 -- Which regions an event may touch, and which of them are Ready, as the tables tell it while regions are prepared.
 use Rattle.std.proofs.Common.{◌≡◌, ◌≢◌, ℕ, ◌<◌, refl, sym, ◌∙◌, ap, Bool, true, false, inl, inr, ◌&&◌, List}
-use Rattle.std.specs.Prelude.{nat_lt, filter, Option, Some, None}
+use Rattle.std.specs.Prelude.{nat_eq, nat_lt, filter, IfSome, Option, Some, None}
 use Rattle.std.proofs.lemmas.Bool.{cases_Bool, and_from, false_from_ne_true, lt-ltb, true≢false}
 use Rattle.fol_model.specs.declared.events.Entry.{Entry}
 use Rattle.fol_model.specs.declared.openings.Opening.{Opening}
@@ -8,7 +8,7 @@ use Rattle.fol_model.specs.declared.places.ChunkPos.{ChunkPos}
 use Rattle.fol_model.specs.declared.regions.State.{State}
 use Rattle.fol_model.specs.declared.regions.State.TheVariants.{Dead}
 use Rattle.fol_model.specs.Add.{is_full, is_near, wanted}
-use Rattle.fol_model.specs.GridState.{is_ready}
+use Rattle.fol_model.specs.GridState.{GridState, is_ready}
 use Rattle.fol_model.specs.Run.{world}
 use Rattle.fol_model.specs.Universe.{numbers_below}
 use Rattle.fol_model.specs.World.{World}
@@ -71,3 +71,13 @@ module _ (o : Opening) (h : List Entry) (p : ℕ → Bool) (t : Tables) (s : Sta
       ap (filter (λ r. is_ready ((world o h).grid.state r))) (e ∙ ap (λ n. filter (is_touched (grid_state t.regions) c) (numbers_below n)) (next_is o h p t s))
       ∙ filter_twice (λ r. is_ready ((world o h).grid.state r)) (is_touched (grid_state t.regions) c) (numbers_below (world o h).grid.next)
       ∙ filter_like _ _ (pick c) (numbers_below (world o h).grid.next)
+
+  -- ---- one of them alone
+  pub alone_touched : (c : ChunkPos) (one : Option ℕ) → IfSome one (λ id. (r : ℕ) → is_touched (grid_state t.regions) c r ≡ nat_eq id r)
+      → IfSome one (λ id. (r : ℕ) → may_touch (world o h) c r ≡ (is_ready ((world o h).grid.state r) && nat_eq id r))
+  alone_touched c None alone = tt
+  alone_touched c (Some id) alone = λ r. sym (pick c r) ∙ ap (λ (b : Bool). is_ready ((world o h).grid.state r) && b) (alone r)
+
+  pub holds_now : (c : ChunkPos) → (grid_state t.regions).holds c ≡ (world o h).grid.holds c
+  unfolding ahead_of
+  holds_now c = ap (λ (g : GridState). g.holds c) s.stands.fits.regions ∙ ap (λ (v : World). v.grid.holds c) s.runs.ahead.is.same

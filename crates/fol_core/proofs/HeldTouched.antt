@@ -35,6 +35,10 @@ one_number k (suc n) low = filter-append (nat_eq k) (numbers_below n) (n ∷ [])
       ap (λ (xs : List ℕ). xs ++ filter (nat_eq k) (n ∷ [])) (one_number k n (omega (arith, low, other))) ∙ rw none refl
 ]
 
+-- one number alone among them
+pub alone_listed : (f : ℕ → Bool) (k n : ℕ) → k < n → ((r : ℕ) → f r ≡ nat_eq k r) → k ∷ [] ≡ filter f (numbers_below n)
+alone_listed f k n low alone = sym (filter_like _ _ alone (numbers_below n) ∙ one_number k n low)
+
 -- ---- the region of a held chunk
 
 abbrev pub owner : GridState → ChunkPos → ℕ
@@ -44,7 +48,7 @@ module _ (g : GridState) (c : ChunkPos) (rules : Rules g) (held : 0 < g.holds c)
   pub some_owner : 0 < owner g c
   some_owner = rules.margin c (section_of g.grid c) held (omega (arith, self_distance (section_of g.grid c)))
 
-  alone : (r : ℕ) → is_touched g c r ≡ nat_eq (owner g c) r
+  pub alone : (r : ℕ) → is_touched g c r ≡ nat_eq (owner g c) r
   alone r =
       let none = none_wanted g c rules (lt-ltb 0 (g.holds c) held) in
       elim (cases_Bool (nat_eq (owner g c) r)) [
@@ -57,5 +61,5 @@ module _ (g : GridState) (c : ChunkPos) (rules : Rules g) (held : 0 < g.holds c)
       nothing true false = refl
       nothing false b = refl
 
-  pub owner_alone : owner g c ∷ [] ≡ filter (is_touched g c) (numbers_below g.next)
-  owner_alone = sym (filter_like _ _ alone (numbers_below g.next) ∙ one_number (owner g c) g.next (rules.below_next (owner g c) (rules.owner_lives (section_of g.grid c) some_owner)))
+  pub owner_below : owner g c < g.next
+  owner_below = rules.below_next (owner g c) (rules.owner_lives (section_of g.grid c) some_owner)

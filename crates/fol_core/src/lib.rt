@@ -9,10 +9,11 @@
 //! 1. `Core::start` makes a core of an opening.
 //! 2. `Core::load` and `Core::post` ask for a loaded chunk and for a task.
 //! 3. `Core::open_phase` lets each region owe so many ticks; `Core::reserve` and then `Core::begin` give the tick of one.
-//! 4. `Core::release` takes a tick back that `fol_tick::run_tick` has run. `Core::end` does the same where the tick stands, and
-//!    `Core::begin_next` then puts the next one there. `Core::reserve_release` takes the memory beforehand, so that neither can fail.
+//! 4. `Core::release` takes a tick back that `fol_tick::run_tick` has run. `Core::end` does the same where the tick stands.
+//!    `Core::reserve_release` takes the memory beforehand, so that neither can fail.
 //! 5. `Core::prepare` gives the tick of a region before its Begin is recorded; `Core::learn` records that Begin, or `Core::withdraw` takes
-//!    the tick back. In between no call may touch the region, and `Core::touched` says what an event on a chunk may touch.
+//!    the tick back. In between no call may touch the region. `Core::touched` says what an event on a chunk may touch, and where a hold is
+//!    on the chunk `Core::touched_alone` says it with no list.
 //! 6. `Core::close_phase` and `Core::finish` end a phase and the history, and `Core::closing` gives all that stands at the end.
 #![tactic(auto)]
 

@@ -1,6 +1,6 @@
 //! Ticks that are made before their Begins are recorded, and what an event may touch meanwhile.
 
-ghost use Rattle.std.specs.Prelude.{◌≡◌, ◌≤◌, true, false, [], filter, length, IfOk, IfSome, IsTrue};
+ghost use Rattle.std.specs.Prelude.{ℕ, ◌≡◌, ◌≤◌, ◌<◌, ◌&&◌, ◌↔◌, true, false, [], filter, length, nat_eq, IfOk, IfSome, IsSome, IsTrue};
 ghost use Rattle.fol_model.specs.Geometry.{is_chunk, section_of as section_around};
 ghost use Rattle.fol_model.specs.GridState.{is_ready};
 ghost use Rattle.fol_model.specs.Universe.{numbers_below};
@@ -37,6 +37,19 @@ impl Core {
         let mut ids = list_touched(self.alloc, &self.tables.regions, home, c)?;
         ids.retain(|id| self.is_ready(*id));
         Ok(ids)
+    }
+
+    /// The one region that an event on this chunk may touch, where a hold is on the chunk: the owner of its section, which is touched if it is
+    /// Ready. `None` exactly where no hold is on it; then `touched` says which regions may be touched. Looks at no other region, and takes
+    /// no memory. Each prepared region is Ready.
+    pub fn touched_alone(&self, c: ChunkPos) -> Option<u64>
+        ensures ready { PreparedAreReady self.now }
+        ensures held { IsSome result ↔ (0 < (world_of self.now).grid.holds c) }
+        ensures alone { IfSome result (λ id. (r : ℕ) → may_touch (world_of self.now) c r
+            ≡ (is_ready ((world_of self.now).grid.state r) && nat_eq id r)) }
+    {
+        let home = section_of(&self.tables.grid, c);
+        owner_if_held(&self.tables.regions, home, c)
     }
 
     /// How many regions are prepared. Where it is 0, none is.
@@ -110,8 +123,7 @@ impl Core {
     }
 }
 
-/// The regions that an event on a chunk of this section may touch, rising. Where the chunk is held, an added hold makes no section present,
-/// and only the owner is looked up.
+/// The regions that an event on a chunk of this section may touch, rising.
 fn list_touched(
     alloc: Global,
     regions: &Regions,
@@ -123,18 +135,28 @@ fn list_touched(
     ensures { IfOk result (λ ids. ids.items ≡ filter (is_touched (grid_state regions.now) c)
         (numbers_below (grid_state regions.now).next)) }
 {
-    if regions.holds(c) == 0 {
+    let Some(id) = owner_if_held(regions, home, c) else {
         return regions.touched(alloc, c);
+    };
+    let mut ids = Vec::new(alloc);
+    ids.push(id)?;
+    Ok(ids)
+}
+
+/// The owner of this section, where a hold is on this chunk of it. No event on the chunk touches another region then, since an added hold makes no
+/// section present.
+fn owner_if_held(regions: &Regions, home: SectionPos, c: ChunkPos) -> Option<u64>
+    requires home { home ≡ section_around (grid_state regions.now).grid c }
+    ensures held { IsSome result ↔ (0 < (grid_state regions.now).holds c) }
+    ensures given { IfSome result (λ id. id < (grid_state regions.now).next) }
+    ensures alone { IfSome result (λ id. (r : ℕ) → is_touched (grid_state regions.now) c r
+        ≡ nat_eq id r) }
+{
+    if regions.holds(c) == 0 {
+        return None;
     }
     regions.keeps_rules();
-    let mut ids = Vec::new(alloc);
-    match regions.owner(home) {
-        Some(id) => {
-            ids.push(id)?;
-            Ok(ids)
-        }
-        None => unreachable!(),
-    }
+    regions.owner(home)
 }
 
 /// The room for the next Begin of a region whose tick came back, with the list of its due tasks, which is empty.
