@@ -2,6 +2,7 @@
 use Rattle.std.proofs.Common.{◌≡◌, ℕ, refl, sym, ◌∙◌, ap, subst, length, None}
 use Rattle.std.specs.Prelude.{Bool, Result, Ok, Err, IfOk, IfErr, OnErr}
 use Rattle.std.specs.List.{AllByRecursion}
+use Rattle.std.specs.Global.{Box}
 use Rattle.std.specs.declared.alloc.AllocError.{AllocError}
 use Rattle.fol_model.specs.declared.places.ChunkPos.{ChunkPos}
 use Rattle.fol_model.specs.declared.events.Loaded.{Loaded}
@@ -124,7 +125,7 @@ module _ {old new : Shown} {m n : worlds.Shown} {by : ℕ} (d : Done old new m n
 
 -- ---- a tick that was given back
 
-module _ {old new : Shown} {y n : worlds.Shown} {answer : Result ℕ AllocError} (tick : Tick) (most : ℕ) (e : EndsAndPasses y n tick most answer) (d : Done old new e.ends.now n tick.worker) where
+module _ {E : Type 0} {old new : Shown} {y n : worlds.Shown} {answer : Result ℕ E} (tick : Tick) (most : ℕ) (e : EndsAndPasses y n tick most answer) (d : Done old new e.ends.now n tick.worker) where
   -- what the seat would show behind the End
   abbrev pub ended : Shown
   ended = record d.now { seen = e.ended.history }
@@ -142,21 +143,20 @@ module _ {old new : Shown} {y n : worlds.Shown} {answer : Result ℕ AllocError}
       subst (λ (x : Meaning). Records (meaning_of d.now) x tick.worker (end_event (world_of (meaning_of d.now)) tick.worker tick.region tick.log.ran))
       (bare_is e.ended d.now.opening e.ended.history opening_now refl) here
 
-  pub passes_here : turns.PassesOn e.ended n tick.worker most → PassesOn ended new most
+  pub passes_here : turns.PassesOn e.ended n tick.worker tick.region most → PassesOn ended new tick.region most
   passes_here p =
       let there : Shown = record d.now { seen = p.now.history } in
-      let here = subst (λ (x : Meaning). Passes x (worlds.meaning_of n) tick.worker p.region p.count) (bare_is p.now d.now.opening p.now.history (p.learns.same.opening ∙ opening_now) refl) p.passes in
-      let both = subst (λ (x : Meaning). Passes (meaning_of there) x tick.worker p.region p.count) d.there here in
+      let here = subst (λ (x : Meaning). Passes x (worlds.meaning_of n) tick.worker tick.region p.count) (bare_is p.now d.now.opening p.now.history (p.learns.same.opening ∙ opening_now) refl) p.passes in
+      let both = subst (λ (x : Meaning). Passes (meaning_of there) x tick.worker tick.region p.count) d.there here in
       record {
         now = there;
         learnt = p.learns.learnt;
         late = subst (λ (k : ℕ). AllByRecursion (IsLate k) p.learns.learnt) worker_now p.learns.late;
         seen = p.learns.history;
         opening = refl;
-        region = p.region;
         count = p.count;
         few = p.few;
-        passes = subst (λ (k : ℕ). Passes (meaning_of there) (meaning_of new) k p.region p.count) worker_now both;
+        passes = subst (λ (k : ℕ). Passes (meaning_of there) (meaning_of new) k tick.region p.count) worker_now both;
       }
 
   pub released : (length : ℕ) → answer ≡ Ok length → held new ≡ None → Releases old new tick most (Ok length)
@@ -174,7 +174,7 @@ module _ {old new : Shown} {y n : worlds.Shown} {answer : Result ℕ AllocError}
     refused = tt;
   }
 
-  pub refused : (error : AllocError) (left : Tick) → answer ≡ Err error → SameTick tick left → new.hand ≡ old.hand → Releases old new tick most (Err left)
+  pub refused : (error : E) (left : Box Tick) → answer ≡ Err error → SameTick tick left.value → new.hand ≡ old.hand → Releases old new tick most (Err left)
   refused error left is same hand =
       let stays : Stays (worlds.meaning_of e.ends.now) (worlds.meaning_of e.ended) = rw is at e.ends.refused in
       let none : n ≡ e.ended = rw is at e.refused in

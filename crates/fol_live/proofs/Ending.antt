@@ -2,7 +2,6 @@
 use Rattle.std.proofs.Common.{◌≡◌, ◌≤◌, ℕ, refl, sym, ◌∙◌, ap, inl, inr, List, [], ◌∷◌, ◌++◌, append_assoc, Bool}
 use Rattle.std.specs.Prelude.{Result, Ok, Err, OnErr, OnOk, nat_eq}
 use Rattle.std.specs.List.{AllByRecursion}
-use Rattle.std.specs.declared.alloc.AllocError.{AllocError}
 use Rattle.std.proofs.lemmas.Bool.{cases_Bool}
 use Rattle.std.proofs.lemmas.List.{append-nil}
 use Rattle.fol_laws.proofs.SortedRows.{all_append}
@@ -73,8 +72,8 @@ met_learns old new worker region kept tells met =
     let l = met_late old new worker region met in
     (learns_by old new new worker kept tells met.workers (grows_same new.core new.core (record { opening = refl; history = refl; prepared = refl })) l.same l.learnt l.history l.late).0
 
-pub ends : (old new : offers.Shown) (tick : Tick) (r : Result ℕ AllocError) → IsKept (shown old) → Tells new → offers_ends.Ends old new tick r → Ends (shown old) (shown new) tick r
-ends old new tick r kept tells did =
+pub ends : {E : Type 0} (old new : offers.Shown) (tick : Tick) (r : Result ℕ E) → IsKept (shown old) → Tells new → offers_ends.Ends old new tick r → Ends (shown old) (shown new) tick r
+ends {E} old new tick r kept tells did =
     let by = tick.worker in
     let c = did.cleared in
     let event = end_event (world_of c.core) tick.worker tick.region tick.log.ran in
@@ -91,12 +90,12 @@ ends old new tick r kept tells did =
       keeps = learns.1;
     }
   where
-    grown : (m n : Meaning) (w : World) (x : Result ℕ AllocError) → OnOk x (Records m n tick.worker (end_event w tick.worker tick.region tick.log.ran)) → OnErr x (Stays m n) → Grows m n
+    grown : (m n : Meaning) (w : World) (x : Result ℕ E) → OnOk x (Records m n tick.worker (end_event w tick.worker tick.region tick.log.ran)) → OnErr x (Stays m n) → Grows m n
     grown m n w (Ok k) recorded refused = grows_one m n tick.worker (end_event w tick.worker tick.region tick.log.ran) (λ named. refl) recorded
     grown m n w (Err e) recorded refused = grows_same m n refused
 
 -- ticks that were passed over
-pub passes_on : (old new : offers.Shown) (by region count most : ℕ) → IsKept (shown old) → Tells new → count ≤ most → offers.PassesOver old new by region count → PassesOn (shown old) (shown new) by most
+pub passes_on : (old new : offers.Shown) (by region count most : ℕ) → IsKept (shown old) → Tells new → count ≤ most → offers.PassesOver old new by region count → PassesOn (shown old) (shown new) by region most
 passes_on old new by region count most kept tells few did =
     let c = did.cleared in
     let t : ℕ = (world_of c.core).tick region in
@@ -110,7 +109,6 @@ passes_on old new by region count most kept tells few did =
     record {
       now = shown c;
       learns = learns.0;
-      region = region;
       count = count;
       few = few;
       passes = record { opening = did.passes.opening; history = did.passes.history; prepared = refl };

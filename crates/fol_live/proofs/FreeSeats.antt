@@ -4,7 +4,7 @@ use Rattle.std.specs.Prelude.{All, None}
 use Rattle.std.proofs.lemmas.Option.{get_or_from_slice_get}
 use Rattle.fol_model.specs.declared.openings.Opening.{Opening}
 use Rattle.fol_slots.specs.Shown.{Worker}
-use Rattle.fol_offers.specs.declared.offer.Offer.{Offer}
+use Rattle.fol_offers.specs.Offered.{Offered}
 use Rattle.fol_live.specs.Calls.{Misses}
 use Rattle.fol_live.specs.Hands.{tick_in}
 use Rattle.fol_live.specs.Seat.{LiveId, Shown, held, held_in}
@@ -23,4 +23,4 @@ are_free l o count seats new k d low =
 
 -- one that held none and found none
 pub free_still : (old new : Shown) → held old ≡ None → Misses old new → held new ≡ None
-free_still old new free did = ap held did.is ∙ ap (λ (w : Worker Offer). tick_in w.claimed) did.misses.misses.is ∙ sym (ap held_in did.was) ∙ free
+free_still old new free did = ap held did.is ∙ ap (λ (w : Worker Offered). tick_in w.claimed) did.misses.misses.is ∙ sym (ap held_in did.was) ∙ free

@@ -1,8 +1,8 @@
 -- A seat gives its tick back.
 use Rattle.std.proofs.Common.{◌≡◌, ◌∙◌, ℕ, sym, ap, refl, subst}
-use Rattle.std.specs.Prelude.{Result, Ok, Err, OnErr, OnOk, None, Some}
+use Rattle.std.specs.Prelude.{Result, Ok, Err, IfErr, OnErr, OnOk, None, Some}
 use Rattle.std.specs.Option.{ForSome}
-use Rattle.std.specs.declared.alloc.AllocError.{AllocError}
+use Rattle.std.specs.Global.{Box}
 use Rattle.fol_data.specs.declared.tick.Tick.{Tick}
 use Rattle.fol_core.specs.Ticks.{SameTick}
 use Rattle.fol_slots.specs.Shown.{freed}
@@ -10,7 +10,6 @@ use Rattle.fol_tick.specs.Runs.{Finishes}
 use Rattle.fol_live.specs.declared.origin.Origin.{Origin}
 use Rattle.fol_live.specs.Calls.{Releases}
 use Rattle.fol_live.specs.Held.{HoldsRun}
-use Rattle.fol_live.specs.Results.{released_of}
 use Rattle.fol_live.specs.Seat.{HasHand, Shown, held_in}
 use Rattle.fol_live.specs.Shown as worlds
 use Rattle.fol_live.specs.Turned.{GivesIn}
@@ -50,8 +49,8 @@ pub free_after : (before after : Hand) (tick : Tick) → GivesIn before tick →
 free_after None after tick gives freed_is = absurd gives
 free_after (Some w) after tick gives freed_is = ap held_in (freed_is w refl)
 
-pub release_done : {old new : Shown} {y n : worlds.Shown} (before : Hand) (tick left : Tick) (most : ℕ) (answer : Result ℕ AllocError) → (e : EndsAndPasses y n tick most answer)
+pub release_done : {old new : Shown} {y n : worlds.Shown} (before : Hand) (tick : Tick) (most : ℕ) (answer : Result ℕ (Box Tick)) → (e : EndsAndPasses y n tick most answer)
     → Done old new e.ends.now n tick.worker → GivesIn before tick → old.hand ≡ before → OnOk answer (ForSome before (λ w. new.hand ≡ Some (freed w))) → OnErr answer (new.hand ≡ before)
-    → OnErr answer (SameTick tick left) → Releases old new tick most (released_of answer left)
-release_done before tick left most (Ok k) e d gives was freed_is kept same = released tick most e d k refl (free_after before _ tick gives freed_is)
-release_done before tick left most (Err x) e d gives was freed_is kept same = refused tick most e d x left refl same (kept ∙ sym was)
+    → IfErr answer (λ t. SameTick tick t.value) → Releases old new tick most answer
+release_done before tick most (Ok k) e d gives was freed_is kept same = released tick most e d k refl (free_after before _ tick gives freed_is)
+release_done before tick most (Err left) e d gives was freed_is kept same = refused tick most e d left left refl same (kept ∙ sym was)

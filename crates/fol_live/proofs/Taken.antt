@@ -16,7 +16,7 @@ use Rattle.fol_lock.specs.Seat as locks
 use Rattle.fol_lock.proofs.Logs.{given_by-append, given_by-own}
 use Rattle.fol_seat_laws.specs.Signed.{own_of}
 use Rattle.fol_slots.specs.Shown.{Worker}
-use Rattle.fol_offers.specs.declared.offer.Offer.{Offer}
+use Rattle.fol_offers.specs.Offered.{Offered}
 use Rattle.fol_tick_laws.specs.OpenTicks.{IsOpen}
 use Rattle.fol_live.specs.declared.origin.Origin.{Origin}
 use Rattle.fol_live.specs.Kept.{IsKept, Keeps}
@@ -41,7 +41,7 @@ abbrev pub SeatOfLock : Type 0
 SeatOfLock = locks.Shown Origin Entry
 
 abbrev pub Hand : Type 0
-Hand = Option (Worker Offer)
+Hand = Option (Worker Offered)
 
 abbrev pub view : SeatOfLock → Hand → Shown
 view s hand = shown (origin_of s.origin) s hand

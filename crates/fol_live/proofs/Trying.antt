@@ -7,7 +7,7 @@ use Rattle.std.proofs.lemmas.List.Elements.{All-nil, All-cons, All-append}
 use Rattle.fol_slots.specs.declared.word.Word.{Word}
 use Rattle.fol_slots.specs.declared.word.Word.TheVariants.{Ready}
 use Rattle.fol_slots.specs.Shown.{Worker, missing}
-use Rattle.fol_offers.specs.declared.offer.Offer.{Offer}
+use Rattle.fol_offers.specs.Offered.{Offered}
 use Rattle.fol_live.specs.Hands.{IsHand, MissesAll, MissesThese}
 use Rattle.fol_live.specs.Rounds.{numbers_from, round}
 
@@ -22,7 +22,7 @@ numbers_more first i low =
     let there : first + n ≡ i = omega (arith, low) in
     rw (up, one_more first n, there) refl
 
-pub misses_none : (w : Worker Offer) (first : ℕ) → MissesThese w w (numbers_from first first)
+pub misses_none : (w : Worker Offered) (first : ℕ) → MissesThese w w (numbers_from first first)
 misses_none w first =
     let none : first - first ≡ 0 = omega arith in
     record {
@@ -33,7 +33,7 @@ misses_none w first =
     }
 
 -- one slot more
-pub misses_more : (old now new : Worker Offer) (first i : ℕ) (w : Word) → first ≤ i → MissesThese old now (numbers_from first i) → w ≢ Ready → new ≡ missing now i w
+pub misses_more : (old now new : Worker Offered) (first i : ℕ) (w : Word) → first ≤ i → MissesThese old now (numbers_from first i) → w ≢ Ready → new ≡ missing now i w
     → MissesThese old new (numbers_from first (i + 1))
 misses_more old now new first i w low before other is =
     let m : ℕ × Word = (i, w) in
@@ -42,11 +42,11 @@ misses_more old now new first i w low before other is =
       met = before.met ++ m ∷ [];
       slots_are = map-append (λ (x : ℕ × Word). x.0) before.met (m ∷ []) ∙ ap (λ (xs : List ℕ). xs ++ i ∷ []) before.slots_are ∙ sym (numbers_more first i low);
       none_ready = All-append (λ (x : ℕ × Word). x.1 ≢ Ready) before.met (m ∷ []) before.none_ready (All-cons (λ (x : ℕ × Word). x.1 ≢ Ready) m [] other (All-nil (λ (x : ℕ × Word). x.1 ≢ Ready)));
-      is = is ∙ ap (λ (x : Worker Offer). missing x i w) same ∙ ap (λ (f : List (ℕ × Word)). record old { found = f }) (append_assoc old.found before.met (m ∷ []));
+      is = is ∙ ap (λ (x : Worker Offered). missing x i w) same ∙ ap (λ (f : List (ℕ × Word)). record old { found = f }) (append_assoc old.found before.met (m ∷ []));
     }
 
 -- the rest of the slots, and then those before
-pub misses_round : (old now new : Worker Offer) (from count : ℕ) → count ≡ old.slots.slots → MissesThese old now (numbers_from from count) → MissesThese now new (numbers_from 0 from) → MissesAll old new
+pub misses_round : (old now new : Worker Offered) (from count : ℕ) → count ≡ old.slots.slots → MissesThese old now (numbers_from from count) → MissesThese now new (numbers_from 0 from) → MissesAll old new
 misses_round old now new from count all p q =
     let here = p.is in
     record {
@@ -56,11 +56,11 @@ misses_round old now new from count all p q =
         slots_are = map-append (λ (x : ℕ × Word). x.0) p.met q.met ∙ ap (λ (xs : List ℕ). xs ++ map (λ (x : ℕ × Word). x.0) q.met) p.slots_are ∙ ap (λ (xs : List ℕ). numbers_from from count ++ xs) q.slots_are
             ∙ ap (round from) all;
         none_ready = All-append (λ (x : ℕ × Word). x.1 ≢ Ready) p.met q.met p.none_ready q.none_ready;
-        is = q.is ∙ ap (λ (x : Worker Offer). record x { found = x.found ++ q.met }) here ∙ ap (λ (f : List (ℕ × Word)). record old { found = f }) (append_assoc old.found p.met q.met);
+        is = q.is ∙ ap (λ (x : Worker Offered). record x { found = x.found ++ q.met }) here ∙ ap (λ (f : List (ℕ × Word)). record old { found = f }) (append_assoc old.found p.met q.met);
       };
     }
 
 -- a worker that holds no slot holds no region's tick
-pub no_region : (region : Option ℕ) (w : Worker Offer) → IsHand region w → w.slot ≡ None → region ≡ None
+pub no_region : (region : Option ℕ) (w : Worker Offered) → IsHand region w → w.slot ≡ None → region ≡ None
 no_region None w hand free = refl
 no_region (Some r) w hand free = let holds = (hand.has r refl).slot in absurd (let none = rw free at holds in cc)

@@ -3,6 +3,7 @@
 -- history that it has seen then, and after.
 use Rattle.std.specs.Prelude.{ℕ, ◌≡◌, ◌≤◌, Bool, List, ◌++◌, Result, Some, None, IfOk, IfErr, OnOk, OnErr, length}
 use Rattle.std.specs.List.{AllByRecursion}
+use Rattle.std.specs.Global.{Box}
 use Rattle.std.specs.declared.alloc.AllocError.{AllocError}
 use Rattle.fol_model.specs.declared.places.ChunkPos.{ChunkPos}
 use Rattle.fol_model.specs.declared.events.Entry.{Entry}
@@ -20,7 +21,7 @@ use Rattle.fol_core.specs.Meaning.{Records, Stays, world_of}
 use Rattle.fol_core.specs.Quiet.{Passes}
 use Rattle.fol_core.specs.Ticks.{SameTick}
 use Rattle.fol_slots.specs.Shown.{Worker}
-use Rattle.fol_offers.specs.declared.offer.Offer.{Offer}
+use Rattle.fol_offers.specs.Offered.{Offered}
 use Rattle.fol_offers.specs.Fit.{IsFitTick}
 use Rattle.fol_live.specs.declared.answers.LivePhase.{LivePhase}
 use Rattle.fol_live.specs.Hands.{MissesAll}
@@ -129,40 +130,39 @@ pub record Claims (old new : Shown) (tick : Tick) : Type 0 where
 
 -- the seat found no slot ready, and has seen no more than before
 pub record Misses (old new : Shown) : Type 0 where
-  pub worker : Worker Offer
-  pub after : Worker Offer
+  pub worker : Worker Offered
+  pub after : Worker Offered
   pub was : old.hand ≡ Some worker
   pub misses : MissesAll worker after
   pub is : new ≡ record old { hand = Some after }
 
 -- a tick was asked for, without a turn
 abbrev pub TriesToBegin : Shown → Shown → TryBegin → Type 0
-TriesToBegin old new (Got tick) = Claims old new tick
+TriesToBegin old new (Got boxed) = Claims old new boxed.value
 TriesToBegin old new Idle = Misses old new
 
--- behind what the seat showed, it recorded Begins that it learnt of, and then ticks of one region in which nothing happens, at most so many
-pub record PassesOn (old new : Shown) (most : ℕ) : Type 0 where
+-- behind what the seat showed, it recorded Begins that it learnt of, and then ticks of this region in which nothing happens, at most so many
+pub record PassesOn (old new : Shown) (region most : ℕ) : Type 0 where
   pub now : Shown
   pub learnt : List Entry
   pub late : AllByRecursion (IsLate old.number) learnt
   pub seen : now.seen ≡ old.seen ++ learnt
   pub opening : now.opening ≡ old.opening
-  pub region : ℕ
   pub count : ℕ
   pub few : count ≤ most
   pub passes : Passes (meaning_of now) (meaning_of new) old.number region count
 
 -- a tick was given back: the answer is how long the history is with its End; out of memory hands the same tick back. `ended` is what the seat
 -- would show right behind the End
-pub record Releases (old new : Shown) (tick : Tick) (most : ℕ) (r : Result ℕ Tick) : Type 0 where
+pub record Releases (old new : Shown) (tick : Tick) (most : ℕ) (r : Result ℕ (Box Tick)) : Type 0 where
   pub now : Shown
   pub turn : Turn old now new
   pub ended : Shown
   pub number : ended.number ≡ old.number
   pub told : IfOk r (λ n. n ≡ length ended.seen)
   pub recorded : OnOk r (Records (meaning_of now) (meaning_of ended) tick.worker (end_event (world_of (meaning_of now)) tick.worker tick.region tick.log.ran))
-  pub passed : OnOk r (PassesOn ended new most)
+  pub passed : OnOk r (PassesOn ended new tick.region most)
   pub free : OnOk r (held new ≡ None)
-  pub back : IfErr r (λ t. SameTick tick t)
+  pub back : IfErr r (λ t. SameTick tick t.value)
   pub kept : OnErr r (new.hand ≡ old.hand)
   pub refused : OnErr r (Stays (meaning_of now) (meaning_of new))

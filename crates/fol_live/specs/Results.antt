@@ -1,7 +1,5 @@
--- What opening a phase of any number of ticks answers in a world, and what it records; and what giving a tick back comes to.
-use Rattle.std.specs.Prelude.{ℕ, ◌+◌, ◌||◌, nat_eq, nat_lt, if◌then◌else◌, Result, Ok, Err}
-use Rattle.std.specs.declared.alloc.AllocError.{AllocError}
-use Rattle.fol_data.specs.declared.tick.Tick.{Tick}
+-- What opening a phase of any number of ticks answers in a world, and what it records.
+use Rattle.std.specs.Prelude.{ℕ, ◌+◌, ◌||◌, nat_eq, nat_lt, if◌then◌else◌}
 use Rattle.fol_model.specs.declared.events.Event.TheVariants as events
 use Rattle.fol_model.specs.World.{World}
 use Rattle.fol_core.specs.Meaning.{Meaning, Records, Stays}
@@ -19,8 +17,3 @@ live_phase_result w n =
 abbrev pub LivePhaseRecords : Meaning → Meaning → ℕ → ℕ → LivePhase → Type 0
 LivePhaseRecords old new by n phases.Opened = Records old new by (events.PhaseOpen n)
 LivePhaseRecords old new by n answer = Stays old new
-
--- the length of the history with the End; or out of memory hands the tick back
-abbrev pub released_of : Result ℕ AllocError → Tick → Result ℕ Tick
-released_of (Ok length) tick = Ok length
-released_of (Err e) tick = Err tick

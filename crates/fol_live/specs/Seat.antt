@@ -10,7 +10,7 @@ use Rattle.fol_lock.specs.Seat.{LockId}
 use Rattle.fol_lock.specs.Seat as locks
 use Rattle.fol_seat_laws.specs.Signed.{own_of}
 use Rattle.fol_slots.specs.Shown.{Worker}
-use Rattle.fol_offers.specs.declared.offer.Offer.{Offer}
+use Rattle.fol_offers.specs.Offered.{Offered}
 use Rattle.fol_live.specs.declared.origin.Origin.{Origin}
 use Rattle.fol_live.specs.Hands.{tick_in}
 
@@ -31,10 +31,10 @@ pub record Shown : Type 0 where
   -- the entries that the seat recorded, in order
   pub mine : List Entry
   -- what a worker's seat has of the slots; that of seat 0 has nothing
-  pub hand : Option (Worker Offer)
+  pub hand : Option (Worker Offered)
 
 -- the tick that a worker claimed and did not give back, as it was offered
-abbrev pub held_in : Option (Worker Offer) → Option Tick
+abbrev pub held_in : Option (Worker Offered) → Option Tick
 held_in None = None
 held_in (Some w) = tick_in w.claimed
 
@@ -51,7 +51,7 @@ origin_of None = record {
   workers = 0;
 }
 
-abbrev pub shown : Origin → locks.Shown Origin Entry → Option (Worker Offer) → Shown
+abbrev pub shown : Origin → locks.Shown Origin Entry → Option (Worker Offered) → Shown
 shown o s hand = record {
   lock = record { lock = s.lock; slots = o.slots; workers = o.workers };
   opening = o.opening;
@@ -62,14 +62,14 @@ shown o s hand = record {
 }
 
 -- the worker of this number, at the slots of this origin, of which there are as many as there can be regions that are Ready or tick
-pub record IsOf (o : Origin) (number : ℕ) (w : Worker Offer) : Type 0 where
+pub record IsOf (o : Origin) (number : ℕ) (w : Worker Offered) : Type 0 where
   pub sized : o.slots.slots ≡ 1820
   pub slots : w.slots ≡ o.slots
   pub number_is : w.number ≡ number
   pub some : 1 ≤ number
 
 -- seat 0 is no worker's, and each other is
-abbrev pub HasHand : Origin → ℕ → Option (Worker Offer) → Type 0
+abbrev pub HasHand : Origin → ℕ → Option (Worker Offered) → Type 0
 HasHand o number None = number ≡ 0
 HasHand o number (Some w) = IsOf o number w
 

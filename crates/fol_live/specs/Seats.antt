@@ -18,11 +18,11 @@ use Rattle.fol_lock.specs.Seat.{LockId}
 use Rattle.fol_lock.specs.Seat as locks
 use Rattle.fol_slots.specs.Shown.{AreNew, Worker, new_worker}
 use Rattle.fol_live.specs.declared.origin.Origin.{Origin}
-use Rattle.fol_offers.specs.declared.offer.Offer.{Offer}
+use Rattle.fol_offers.specs.Offered.{Offered}
 use Rattle.fol_live.specs.Seat.{LiveId, Shown}
 
 -- what a new seat of this number has of the slots
-abbrev pub new_hand : LiveId → ℕ → Option (Worker Offer)
+abbrev pub new_hand : LiveId → ℕ → Option (Worker Offered)
 new_hand lock zero = None
 new_hand lock (suc n) = Some (new_worker lock.slots (suc n))
 
@@ -79,12 +79,12 @@ ClosingFault w seats faults.NoMemory = Unit {0}
 
 -- where these are new seats of a lock, and of workers at the slots of the origin, the first seat gets none of the workers, and each other one
 -- the next
-abbrev pub DealsAll : List (locks.Shown Origin Entry) → List (Worker Offer) → List Shown → Type 0
+abbrev pub DealsAll : List (locks.Shown Origin Entry) → List (Worker Offered) → List Shown → Type 0
 DealsAll seats workers dealt = (lock : LockId) (o : Origin) (count : ℕ) → locks.AreNew lock o (count + 1) seats → AreNew o.slots count workers
     → AreNewSeats (record { lock = lock; slots = o.slots; workers = o.workers }) o.opening (count + 1) dealt
 
 -- these are new seats of a lock, and new workers at the slots of its origin, one fewer
-pub record AreFresh (seats : List (locks.Shown Origin Entry)) (workers : List (Worker Offer)) : Type 0 where
+pub record AreFresh (seats : List (locks.Shown Origin Entry)) (workers : List (Worker Offered)) : Type 0 where
   pub lock : LockId
   pub origin : Origin
   pub count : ℕ

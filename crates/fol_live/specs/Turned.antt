@@ -5,7 +5,7 @@ use Rattle.fol_model.specs.declared.events.Entry.{Entry}
 use Rattle.fol_data.specs.declared.tick.Tick.{Tick}
 use Rattle.atomic_table.specs.Seated.{TableId}
 use Rattle.fol_slots.specs.Shown.{Worker}
-use Rattle.fol_offers.specs.declared.offer.Offer.{Offer}
+use Rattle.fol_offers.specs.Offered.{Offered}
 use Rattle.fol_live.specs.Hands.{GivesUp}
 use Rattle.fol_live.specs.Kept.{IsKept, Keeps}
 use Rattle.fol_live.specs.Shown as worlds
@@ -44,16 +44,16 @@ pub record Adds (now new : Shown) (added : List Entry) : Type 0 where
 -- ---- the hand of the seat
 
 -- the seat is no worker's, or it is at these slots
-abbrev pub IsAt : TableId → Option (Worker Offer) → Type 0
+abbrev pub IsAt : TableId → Option (Worker Offered) → Type 0
 IsAt z None = Unit {0}
 IsAt z (Some w) = w.slots ≡ z
 
 -- with the turn, the Begin of the tick that the worker holds was recorded by it, unless it was learnt before
-abbrev pub Meets : worlds.Shown → worlds.Shown → Option (Worker Offer) → Type 0
+abbrev pub Meets : worlds.Shown → worlds.Shown → Option (Worker Offered) → Type 0
 Meets old new None = (new ≡ old) × IsKept new
 Meets old new (Some w) = Learns old new w.number × HasOpen new w
 
 -- the worker gives this tick back, after all of its tasks ran
-abbrev pub GivesIn : Option (Worker Offer) → Tick → Type 0
+abbrev pub GivesIn : Option (Worker Offered) → Tick → Type 0
 GivesIn None tick = ⊥
 GivesIn (Some w) tick = GivesUp w tick

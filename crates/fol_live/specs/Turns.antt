@@ -19,8 +19,7 @@ use Rattle.fol_seat_laws.specs.Signed.{is_start}
 use Rattle.fol_slots.specs.Shown.{Worker}
 use Rattle.fol_tick_laws.specs.OpenTicks.{IsOpen}
 use Rattle.fol_world.specs.AtEnd.{end_event}
-use Rattle.fol_offers.specs.declared.offer.Offer.{Offer}
-use Rattle.fol_offers.specs.Tied.{of_tick}
+use Rattle.fol_offers.specs.Offered.{Offered, of_tick}
 use Rattle.fol_live.specs.declared.answers.LivePhase.{LivePhase}
 use Rattle.fol_live.specs.Results.{LivePhaseRecords, live_phase_result}
 use Rattle.fol_live.specs.Kept.{IsKept}
@@ -82,14 +81,13 @@ pub record Stops (old new : Shown) (by : ℕ) : Type 0 where
   pub keeps : IsKept new
 
 -- the tick that the worker claimed is open, as a tick of this worker
-abbrev pub HasOpen : Shown → Worker Offer → Type 0
+abbrev pub HasOpen : Shown → Worker Offered → Type 0
 HasOpen s seat = (t : Tick) → seat.claimed ≡ Some (of_tick t) → IsOpen (meaning_of s) (record t { worker = seat.number })
 
--- the worker recorded Begins that it learnt of, and behind them ticks of one region in which nothing happens, at most so many
-pub record PassesOn (old new : Shown) (by most : ℕ) : Type 0 where
+-- the worker recorded Begins that it learnt of, and behind them ticks of this region in which nothing happens, at most so many
+pub record PassesOn (old new : Shown) (by region most : ℕ) : Type 0 where
   pub now : Shown
   pub learns : Learns old now by
-  pub region : ℕ
   pub count : ℕ
   pub few : count ≤ most
   pub passes : Passes (meaning_of now) (meaning_of new) by region count
@@ -97,7 +95,7 @@ pub record PassesOn (old new : Shown) (by most : ℕ) : Type 0 where
   pub keeps : IsKept new
 
 -- the tick of a worker was given back
-pub record Ends (old new : Shown) (tick : Tick) (r : Result ℕ AllocError) : Type 0 where
+pub record Ends {E : Type 0} (old new : Shown) (tick : Tick) (r : Result ℕ E) : Type 0 where
   pub now : Shown
   pub learns : Learns old now tick.worker
   pub told : IfOk r (λ n. n ≡ length new.history)
@@ -107,8 +105,8 @@ pub record Ends (old new : Shown) (tick : Tick) (r : Result ℕ AllocError) : Ty
   pub keeps : IsKept new
 
 -- and ticks behind it may have been passed over
-pub record EndsAndPasses (old new : Shown) (tick : Tick) (most : ℕ) (r : Result ℕ AllocError) : Type 0 where
+pub record EndsAndPasses {E : Type 0} (old new : Shown) (tick : Tick) (most : ℕ) (r : Result ℕ E) : Type 0 where
   pub ended : Shown
   pub ends : Ends old ended tick r
-  pub passed : OnOk r (PassesOn ended new tick.worker most)
+  pub passed : OnOk r (PassesOn ended new tick.worker tick.region most)
   pub refused : OnErr r (new ≡ ended)

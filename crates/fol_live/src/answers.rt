@@ -19,7 +19,7 @@ pub enum LivePhase {
 #[derive(Drop)]
 pub enum TryBegin {
     /// The seat claimed the tick of a region, and holds it.
-    Got(Tick),
+    Got(Box<Tick>),
     /// No slot had a tick when it was looked at.
     Idle,
 }

@@ -1,7 +1,6 @@
 //! What a worker has of the slots.
 
-ghost use Rattle.std.specs.Prelude.{◌≡◌, ◌≤◌, None, IfNone, IfSome, OnErr, OnOk};
-ghost use Rattle.fol_data.specs.declared.tick.Tick.{Tick};
+ghost use Rattle.std.specs.Prelude.{◌≡◌, ◌≤◌, None, IfErr, IfNone, IfSome, OnErr, OnOk};
 ghost use Rattle.fol_core.specs.Ticks.{SameTick};
 ghost use Rattle.fol_live.specs.Turns.{EndsAndPasses, HasOpen, Learns};
 ghost use Rattle.fol_slots.specs.Shown.{freed};
@@ -13,7 +12,6 @@ use crate::world::{SLOTS, World};
 use fol_data::Tick;
 use fol_offers::Offer;
 use fol_slots::{Claim, Slots, WorkerSeat};
-use std::alloc::AllocError;
 use std::marker::Model;
 
 /// A worker's seat at the slots, and which region's tick it claimed.
@@ -28,10 +26,10 @@ pub struct Hand {
 
 impl Model for Hand {
     ghost use Rattle.fol_slots.specs.Shown.{Worker};
-    ghost use Rattle.fol_offers.specs.declared.offer.Offer.{Offer};
+    ghost use Rattle.fol_offers.specs.Offered.{Offered};
     ghost use Rattle.fol_live.specs.Hands.{IsHand};
 
-    ghost Value = { Worker Offer };
+    ghost Value = { Worker Offered };
 
     ghost view = { λ h. h.worker };
 
@@ -85,16 +83,16 @@ impl Hand {
         self,
         slots: &Slots<Offer>,
         world: &mut World,
-        tick: &mut Tick,
+        tick: Box<Tick>,
         most: u32,
-    ) -> (Hand, Result<u64, AllocError>)
+    ) -> (Hand, Result<u64, Box<Tick>>)
         requires own { world.old.slots ≡ slots_id slots.now }
         requires seat { self.slots ≡ slots_id slots.now }
-        requires ran { GivesUp self tick.old }
-        ensures ends { EndsAndPasses world.old world.new tick.old most result.1 }
+        requires ran { GivesUp self tick.value }
+        ensures ends { EndsAndPasses world.old world.new tick.value most result.1 }
         ensures freed { OnOk result.1 (result.0 ≡ freed self) }
         ensures kept { OnErr result.1 (result.0 ≡ self) }
-        ensures same { OnErr result.1 (SameTick tick.old tick.new) }
+        ensures back { IfErr result.1 (λ t. SameTick tick.value t.value) }
     {
         let Hand {
             worker,
@@ -111,24 +109,24 @@ impl Hand {
                 };
                 (hand, Ok(length))
             }
-            Err(_) => {
+            Err(tick) => {
                 let hand = Hand {
                     worker,
                     region,
                     from,
                 };
-                (hand, Err(AllocError))
+                (hand, Err(tick))
             }
         }
     }
 
     /// Claims the first tick that it finds, from the slot on at which it found the last one, and round. The tick was made by worker 0, and
     /// is run by this one. Takes no memory and does not wait.
-    pub fn claim(&mut self, slots: &Slots<Offer>) -> Option<Tick>
+    pub fn claim(&mut self, slots: &Slots<Offer>) -> Option<Box<Tick>>
         requires seat { self.old.slots ≡ slots_id slots.now }
         requires free { tick_in self.old.claimed ≡ None }
         requires count { self.old.slots.slots ≡ 1820 }
-        ensures some { IfSome result (ClaimsOne self.old self.new) }
+        ensures some { IfSome result (λ t. ClaimsOne self.old self.new t.value) }
         ensures none { IfNone result (MissesAll self.old self.new) }
     {
         let from = self.from.min(SLOTS);
@@ -139,21 +137,21 @@ impl Hand {
     }
 
     /// Claims the first tick that it finds in these slots.
-    fn claim_within(&mut self, slots: &Slots<Offer>, first: u32, end: u32) -> Option<Tick>
+    fn claim_within(&mut self, slots: &Slots<Offer>, first: u32, end: u32) -> Option<Box<Tick>>
         requires seat { self.old.slots ≡ slots_id slots.now }
         requires free { self.old.slot ≡ None }
         requires range { (first ≤ end) × (end ≤ self.old.slots.slots) }
-        ensures some { IfSome result (ClaimsOne self.old self.new) }
+        ensures some { IfSome result (λ t. ClaimsOne self.old self.new t.value) }
         ensures none { IfNone result (MissesThese self.old self.new (numbers_from first end)) }
     {
         for i in first..end {
             match slots.try_claim(&mut self.worker, i) {
-                Claim::Claimed(Offer { tick: Some(tick) }) => {
+                Claim::Claimed(offer) => {
+                    let tick = offer.into_tick();
                     self.region = Some(tick.region);
                     self.from = i;
                     return Some(tick);
                 }
-                Claim::Claimed(Offer { tick: None }) => unreachable!(),
                 Claim::Taken(_) => {}
             }
         }

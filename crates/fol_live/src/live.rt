@@ -5,7 +5,6 @@ ghost use Rattle.fol_model.specs.declared.closings.OwnerRow.{OwnerRow};
 ghost use Rattle.fol_model.specs.Geometry.{is_chunk};
 ghost use Rattle.fol_model.specs.Limits.{is_action, is_delay, may_post};
 ghost use Rattle.fol_lock.specs.Lock.{seat_count};
-ghost use Rattle.fol_live.specs.Results.{released_of};
 
 use crate::answers::{LivePhase, Owners, TryBegin};
 use crate::deal::deal;
@@ -288,28 +287,27 @@ impl Live {
     /// Ends the tick that the seat holds, once all of its tasks ran. Returns the length of the history with the End, or out of memory with the
     /// tick, which is the same, and which the seat holds still. It also works after a Stop.
     ///
-    /// Behind the End the seat may begin and end further ticks in which nothing happens, of the region if it owes some, but at most `most`: where
-    /// no task is due in them, no entity has a speed and their release changes nothing. Which of them it leaves to `try_begin` is free.
+    /// Behind the End the seat may begin and end further ticks of the region in which nothing happens, at most `most`: where no task is due in
+    /// them, no entity has a speed and their release changes nothing. How many of them it leaves to `try_begin` is free.
     pub fn release<R: Wait>(
         &self,
         rt: &R,
         seat: &mut Seat,
-        tick: Tick,
+        tick: Box<Tick>,
         most: u32,
-    ) -> Result<u64, Tick>
+    ) -> Result<u64, Box<Tick>>
         requires own { seat.old.lock ≡ live_id self.now }
-        requires ran { HoldsRun seat.old tick }
-        ensures { Releases seat.old seat.new tick most result }
+        requires ran { HoldsRun seat.old tick.value }
+        ensures { Releases seat.old seat.new tick.value most result }
     {
-        let mut tick = tick;
         let mut turn = self.lock.take(rt, &mut seat.seat);
         let world = turn.state();
         let hand = meet(world, &self.slots, seat.hand.take());
-        let (hand, answer) = end(world, &self.slots, hand, &mut tick, most);
+        let (hand, answer) = end(world, &self.slots, hand, tick, most);
         seat.hand = hand;
         seat.front = world.front();
         self.lock.give(&mut seat.seat, turn);
-        released(answer, tick)
+        answer
     }
 }
 
@@ -322,15 +320,5 @@ fn owners_after(front: u64, answer: Result<Vec<OwnerRow>, AllocError>) -> Result
     match answer {
         Ok(rows) => Ok(Owners { front, rows }),
         Err(_) => Err(AllocError),
-    }
-}
-
-/// What giving a tick back came to.
-fn released(answer: Result<u64, AllocError>, tick: Tick) -> Result<u64, Tick>
-    ensures { result ≡ released_of answer tick }
-{
-    match answer {
-        Ok(length) => Ok(length),
-        Err(_) => Err(tick),
     }
 }

@@ -1,7 +1,6 @@
 //! What a world does for the ticks of its workers.
 
-ghost use Rattle.std.specs.Prelude.{◌≡◌, OnErr, OnOk};
-ghost use Rattle.fol_data.specs.declared.tick.Tick.{Tick};
+ghost use Rattle.std.specs.Prelude.{◌≡◌, IfErr, OnErr, OnOk};
 ghost use Rattle.fol_slots.specs.Shown.{freed};
 ghost use Rattle.fol_slots.specs.Table.{slots_id};
 ghost use Rattle.fol_core.specs.Ticks.{SameTick};
@@ -13,7 +12,6 @@ use crate::world::World;
 use fol_data::Tick;
 use fol_offers::Offer;
 use fol_slots::{Slots, WorkerSeat};
-use std::alloc::AllocError;
 
 impl World {
     /// Meets a worker that claimed the tick of this region: the worker records its Begin, unless it was learnt before. Whatever a worker
@@ -31,10 +29,11 @@ impl World {
         ensures open { HasOpen self.new seat }
         ensures seat { result ≡ seat }
     {
-        self.is_short = true;
         let seat = self.offers.meet(slots, seat, region);
         self.offers.keeps();
-        self.offer_rest(slots);
+        if self.is_short {
+            self.offer_rest(slots);
+        }
         seat
     }
 
@@ -45,16 +44,16 @@ impl World {
         &mut self,
         slots: &Slots<Offer>,
         seat: WorkerSeat<Offer>,
-        tick: &mut Tick,
+        tick: Box<Tick>,
         most: u32,
-    ) -> (WorkerSeat<Offer>, Result<u64, AllocError>)
+    ) -> (WorkerSeat<Offer>, Result<u64, Box<Tick>>)
         requires own { self.old.slots ≡ slots_id slots.now }
         requires seat { seat.slots ≡ slots_id slots.now }
-        requires ran { GivesBack seat tick.old }
-        ensures ends { EndsAndPasses self.old self.new tick.old most result.1 }
+        requires ran { GivesBack seat tick.value }
+        ensures ends { EndsAndPasses self.old self.new tick.value most result.1 }
         ensures freed { OnOk result.1 (result.0 ≡ freed seat) }
         ensures kept { OnErr result.1 (result.0 ≡ seat) }
-        ensures same { OnErr result.1 (SameTick tick.old tick.new) }
+        ensures back { IfErr result.1 (λ t. SameTick tick.value t.value) }
     {
         let by = tick.worker;
         let region = tick.region;
@@ -65,9 +64,9 @@ impl World {
                 self.offer_rest(slots);
                 (seat, Ok(length))
             }
-            Err(_) => {
+            Err(tick) => {
                 self.offer_rest(slots);
-                (seat, Err(AllocError))
+                (seat, Err(tick))
             }
         }
     }
@@ -77,17 +76,17 @@ impl World {
         &mut self,
         slots: &Slots<Offer>,
         seat: WorkerSeat<Offer>,
-        tick: &mut Tick,
-    ) -> (WorkerSeat<Offer>, Result<u64, AllocError>)
+        tick: Box<Tick>,
+    ) -> (WorkerSeat<Offer>, Result<u64, Box<Tick>>)
         requires own { self.old.slots ≡ slots_id slots.now }
         requires seat { seat.slots ≡ slots_id slots.now }
-        requires ran { GivesBack seat tick.old }
-        ensures ends { Ends self.old self.new tick.old result.1 }
+        requires ran { GivesBack seat tick.value }
+        ensures ends { Ends self.old self.new tick.value result.1 }
         ensures free { OnOk result.1
-            (IsFree self.new.workers self.new.history tick.old.worker) }
+            (IsFree self.new.workers self.new.history tick.value.worker) }
         ensures freed { OnOk result.1 (result.0 ≡ freed seat) }
         ensures kept { OnErr result.1 (result.0 ≡ seat) }
-        ensures same { OnErr result.1 (SameTick tick.old tick.new) }
+        ensures back { IfErr result.1 (λ t. SameTick tick.value t.value) }
     {
         self.is_short = true;
         let (seat, answer) = self.offers.end(self.alloc, slots, seat, tick);
@@ -99,7 +98,7 @@ impl World {
     fn pass(&mut self, slots: &Slots<Offer>, by: u32, region: u64, most: u32)
         requires own { self.old.slots ≡ slots_id slots.now }
         requires free { IsFree self.old.workers self.old.history by }
-        ensures { PassesOn self.old self.new by most }
+        ensures { PassesOn self.old self.new by region most }
     {
         self.is_short = true;
         let _passed = self.offers.pass(slots, by, region, most);

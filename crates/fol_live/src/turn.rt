@@ -1,8 +1,7 @@
 //! What a seat does first in its turn, and how it ends its tick.
 
-ghost use Rattle.std.specs.Prelude.{◌≡◌, None, Some, OnErr, OnOk};
+ghost use Rattle.std.specs.Prelude.{◌≡◌, None, Some, IfErr, OnErr, OnOk};
 ghost use Rattle.std.specs.Option.{ForSome};
-ghost use Rattle.fol_data.specs.declared.tick.Tick.{Tick};
 ghost use Rattle.fol_core.specs.Ticks.{SameTick};
 ghost use Rattle.fol_live.specs.Turns.{EndsAndPasses};
 ghost use Rattle.fol_slots.specs.Shown.{freed};
@@ -14,7 +13,6 @@ use crate::world::World;
 use fol_data::Tick;
 use fol_offers::Offer;
 use fol_slots::Slots;
-use std::alloc::AllocError;
 
 /// If the seat holds a tick, its Begin is recorded, unless it was learnt before.
 pub(crate) fn meet(world: &mut World, slots: &Slots<Offer>, hand: Option<Hand>) -> Option<Hand>
@@ -37,16 +35,16 @@ pub(crate) fn end(
     world: &mut World,
     slots: &Slots<Offer>,
     hand: Option<Hand>,
-    tick: &mut Tick,
+    tick: Box<Tick>,
     most: u32,
-) -> (Option<Hand>, Result<u64, AllocError>)
+) -> (Option<Hand>, Result<u64, Box<Tick>>)
     requires own { world.old.slots ≡ slots_id slots.now }
     requires seat { IsAt (slots_id slots.now) hand }
-    requires ran { GivesIn hand tick.old }
-    ensures ends { EndsAndPasses world.old world.new tick.old most result.1 }
+    requires ran { GivesIn hand tick.value }
+    ensures ends { EndsAndPasses world.old world.new tick.value most result.1 }
     ensures freed { OnOk result.1 (ForSome hand (λ w. result.0 ≡ Some (freed w))) }
     ensures kept { OnErr result.1 (result.0 ≡ hand) }
-    ensures same { OnErr result.1 (SameTick tick.old tick.new) }
+    ensures back { IfErr result.1 (λ t. SameTick tick.value t.value) }
 {
     match hand {
         Some(hand) => {

@@ -78,7 +78,7 @@ fn a_load_learns_of_two_claimed_ticks(rt: HostRuntime) {
     open(&rt, &live, &mut caller);
     let tick = claim(&rt, &live, &mut first);
     let other = claim(&rt, &live, &mut second);
-    are_two(&rt, &tick, &other);
+    are_two(&rt, &*tick, &*other);
     finds_none(&rt, &live, &mut third);
     ask_meanwhile(&rt, &live, &mut caller);
     // The region between waits for both. At the first End it joins that region, which then waits for the other, and joins it at the second End.

@@ -57,12 +57,12 @@ pub fn last(rt: &impl Abort, live: &Live, seats: &mut Vec<Seat>, number: u32) ->
 }
 
 /// Claims a tick, which is offered. The seat sees nothing more of the history.
-pub fn claim(rt: &impl Abort, live: &Live, seat: &mut Seat) -> Tick
+pub fn claim(rt: &impl Abort, live: &Live, seat: &mut Seat) -> Box<Tick>
     requires free { IsFree (live_id live.now) seat.old }
     requires worker { seat.old.number ≢ 0 }
     ensures own { seat.new.lock ≡ live_id live.now }
     ensures number { seat.new.number ≡ seat.old.number }
-    ensures holds { HoldsTick seat.new result }
+    ensures holds { HoldsTick seat.new result.value }
 {
     match live.try_begin(seat) {
         TryBegin::Got(tick) => tick,
@@ -99,9 +99,9 @@ fn run<R: Abort + Wait>(rt: &R, alloc: Global, live: &Live, seat: Seat, tick: &m
 }
 
 /// Gives a tick back that has run. Of the ticks behind it, in which nothing happens, this many are passed over: each is a Begin and an End.
-fn release<R: Abort + Wait>(rt: &R, live: &Live, seat: &mut Seat, tick: Tick, quiet: u32)
+fn release<R: Abort + Wait>(rt: &R, live: &Live, seat: &mut Seat, tick: Box<Tick>, quiet: u32)
     requires own { seat.old.lock ≡ live_id live.now }
-    requires holds { HoldsRun seat.old tick }
+    requires holds { HoldsRun seat.old tick.value }
     ensures free { IsFree (live_id live.now) seat.new }
     ensures number { seat.new.number ≡ seat.old.number }
 {
@@ -121,15 +121,15 @@ pub fn end<R: Abort + Wait>(
     alloc: Global,
     live: &Live,
     seat: Seat,
-    mut tick: Tick,
+    mut tick: Box<Tick>,
     quiet: u32,
 ) -> Seat
     requires own { seat.lock ≡ live_id live.now }
-    requires holds { HoldsTick seat tick }
+    requires holds { HoldsTick seat tick.value }
     ensures free { IsFree (live_id live.now) result }
     ensures number { result.number ≡ seat.number }
 {
-    let mut seat = run(rt, alloc, live, seat, &mut tick);
+    let mut seat = run(rt, alloc, live, seat, &mut *tick);
     release(rt, live, &mut seat, tick, quiet);
     seat
 }

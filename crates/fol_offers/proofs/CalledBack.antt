@@ -15,6 +15,7 @@ use Rattle.fol_model.specs.QueuedTask.{begun}
 use Rattle.fol_model.specs.Begin.{begin}
 use Rattle.fol_model.specs.Add.{is_full, is_near, wanted}
 use Rattle.fol_model.specs.Counting.{count_below}
+use Rattle.fol_model.specs.GridState.{is_ready}
 use Rattle.fol_model.specs.ActionStep.{at_id}
 use Rattle.fol_model.specs.OpenTick.{NoEnd}
 use Rattle.fol_model.specs.Universe.{numbers_below}
@@ -192,6 +193,13 @@ back_listed a b by c ids ready is back = back_as a b by (lists ids) back (may_to
   where
     flipped : (r : ℕ) (xs : List ℕ) → lists xs r ≡ list_any (nat_eq r) xs
     flipped r xs = ap (λ (f : ℕ → Bool). list_any f xs) (fun_ext (λ id. same_answer (nat_eq id r) (nat_eq r id) (λ e. eq-eqb r id (sym (eqb-true id r e))) (λ e. eq-eqb id r (sym (eqb-true r id e)))))
+
+-- and by one region, which owns the section of the chunk
+pub back_alone : (a b : Shown) (by : ℕ) (c : ChunkPos) (id : ℕ) → PreparedAreReady a.core
+    → ((r : ℕ) → may_touch (world_of a.core) c r ≡ (is_ready ((world_of a.core).grid.state r) && nat_eq id r))
+    → CallsBack a b by (nat_eq id) → CallsBack a b by (may_touch (world_of a.core) c)
+back_alone a b by c id ready alone back = back_as a b by (nat_eq id) back (may_touch (world_of a.core) c) (λ r marked.
+    sym (alone r ∙ ap (λ (x : Bool). x && nat_eq id r) (ready r marked).1))
 
 -- first those of one test and then those of another
 pub back_both : (a b c : Shown) (by : ℕ) (f g : ℕ → Bool) → CallsBack a b by f → CallsBack b c by g → CallsBack a c by (λ r. f r || g r)

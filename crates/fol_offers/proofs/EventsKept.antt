@@ -31,7 +31,7 @@ use Rattle.fol_core.specs.Meaning.{Meaning, Stays, Unchanged, is_prepared, world
 use Rattle.fol_tick_laws.specs.Touching.{IsSpared, is_touched}
 use Rattle.fol_tick_laws.proofs.Touching.{touched_within}
 use Rattle.fol_slots.specs.Shown.{Keeper}
-use Rattle.fol_offers.specs.declared.offer.Offer.{Offer}
+use Rattle.fol_offers.specs.Offered.{Offered}
 use Rattle.fol_offers.specs.Shown.{CallsBack, Shown}
 use Rattle.fol_offers.specs.Tied.{Tied}
 use Rattle.fol_offers.proofs.CalledBack.{back_may, back_spared}
@@ -39,7 +39,7 @@ use Rattle.fol_offers.proofs.Facts.{none_outside, prepared_ready}
 use Rattle.fol_offers.proofs.Tying.{one_more, tied_event, tied_stays}
 
 -- once all was called back that it may touch, an event on a chunk spares what is prepared still
-pub spared : (a b : Shown) (s : Keeper Offer) (xs : List ℕ) (by : ℕ) (c : ChunkPos) → Tied b.core s xs → Run b.core.opening b.core.history → CallsBack a b by (may_touch (world_of a.core) c) → IsSpared b.core c
+pub spared : (a b : Shown) (s : Keeper Offered) (xs : List ℕ) (by : ℕ) (c : ChunkPos) → Tied b.core s xs → Run b.core.opening b.core.history → CallsBack a b by (may_touch (world_of a.core) c) → IsSpared b.core c
 spared a b s xs by c t run back =
     let none : (r : ℕ) → is_prepared b.core r ≡ true → is_touched (world_of b.core) c r ≡ false = λ r marked. false_from_ne_true (is_touched (world_of b.core) c r) (λ touched.
     let ready : is_ready ((world_of b.core).grid.state r) ≡ true = ap is_ready (prepared_ready b.core s xs r t run marked) in
@@ -68,7 +68,7 @@ over_posted w c d x = elim (cases_Bool (is_full w.grid c)) [ inl f ↦ rw f refl
 
 -- ---- events that spare what is prepared
 
-module _ (m n : Meaning) (s : Keeper Offer) (xs : List ℕ) (by : ℕ) (t : Tied m s xs) where
+module _ (m n : Meaning) (s : Keeper Offered) (xs : List ℕ) (by : ℕ) (t : Tied m s xs) where
   same : Unchanged m n → Tied n s xs
   same did = tied_stays m n s xs record { opening = did.opening; history = did.history; prepared = did.prepared } t
 

@@ -32,7 +32,7 @@ use Rattle.fol_core.proofs.OutAtBegin.{of_later, flat_later}
 use Rattle.fol_tick_laws.specs.OpenTicks.{IsOpen}
 use Rattle.fol_tick_laws.proofs.OpenTicks.{may_begin}
 use Rattle.fol_slots.specs.Shown.{Keeper, place_at}
-use Rattle.fol_offers.specs.declared.offer.Offer.{Offer}
+use Rattle.fol_offers.specs.Offered.{Offered}
 use Rattle.fol_offers.specs.Fit.{IsFitTick}
 use Rattle.fol_offers.specs.Places.{region_at}
 use Rattle.fol_offers.specs.Tied.{InUse, Tied, Waits}
@@ -142,7 +142,7 @@ open_ticks m t grid run is = (begun_ticks m.opening m.history (is.made.before ++
 -- ---- slots
 
 -- a region that is free has no slot
-pub free_has_none : (m : Meaning) (s : Keeper Offer) (xs : List ℕ) (r : ℕ) → Tied m s xs → Run m.opening m.history → is_free m r ≡ true → (i : ℕ) → region_at xs i ≢ r
+pub free_has_none : (m : Meaning) (s : Keeper Offered) (xs : List ℕ) (r : ℕ) → Tied m s xs → Run m.opening m.history → is_free m r ≡ true → (i : ℕ) → region_at xs i ≢ r
 free_has_none m s xs r t run free i is =
     let given = free_given m r t.grid run free in
     let above : 0 < r = given.above in
@@ -177,7 +177,7 @@ stays_free m n r same =
     λ k. is_owing (world_is k) r && not (same.prepared k r)
 
 -- the tick of a prepared region waits
-pub prepared_waits : (m : Meaning) (s : Keeper Offer) (xs : List ℕ) (r : ℕ) → Tied m s xs → is_prepared m r ≡ true → (t : Tick) × Waits m r t
+pub prepared_waits : (m : Meaning) (s : Keeper Offered) (xs : List ℕ) (r : ℕ) → Tied m s xs → is_prepared m r ≡ true → (t : Tick) × Waits m r t
 prepared_waits m s xs r t marked =
     let z = t.prepared r marked in
     let i : ℕ = z.0 in
@@ -185,22 +185,22 @@ prepared_waits m s xs r t marked =
     (u.tick, u.waits (no_worker (place_at s i).found (λ j found. true≢false (sym marked ∙ (u.runs j found).unprepared))))
 
 -- the history is not over
-pub prepared_on : (m : Meaning) (s : Keeper Offer) (xs : List ℕ) (r : ℕ) → Tied m s xs → is_prepared m r ≡ true → is_over (world_of m) ≡ false
+pub prepared_on : (m : Meaning) (s : Keeper Offered) (xs : List ℕ) (r : ℕ) → Tied m s xs → is_prepared m r ≡ true → is_over (world_of m) ≡ false
 prepared_on m s xs r t marked = false_from_ne_true (is_over (world_of m)) (λ over. true≢false (sym marked ∙ t.calm over r))
 
 -- the region is Ready
-pub prepared_ready : (m : Meaning) (s : Keeper Offer) (xs : List ℕ) (r : ℕ) → Tied m s xs → Run m.opening m.history → is_prepared m r ≡ true → (world_of m).grid.state r ≡ Ready
+pub prepared_ready : (m : Meaning) (s : Keeper Offered) (xs : List ℕ) (r : ℕ) → Tied m s xs → Run m.opening m.history → is_prepared m r ≡ true → (world_of m).grid.state r ≡ Ready
 prepared_ready m s xs r t run marked = let w = prepared_waits m s xs r t marked in waits_ready m r w.0 t.grid run w.1
 
 -- and its id was given out
-pub prepared_below : (m : Meaning) (s : Keeper Offer) (xs : List ℕ) (r : ℕ) → Tied m s xs → Run m.opening m.history → is_prepared m r ≡ true → r < (world_of m).grid.next
+pub prepared_below : (m : Meaning) (s : Keeper Offered) (xs : List ℕ) (r : ℕ) → Tied m s xs → Run m.opening m.history → is_prepared m r ≡ true → r < (world_of m).grid.next
 prepared_below m s xs r t run marked =
     let rules : Rules (world_of m).grid = rules_hold m.opening m.history [] t.grid (rw append-nil run) in
     let ready : (world_of m).grid.state r ≡ Ready = prepared_ready m s xs r t run marked in
     rules.below_next r (λ dead. let never : false ≡ true = rw dead at (ap is_ready ready) in absurd (true≢false (sym never)))
 
 -- outside phases no region owes a tick, so that none is prepared
-pub none_outside : (m : Meaning) (s : Keeper Offer) (xs : List ℕ) → Tied m s xs → Run m.opening m.history → (world_of m).in_phase ≡ false → NonePrepared m
+pub none_outside : (m : Meaning) (s : Keeper Offered) (xs : List ℕ) → Tied m s xs → Run m.opening m.history → (world_of m).in_phase ≡ false → NonePrepared m
 none_outside m s xs t run outside r = false_from_ne_true (is_prepared m r) (λ marked.
     let w = prepared_waits m s xs r t marked in
     let ready : (world_of m).grid.state r ≡ Ready = waits_ready m r w.0 t.grid run w.1 in

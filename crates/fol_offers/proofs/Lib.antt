@@ -6,6 +6,7 @@ pub mod FitTicks
 pub mod FreeSlots
 pub mod Matching
 pub mod MetTicks
+pub mod NoneLeft
 pub mod Offering
 pub mod Passing
 pub mod QuietTicks

@@ -1,11 +1,11 @@
 -- A region gets a slot, and loses it.
-use Rattle.std.proofs.Common.{◌≡◌, ◌≢◌, ℕ, ◌<◌, List, length, set, sym, refl, ap, ◌∙◌, subst, cond, Bool, true, false, Some, None, nat_eq, arith, length-set, get_or-set_other, get_or-set_same, inl, inr}
-use Rattle.std.specs.Map.{lookup}
+use Rattle.std.proofs.Common.{◌≡◌, ◌≢◌, ℕ, ◌<◌, List, length, set, sym, refl, ap, ◌∙◌, subst, cond, Bool, true, false, Option, Some, None, nat_eq, arith, length-set, get_or-set_other, get_or-set_same, inl, inr}
+use Rattle.std.proofs.Math.ListN.{get_or-eq_default}
 use Rattle.std.proofs.lemmas.Bool.Decides.{eqb_tells}
-use Rattle.std.proofs.lemmas.Bool.{eq-eqb, ne_eqb}
+use Rattle.std.proofs.lemmas.Bool.{cases_lt, eq-eqb, ne_eqb}
 use mathlib.Core.Logic.{dite}
 use native.Mathlib.Decide.{ℕ_discrete}
-use Rattle.fol_offers.specs.Places.{AreMatched, region_at}
+use Rattle.fol_offers.specs.Places.{AreMatched, region_at, slot_in}
 
 some_same : (a b : ℕ) → Some a ≡ Some b → a ≡ b
 some_same a b e = cc
@@ -19,9 +19,27 @@ hit b x u v e h = subst (λ (z : Bool). x ≡ cond z u v) e h
 miss : {A : Type 0} (b : Bool) (x u v : A) → b ≡ false → x ≡ cond b u v → x ≡ v
 miss b x u v e h = subst (λ (z : Bool). x ≡ cond z u v) e h
 
-module _ (xs : List ℕ) (rows rows' : List (ℕ × ℕ)) (m : AreMatched xs rows) where
+-- the slot of one region is changed
+pub slot_set : (slots : List (Option ℕ)) (r : ℕ) (slot : Option ℕ) → r < length slots
+    → (q : ℕ) → slot_in (set slots r slot) q ≡ cond (nat_eq r q) slot (slot_in slots q)
+slot_set slots r slot inside q = elim (eqb_tells r q) [
+  | inl k ↦ rw k.0 (ap (slot_in (set slots r slot)) (sym k.1) ∙ get_or-set_same slots r slot None inside)
+  | inr k ↦ rw k.0 (get_or-set_other slots r q slot None (λ e. k.1 (sym e)))
+]
+
+-- a region with a slot is in the list
+pub slot_below : (slots : List (Option ℕ)) (r i : ℕ) → slot_in slots r ≡ Some i → r < length slots
+slot_below slots r i e = elim (cases_lt r (length slots)) [
+  | inl l ↦ l
+  | inr l ↦ absurd (not_none i (sym (get_or-eq_default slots None l) ∙ e))
+]
+
+module _ (xs : List ℕ) (slots slots' : List (Option ℕ)) (m : AreMatched xs slots) where
+  pub same_matched : ((q : ℕ) → slot_in slots' q ≡ slot_in slots q) → AreMatched xs slots'
+  same_matched same = record { there = λ q j e. m.there q j (sym (same q) ∙ e); all = λ j p. same (region_at xs j) ∙ m.all j p }
+
   pub put_matched : (r i : ℕ) → 0 < r → i < length xs → region_at xs i ≡ 0 → ((j : ℕ) → region_at xs j ≢ r)
-      → ((q : ℕ) → lookup (nat_eq q) rows' ≡ cond (nat_eq r q) (Some i) (lookup (nat_eq q) rows)) → AreMatched (set xs i r) rows'
+      → ((q : ℕ) → slot_in slots' q ≡ cond (nat_eq r q) (Some i) (slot_in slots q)) → AreMatched (set xs i r) slots'
   put_matched r i some inside empty fresh updates = record {
     there = λ q j e. elim (eqb_tells r q) [
       | inl k ↦ let found : Some i ≡ Some j = sym (hit _ _ _ _ k.0 (updates q)) ∙ e in let same = some_same i j found in
@@ -39,7 +57,7 @@ module _ (xs : List ℕ) (rows rows' : List (ℕ × ℕ)) (m : AreMatched xs row
   }
 
   pub clear_matched : (r i : ℕ) → i < length xs → region_at xs i ≡ r
-      → ((q : ℕ) → lookup (nat_eq q) rows' ≡ cond (nat_eq r q) None (lookup (nat_eq q) rows)) → AreMatched (set xs i 0) rows'
+      → ((q : ℕ) → slot_in slots' q ≡ cond (nat_eq r q) None (slot_in slots q)) → AreMatched (set xs i 0) slots'
   clear_matched r i inside is updates = record {
     there = λ q j e. elim (eqb_tells r q) [
       | inl k ↦ absurd (not_none j (sym (hit _ _ _ _ k.0 (updates q)) ∙ e))
@@ -50,6 +68,6 @@ module _ (xs : List ℕ) (rows rows' : List (ℕ × ℕ)) (m : AreMatched xs row
         (λ same. absurd (let z = ap (region_at (set xs i 0)) same ∙ get_or-set_same xs i 0 0 inside in omega arith))
         (λ ne. let here : region_at (set xs i 0) j ≡ region_at xs j = get_or-set_other xs i j 0 0 ne in
         let old = m.all j (subst (λ (z : ℕ). 0 < z) here p) in
-        let n = ne_eqb r (region_at xs j) (λ d. let e : region_at xs i ≡ region_at xs j = is ∙ d in let a = m.all i (subst (λ (z : ℕ). 0 < z) (here ∙ sym e) p) in ne (sym (some_same i j (sym a ∙ (ap (λ (z : ℕ). lookup (nat_eq z) rows) e ∙ old))))) in
+        let n = ne_eqb r (region_at xs j) (λ d. let e : region_at xs i ≡ region_at xs j = is ∙ d in let a = m.all i (subst (λ (z : ℕ). 0 < z) (here ∙ sym e) p) in ne (sym (some_same i j (sym a ∙ (ap (λ (z : ℕ). slot_in slots z) e ∙ old))))) in
         rw here (miss _ _ _ _ n (updates (region_at xs j)) ∙ old));
   }

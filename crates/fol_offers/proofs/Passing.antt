@@ -10,7 +10,7 @@ use Rattle.fol_data.specs.declared.tick.Tick.{Tick}
 use Rattle.fol_core.specs.Meaning.{Meaning, Records, is_prepared, world_of}
 use Rattle.fol_tick_laws.proofs.OpenTicks.{open_more, open_same}
 use Rattle.fol_slots.specs.declared.view.Place.{Place}
-use Rattle.fol_offers.specs.declared.offer.Offer.{Offer}
+use Rattle.fol_offers.specs.Offered.{Offered}
 use Rattle.fol_offers.specs.Tied.{InUse, Runs, Waits}
 
 -- the tick of region q is in n where it is in m, whether it waits or runs
@@ -18,7 +18,7 @@ pub record Passes (m n : Meaning) (q : ℕ) : Type 0 where
   pub waits : (t : Tick) → Waits m q t → Waits n q t
   pub runs : (k : ℕ) (t : Tick) → Runs m q k t → Runs n q k t
 
-pub in_use_passes : (m n : Meaning) (q : ℕ) (p : Place Offer) → Passes m n q → InUse m q p → InUse n q p
+pub in_use_passes : (m n : Meaning) (q : ℕ) (p : Place Offered) → Passes m n q → InUse m q p → InUse n q p
 in_use_passes m n q p by u = record {
   kept = u.kept;
   tick = u.tick;

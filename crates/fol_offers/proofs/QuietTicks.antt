@@ -21,7 +21,7 @@ use Rattle.fol_core.specs.Quiet.{Passes, quiet_tick, quiet_ticks}
 use Rattle.fol_seat_laws.specs.InTurn.{NoneOpen}
 use Rattle.fol_seat_laws.proofs.Splits.{none_before}
 use Rattle.fol_slots.specs.Shown.{Keeper, place_at}
-use Rattle.fol_offers.specs.declared.offer.Offer.{Offer}
+use Rattle.fol_offers.specs.Offered.{Offered}
 use Rattle.fol_offers.specs.Places.{region_at}
 use Rattle.fol_offers.specs.Shown.{CallsBack, IsLearnt, Shown}
 use Rattle.fol_offers.specs.Tied.{Tied}
@@ -51,7 +51,7 @@ end by r t = record { by = by; event = End by r t [] [] }
 
 -- ---- one tick
 
-module _ (m n : Meaning) (s : Keeper Offer) (xs : List ℕ) (tied : Tied m s xs) (by r t : ℕ) (opening : n.opening ≡ m.opening) (history : n.history ≡ m.history ++ quiet_tick by r t) (prepared : is_prepared n ≡ is_prepared m)
+module _ (m n : Meaning) (s : Keeper Offered) (xs : List ℕ) (tied : Tied m s xs) (by r t : ℕ) (opening : n.opening ≡ m.opening) (history : n.history ≡ m.history ++ quiet_tick by r t) (prepared : is_prepared n ≡ is_prepared m)
     (run : Run n.opening n.history) (unprepared : is_prepared m r ≡ false) where
   -- the core between Begin and End
   abbrev mid : Meaning
@@ -149,7 +149,7 @@ module _ (m n : Meaning) (s : Keeper Offer) (xs : List ℕ) (tied : Tied m s xs)
 
 -- ---- several ticks
 
-module _ (s : Keeper Offer) (xs : List ℕ) (by r t : ℕ) (few : (1 ≤ by) × (by ≤ s.workers)) where
+module _ (s : Keeper Offered) (xs : List ℕ) (by r t : ℕ) (few : (1 ≤ by) × (by ≤ s.workers)) where
   tied_some : (k : ℕ) (m n : Meaning) → Tied m s xs → n.opening ≡ m.opening → n.history ≡ m.history ++ quiet_ticks by r t k → is_prepared n ≡ is_prepared m → Run n.opening n.history → is_prepared m r ≡ false → NoneOpen by m.history
       → Tied n s xs × NoneOpen by n.history
   unfolding quiet_ticks
@@ -191,7 +191,7 @@ none_learnt a b caller by r grid run back ready none = go back.learnt back.histo
         absurd (never (sym ready ∙ (begun_ticks b.core.opening b.core.history a.core.history es caller l.worker r grid run is (learnt_no_end a.core (nat_eq r) caller r [] es tt begins.1)).0))
 
 -- the worker passed ticks of a region that was called back
-pub tied_passes : (a b : Shown) (n : Meaning) (s : Keeper Offer) (xs : List ℕ) (by r k : ℕ) → Tied b.core s xs → Run b.core.opening b.core.history → Run n.opening n.history → CallsBack a b by (nat_eq r) → is_prepared b.core r ≡ false
+pub tied_passes : (a b : Shown) (n : Meaning) (s : Keeper Offered) (xs : List ℕ) (by r k : ℕ) → Tied b.core s xs → Run b.core.opening b.core.history → Run n.opening n.history → CallsBack a b by (nat_eq r) → is_prepared b.core r ≡ false
     → (1 ≤ by) × (by ≤ s.workers) → NoneOpen by a.core.history → Passes b.core n by r k → Tied n s xs
 tied_passes a b n s xs by r zero tied run after_it back unprepared few none did = tied_stays b.core n s xs record { opening = did.opening; history = did.history ∙ (ap (λ (es : List Entry). b.core.history ++ es) (no_ticks by r ((world_of b.core).tick r)) ∙ append-nil b.core.history); prepared = did.prepared } tied
 tied_passes a b n s xs by r (suc k) tied run after_it back unprepared few none did =

@@ -15,7 +15,7 @@ use Rattle.fol_seat_laws.specs.Signed.{IsBegunBelow, is_start}
 use Rattle.fol_seat_laws.proofs.InTick.{start_is}
 use Rattle.fol_seat_laws.proofs.Splits.{all_behind, none_before, stands}
 use Rattle.fol_slots.specs.Shown.{FoundOnlyAt, Keeper, place_at}
-use Rattle.fol_offers.specs.declared.offer.Offer.{Offer}
+use Rattle.fol_offers.specs.Offered.{Offered}
 use Rattle.fol_offers.specs.InTurn.{IsFree, TakeTurns}
 use Rattle.fol_offers.specs.Places.{region_at}
 use Rattle.fol_offers.specs.Tied.{InUse, Tied}
@@ -118,7 +118,7 @@ module _ (w k r : ℕ) (h zs since : List Entry) (b e : Entry) (t : TakeTurns w 
 -- ---- who was found
 
 -- a worker that was found at the slot of a prepared region, and at no other, has no open tick
-pub none_open : (m : Meaning) (s : Keeper Offer) (xs : List ℕ) (i k : ℕ) → Tied m s xs → Run m.opening m.history → is_prepared m (region_at xs i) ≡ true → FoundOnlyAt s k i → NoneOpen k m.history
+pub none_open : (m : Meaning) (s : Keeper Offered) (xs : List ℕ) (i k : ℕ) → Tied m s xs → Run m.opening m.history → is_prepared m (region_at xs i) ≡ true → FoundOnlyAt s k i → NoneOpen k m.history
 none_open m s xs i k t run marked only before e since r is begins runs_on =
     let begun : m.history ≡ before ++ (record { by = e.by; event = Begin k r }) ∷ since = is ∙ ap (λ (v : Event). before ++ (record { by = e.by; event = v }) ∷ since) begins in
     let b = begun_ticks m.opening m.history before since e.by k r t.grid run begun runs_on in

@@ -31,11 +31,11 @@ use Rattle.fol_slots.specs.declared.view.Place.{Place}
 use Rattle.fol_slots.specs.Shown.{FoundOnlyAt, Keeper, knowing, place_at, keeping, offering, finding, new_keeper}
 use Rattle.fol_slots.specs.Hands as hands
 use Rattle.fol_slots.proofs.Callers.{as_many, place_here, place_else, new_as_many, body_new}
-use Rattle.fol_offers.specs.declared.offer.Offer.{Offer}
+use Rattle.fol_offers.specs.Offered.{Offered, nothing, of_tick}
 use Rattle.fol_offers.specs.InTurn.{TakeTurns}
 use Rattle.fol_offers.specs.Places.{region_at}
 use Rattle.fol_offers.specs.Starts.{NoneTicks}
-use Rattle.fol_offers.specs.Tied.{InUse, Runs, Tied, Waits, nothing, of_tick}
+use Rattle.fol_offers.specs.Tied.{InUse, Runs, Tied, Waits}
 use Rattle.fol_offers.proofs.Facts.{no_worker}
 use Rattle.fol_offers.proofs.FreeSlots.{none_at}
 use Rattle.fol_offers.proofs.Turns.{none_open, turns_begin, turns_other}
@@ -83,7 +83,7 @@ begun_over : (m n : Meaning) (by k r : ℕ) → n.opening ≡ m.opening → n.hi
 begun_over m n by k r opening history = ap is_over (one_more m n (record { by = by; event = Begin k r }) opening history) ∙ over_begun (world_of m) k r
 
 -- nothing is offered yet
-pub tied_first : (m : Meaning) (s : Keeper Offer) (n : ℕ) → IsGrid m.opening.grid → TakeTurns s.workers m.history → NonePrepared m → NoneTicks (world_of m) → s.slots.slots ≡ n → length s.places ≡ n → n < 65536
+pub tied_first : (m : Meaning) (s : Keeper Offered) (n : ℕ) → IsGrid m.opening.grid → TakeTurns s.workers m.history → NonePrepared m → NoneTicks (world_of m) → s.slots.slots ≡ n → length s.places ≡ n → n < 65536
     → ((i : ℕ) → i < n → (place_at s i).kept ≡ Some nothing) → Tied m s (replicate n 0)
 tied_first m s n grid turns none idle slots places few empty = let long : length {A = ℕ} (replicate n 0) ≡ n = length-replicate n 0 in record {
   grid = grid;
@@ -100,20 +100,20 @@ tied_first m s n grid turns none idle slots places few empty = let long : length
 }
 
 -- in the slots of new seats, with bodies of which none has a tick
-pub tied_start : (m : Meaning) (z : TableId) (bodies : List Offer) (workers n : ℕ) → IsGrid m.opening.grid → TakeTurns workers m.history → NonePrepared m → NoneTicks (world_of m) → z.slots ≡ n → length bodies ≡ n → n < 65536
+pub tied_start : (m : Meaning) (z : TableId) (bodies : List Offered) (workers n : ℕ) → IsGrid m.opening.grid → TakeTurns workers m.history → NonePrepared m → NoneTicks (world_of m) → z.slots ≡ n → length bodies ≡ n → n < 65536
     → All (λ b. b ≡ nothing) bodies → Tied m (new_keeper z bodies workers) (replicate n 0)
 tied_start m z bodies workers n grid turns none idle slots count few all = tied_first m (new_keeper z bodies workers) n grid turns none idle slots (new_as_many z bodies ∙ count) few
-    (λ i low. let b : Offer = get_or bodies i nothing in
+    (λ i low. let b : Offered = get_or bodies i nothing in
     let is : b ≡ nothing = all i nothing (rw count low) in
-    ap (λ (p : Place Offer). p.kept) (body_new z bodies i nothing (get_at bodies i nothing (rw count low) is)))
+    ap (λ (p : Place Offered). p.kept) (body_new z bodies i nothing (get_at bodies i nothing (rw count low) is)))
   where
-    get_at : (xs : List Offer) (i : ℕ) (b : Offer) → i < length xs → get_or xs i nothing ≡ b → slice_get xs i ≡ Some b
+    get_at : (xs : List Offered) (i : ℕ) (b : Offered) → i < length xs → get_or xs i nothing ≡ b → slice_get xs i ≡ Some b
     get_at [] i b low e = absurd (omega arith)
-    get_at (x ∷ xs) zero b low e = ap (λ (y : Offer). Some y) e
+    get_at (x ∷ xs) zero b low e = ap (λ (y : Offered). Some y) e
     get_at (x ∷ xs) (suc i) b low e = get_at xs i b (omega arith) e
 
 -- the core stands for what it stood for
-pub tied_stays : (m n : Meaning) (s : Keeper Offer) (xs : List ℕ) → Stays m n → Tied m s xs → Tied n s xs
+pub tied_stays : (m n : Meaning) (s : Keeper Offered) (xs : List ℕ) → Stays m n → Tied m s xs → Tied n s xs
 tied_stays m n s xs same t = record {
   grid = rw same.opening t.grid;
   in_turn = rw same.history t.in_turn;
@@ -129,14 +129,14 @@ tied_stays m n s xs same t = record {
 }
 
 -- a region that ticks is not prepared
-ticking_unprepared : (m : Meaning) (s : Keeper Offer) (xs : List ℕ) (r : ℕ) → Tied m s xs → (world_of m).grid.state r ≡ Ticking → is_prepared m r ≡ false
+ticking_unprepared : (m : Meaning) (s : Keeper Offered) (xs : List ℕ) (r : ℕ) → Tied m s xs → (world_of m).grid.state r ≡ Ticking → is_prepared m r ≡ false
 ticking_unprepared m s xs r t e =
     let z = t.ticking r e in
     let u = t.used z.0 z.3 (subst (λ (x : ℕ). 0 < x) (sym z.4) z.2) in
     ap (is_prepared m) (sym z.4) ∙ (u.runs z.1 z.5).unprepared
 
 -- what the keeper knows of slot i is another thing, and the region of the slot may be
-module _ (m n : Meaning) (s : Keeper Offer) (xs : List ℕ) (t : Tied m s xs) (i q : ℕ) (p : Place Offer) (inside : i < length xs) where
+module _ (m n : Meaning) (s : Keeper Offered) (xs : List ℕ) (t : Tied m s xs) (i q : ℕ) (p : Place Offered) (inside : i < length xs) where
   long : length (set xs i q) ≡ length xs
   long = length-set xs i q
 
@@ -165,18 +165,18 @@ module _ (m n : Meaning) (s : Keeper Offer) (xs : List ℕ) (t : Tied m s xs) (i
     slots = t.slots ∙ sym long;
     few = rw long t.few;
     unused = λ j low e. dite (ℕ_discrete j i)
-        (λ same. ap (λ (x : Place Offer). x.kept) (ap (place_at (knowing s i p)) same ∙ place) ∙ empty (sym here ∙ (ap (region_at (set xs i q)) (sym same) ∙ e)))
-        (λ ne. ap (λ (x : Place Offer). x.kept) (place_else s i j p ne) ∙ t.unused j (rw long at low) (sym (else j ne) ∙ e));
+        (λ same. ap (λ (x : Place Offered). x.kept) (ap (place_at (knowing s i p)) same ∙ place) ∙ empty (sym here ∙ (ap (region_at (set xs i q)) (sym same) ∙ e)))
+        (λ ne. ap (λ (x : Place Offered). x.kept) (place_else s i j p ne) ∙ t.unused j (rw long at low) (sym (else j ne) ∙ e));
     used = λ j low pos. dite (ℕ_discrete j i)
         (λ same.
         let is : region_at (set xs i q) j ≡ q = ap (region_at (set xs i q)) same ∙ here in
         let at : place_at (knowing s i p) j ≡ p = ap (place_at (knowing s i p)) same ∙ place in
-        subst (λ (x : Place Offer). InUse n (region_at (set xs i q) j) x) (sym at) (subst (λ (r : ℕ). InUse n r p) (sym is) (own (subst (λ (r : ℕ). 0 < r) is pos))))
+        subst (λ (x : Place Offered). InUse n (region_at (set xs i q) j) x) (sym at) (subst (λ (r : ℕ). InUse n r p) (sym is) (own (subst (λ (r : ℕ). 0 < r) is pos))))
         (λ ne.
         let is : region_at (set xs i q) j ≡ region_at xs j = else j ne in
         let low_j : j < length xs = rw long at low in
         let pos_j : 0 < region_at xs j = subst (λ (r : ℕ). 0 < r) is pos in
-        subst (λ (x : Place Offer). InUse n (region_at (set xs i q) j) x) (sym (place_else s i j p ne))
+        subst (λ (x : Place Offered). InUse n (region_at (set xs i q) j) x) (sym (place_else s i j p ne))
         (subst (λ (r : ℕ). InUse n r (place_at s j)) (sym is) (in_use_passes m n (region_at xs j) (place_at s j) (others j low_j ne pos_j) (t.used j low_j pos_j))));
     apart = λ j k low_j low_k pos e. dite (ℕ_discrete j i)
         (λ same. dite (ℕ_discrete k i) (λ also. same ∙ sym also)
@@ -196,34 +196,34 @@ module _ (m n : Meaning) (s : Keeper Offer) (xs : List ℕ) (t : Tied m s xs) (i
           (z.0, z.1, subst (λ (l : ℕ). z.0 < l) (sym long) z.2, else z.0 ne ∙ z.3)
     ];
     ticking = λ r e. elim (ticks r e) [
-      | inl is ↦ (i, is.2, subst (λ (x : ℕ). 0 < x) (sym is.0) is.1, subst (λ (l : ℕ). i < l) (sym long) inside, here ∙ sym is.0, ap (λ (x : Place Offer). x.found) place ∙ is.3)
+      | inl is ↦ (i, is.2, subst (λ (x : ℕ). 0 < x) (sym is.0) is.1, subst (λ (l : ℕ). i < l) (sym long) inside, here ∙ sym is.0, ap (λ (x : Place Offered). x.found) place ∙ is.3)
       | inr was ↦ let z = t.ticking r was.0 in
           let ne : z.0 ≢ i = λ same. was.1 (sym z.4 ∙ ap (region_at xs) same) in
-          (z.0, z.1, z.2, subst (λ (l : ℕ). z.0 < l) (sym long) z.3, else z.0 ne ∙ z.4, ap (λ (x : Place Offer). x.found) (place_else s i z.0 p ne) ∙ z.5)
+          (z.0, z.1, z.2, subst (λ (l : ℕ). z.0 < l) (sym long) z.3, else z.0 ne ∙ z.4, ap (λ (x : Place Offered). x.found) (place_else s i z.0 p ne) ∙ z.5)
     ];
   }
 
 -- ---- slots that were known anew twice
 
-module _ (s : Keeper Offer) (i : ℕ) (inside : i < length s.places) where
-  known_twice : (p q : Place Offer) → knowing (knowing s i p) i q ≡ knowing s i q
+module _ (s : Keeper Offered) (i : ℕ) (inside : i < length s.places) where
+  known_twice : (p q : Place Offered) → knowing (knowing s i p) i q ≡ knowing s i q
   known_twice p q = λ k. record { slots = s.slots; places = set_twice s.places i p q k; workers = s.workers }
 
   -- a kept slot got a body, and was offered
-  pub offered_after : (b : Offer) → offering (keeping s i (Some b)) i ≡ knowing s i (hands.place None (Some b) None)
+  pub offered_after : (b : Offered) → offering (keeping s i (Some b)) i ≡ knowing s i (hands.place None (Some b) None)
   offered_after b =
-      let first : Place Offer = hands.place (Some b) (place_at s i).offered None in
-      ap (λ (x : Place Offer). knowing (knowing s i first) i (hands.place None x.kept None)) (place_here s i first inside) ∙ known_twice first (hands.place None (Some b) None)
+      let first : Place Offered = hands.place (Some b) (place_at s i).offered None in
+      ap (λ (x : Place Offered). knowing (knowing s i first) i (hands.place None x.kept None)) (place_here s i first inside) ∙ known_twice first (hands.place None (Some b) None)
 
   -- a slot was kept, and got another body
-  pub emptied_after : (a b : Option Offer) → keeping (keeping s i a) i b ≡ knowing s i (hands.place b (place_at s i).offered None)
+  pub emptied_after : (a b : Option Offered) → keeping (keeping s i a) i b ≡ knowing s i (hands.place b (place_at s i).offered None)
   emptied_after a b =
-      let first : Place Offer = hands.place a (place_at s i).offered None in
-      ap (λ (x : Place Offer). knowing (knowing s i first) i (hands.place b x.offered None)) (place_here s i first inside) ∙ known_twice first (hands.place b (place_at s i).offered None)
+      let first : Place Offered = hands.place a (place_at s i).offered None in
+      ap (λ (x : Place Offered). knowing (knowing s i first) i (hands.place b x.offered None)) (place_here s i first inside) ∙ known_twice first (hands.place b (place_at s i).offered None)
 
 -- ---- the three changes
 
-module _ (m n : Meaning) (s : Keeper Offer) (xs : List ℕ) (t : Tied m s xs) (i r : ℕ) (inside : i < length xs) (some : 0 < r) where
+module _ (m n : Meaning) (s : Keeper Offered) (xs : List ℕ) (t : Tied m s xs) (i r : ℕ) (inside : i < length xs) (some : 0 < r) where
   there : i < length s.places
   there = let l = t.places in omega (arith, l, inside)
 
@@ -234,8 +234,8 @@ module _ (m n : Meaning) (s : Keeper Offer) (xs : List ℕ) (t : Tied m s xs) (i
   pub tied_offers : (tick : Tick) → region_at xs i ≡ 0 → ((j : ℕ) → region_at xs j ≢ r) → is_over (world_of m) ≡ false → Prepares m n r → Allowed (world_of m) (Begin 0 r)
       → IsTick (world_of m) (length m.history) 0 r tick → length tick.due ≤ tick.body.queues.spare → Tied n (offering (keeping s i (Some (of_tick tick))) i) (set xs i r)
   tied_offers tick unused fresh on did allowed is room =
-      let p : Place Offer = hands.place None (Some (of_tick tick)) None in
-      subst (λ (k : Keeper Offer). Tied n k (set xs i r)) (sym (offered_after s i there (of_tick tick))) (tied_changes m n s xs t i r p inside did.opening (rw did.history t.in_turn)
+      let p : Place Offered = hands.place None (Some (of_tick tick)) None in
+      subst (λ (k : Keeper Offered). Tied n k (set xs i r)) (sym (offered_after s i there (of_tick tick))) (tied_changes m n s xs t i r p inside did.opening (rw did.history t.in_turn)
       (λ over. absurd (true≢false (sym over ∙ (same_over m n did.opening did.history ∙ on))))
       (λ e. absurd (let z = some in omega (arith, e, z)))
       (λ _. record {
@@ -267,11 +267,11 @@ module _ (m n : Meaning) (s : Keeper Offer) (xs : List ℕ) (t : Tied m s xs) (i
       inr (was, λ z. let same : q ≡ 0 = z ∙ unused in omega (arith, same, pos))))
 
   -- the tick of a region came back out of its slot
-  pub tied_withdraws : (kept : Option Offer) → region_at xs i ≡ r → is_prepared m r ≡ true → Withdraws m n r → Tied n (keeping (keeping s i kept) i (Some nothing)) (set xs i 0)
+  pub tied_withdraws : (kept : Option Offered) → region_at xs i ≡ r → is_prepared m r ≡ true → Withdraws m n r → Tied n (keeping (keeping s i kept) i (Some nothing)) (set xs i 0)
   tied_withdraws kept own marked did =
-      let p : Place Offer = hands.place (Some nothing) (place_at s i).offered None in
+      let p : Place Offered = hands.place (Some nothing) (place_at s i).offered None in
       let apart : (j : ℕ) → j < length xs → j ≢ i → region_at xs j ≢ r = λ j low ne e. ne (sym (t.apart i j inside low (subst (λ (x : ℕ). 0 < x) (sym own) some) (own ∙ sym e))) in
-      subst (λ (k : Keeper Offer). Tied n k (set xs i 0)) (sym (emptied_after s i there kept (Some nothing))) (tied_changes m n s xs t i 0 p inside did.opening (rw did.history t.in_turn)
+      subst (λ (k : Keeper Offered). Tied n k (set xs i 0)) (sym (emptied_after s i there kept (Some nothing))) (tied_changes m n s xs t i 0 p inside did.opening (rw did.history t.in_turn)
       (λ over q. falls did.prepared q (t.calm (sym (same_over m n did.opening did.history) ∙ over) q))
       (λ _. refl)
       (λ z. absurd (omega (arith, z)))
@@ -298,9 +298,9 @@ module _ (m n : Meaning) (s : Keeper Offer) (xs : List ℕ) (t : Tied m s xs) (i
   pub tied_learns : (by k : ℕ) → Run m.opening m.history → FoundOnlyAt s k i → (1 ≤ k) × (k ≤ s.workers) → region_at xs i ≡ r → is_prepared m r ≡ true → is_over (world_of m) ≡ false → Learns m n by k r → Tied n (finding s i k) xs
   tied_learns by k run only few own marked on did =
       let begins : TakeTurns s.workers (m.history ++ (record { by = by; event = Begin k r }) ∷ []) = turns_begin s.workers m.history t.in_turn by k r (none_open m s xs i k t run (ap (is_prepared m) own ∙ marked) only) few.0 few.1 in
-      let old : Place Offer = place_at s i in
+      let old : Place Offered = place_at s i in
       let u : InUse m r old = subst (λ (x : ℕ). InUse m x old) own (t.used i inside (subst (λ (x : ℕ). 0 < x) (sym own) some)) in
-      let p : Place Offer = hands.place old.kept old.offered (Some k) in
+      let p : Place Offered = hands.place old.kept old.offered (Some k) in
       let e : Entry = record { by = by; event = Begin k r } in
       let waits : Waits m r u.tick = u.waits (no_worker old.found (λ j found. true≢false (sym marked ∙ (u.runs j found).unprepared))) in
       let made : Meaning = record m { history = waits.before } in
@@ -338,17 +338,17 @@ module _ (m n : Meaning) (s : Keeper Offer) (xs : List ℕ) (t : Tied m s xs) (i
       subst (λ (ys : List ℕ). Tied n (knowing s i p) ys) (ap (set xs i) (sym own) ∙ set-get_or xs i 0) changed
 
 -- the body of a slot that was kept has the tick that waited there
-pub came_back : (m : Meaning) (s k : Keeper Offer) (xs : List ℕ) (i r : ℕ) (b : Offer) (tick : Tick) → Tied m s xs → i < length xs → region_at xs i ≡ r → is_prepared m r ≡ true
+pub came_back : (m : Meaning) (s k : Keeper Offered) (xs : List ℕ) (i r : ℕ) (b : Offered) (tick : Tick) → Tied m s xs → i < length xs → region_at xs i ≡ r → is_prepared m r ≡ true
     → k ≡ keeping s i (place_at s i).offered → (place_at k i).kept ≡ Some b → b.tick ≡ Some tick → Waits m r tick
 came_back m s k xs i r b tick t inside own marked is body has =
     let some : 0 < r = (t.prepared r marked).1 in
-    let old : Place Offer = place_at s i in
+    let old : Place Offered = place_at s i in
     let u : InUse m r old = subst (λ (x : ℕ). InUse m x old) own (t.used i inside (subst (λ (x : ℕ). 0 < x) (sym own) some)) in
-    let kept : Some b ≡ Some (of_tick u.tick) = sym body ∙ (ap (λ (x : Keeper Offer). (place_at x i).kept) is ∙ (ap (λ (x : Place Offer). x.kept) (place_here s i (hands.place old.offered old.offered None) (let l = t.places in omega (arith, l, inside))) ∙ u.offered)) in
+    let kept : Some b ≡ Some (of_tick u.tick) = sym body ∙ (ap (λ (x : Keeper Offered). (place_at x i).kept) is ∙ (ap (λ (x : Place Offered). x.kept) (place_here s i (hands.place old.offered old.offered None) (let l = t.places in omega (arith, l, inside))) ∙ u.offered)) in
     let same : Some tick ≡ Some u.tick = sym has ∙ ap tick_in kept in
     subst (λ (x : Tick). Waits m r x) (sym (same_value tick u.tick same)) (u.waits (no_worker old.found (λ j found. true≢false (sym marked ∙ (u.runs j found).unprepared))))
   where
-    tick_in : Option Offer → Option Tick
+    tick_in : Option Offered → Option Tick
     tick_in None = None
     tick_in (Some o) = o.tick
 
@@ -358,7 +358,7 @@ came_back m s k xs i r b tick t inside own marked is body has =
 -- ---- events
 
 -- an event that touches no prepared region and is neither a Begin nor an End; where a region is prepared, it is no Stop
-pub tied_event : (m n : Meaning) (s : Keeper Offer) (xs : List ℕ) (by : ℕ) (event : Event) → Tied m s xs → Records m n by event
+pub tied_event : (m n : Meaning) (s : Keeper Offered) (xs : List ℕ) (by : ℕ) (event : Event) → Tied m s xs → Records m n by event
     → ((q : ℕ) → is_prepared m q ≡ true → (touches (world_of m) q event ≡ false) × (is_stop event ≡ false)) → ((q : ℕ) → (is_begin q event ≡ false) × (is_end q event ≡ false))
     → (is_over (world_of n) ≡ true → NonePrepared m) → Tied n s xs
 tied_event m n s xs by event t did spares another calm = record {

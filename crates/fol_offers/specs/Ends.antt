@@ -1,7 +1,6 @@
 -- A worker gives its tick back.
 use Rattle.std.specs.Prelude.{ℕ, ◌≡◌, Bool, true, false, List, take, length, Result, IfOk, IsOk, IsSome, OnErr, OnOk, Some}
 use Rattle.std.specs.List.{list_any}
-use Rattle.std.specs.declared.alloc.AllocError.{AllocError}
 use Rattle.fol_model.specs.declared.tasks.Wish.{Wish}
 use Rattle.fol_model.specs.World.{World}
 use Rattle.fol_data.specs.declared.tick.Tick.{Tick}
@@ -12,19 +11,18 @@ use Rattle.fol_world.specs.AtEnd.{end_event}
 use Rattle.fol_core.specs.Meaning.{Records, Stays, is_prepared, world_of}
 use Rattle.fol_core.specs.Ticks.{SameTick}
 use Rattle.fol_slots.specs.Shown.{Worker}
-use Rattle.fol_offers.specs.declared.offer.Offer.{Offer}
+use Rattle.fol_offers.specs.Offered.{Offered, of_tick}
 use Rattle.fol_offers.specs.Shown.{CallsBack, Shown}
-use Rattle.fol_offers.specs.Tied.{of_tick}
 
 -- the worker holds a slot, where it claimed the tick of this region
-pub record Has (s : Worker Offer) (region : ℕ) : Type 0 where
+pub record Has (s : Worker Offered) (region : ℕ) : Type 0 where
   pub slot : IsSome s.slot
   pub tick : Tick
   pub claimed : s.claimed ≡ Some (of_tick tick)
   pub of : tick.region ≡ region
 
 -- the tick is the one that the worker claimed, after all of its tasks ran; what room it has for more is no part of it
-pub record GivesBack (s : Worker Offer) (tick : Tick) : Type 0 where
+pub record GivesBack (s : Worker Offered) (tick : Tick) : Type 0 where
   pub slot : IsSome s.slot
   pub claimed : Tick
   pub is : s.claimed ≡ Some (of_tick claimed)
@@ -51,7 +49,7 @@ pub record ClearsWishes {A E : Type 0} (old new : Shown) (by : ℕ) (wishes : Li
   pub clears : CallsBack old new by (wishes_may_touch (world_of old.core) (take done wishes))
 
 -- the tick's Begin was recorded, unless it had been learnt; then what its wishes may touch was called back; then its End was recorded
-pub record Ends (old new : Shown) (tick : Tick) (r : Result ℕ AllocError) : Type 0 where
+pub record Ends {E : Type 0} (old new : Shown) (tick : Tick) (r : Result ℕ E) : Type 0 where
   pub met : Shown
   pub meets : Meets old met tick.worker tick.region
   pub cleared : Shown

@@ -8,7 +8,7 @@ use Rattle.fol_model.specs.Run.{Allowed, Run, world}
 use Rattle.fol_data.specs.declared.tick.Tick.{Tick}
 use Rattle.fol_tick.specs.Runs.{MayRun}
 use Rattle.fol_core.specs.Ticks.{IsTick}
-use Rattle.fol_offers.specs.declared.offer.Offer.{Offer}
+use Rattle.fol_offers.specs.Offered.{Offered}
 
 -- the tick was made in a world that a run leads to, where a Begin of its region is allowed; it is that of this Begin, but for its worker
 pub record IsFitTick (tick : Tick) : Type 0 where
@@ -20,7 +20,7 @@ pub record IsFitTick (tick : Tick) : Type 0 where
   pub is : IsTick (world opening history) (length history) 0 tick.region tick
 
 -- there is such a tick
-abbrev pub IsFit : Offer → Type 0
+abbrev pub IsFit : Offered → Type 0
 IsFit o = IsSomeAnd o.tick IsFitTick
 
 -- a tick that was offered may be run by any worker

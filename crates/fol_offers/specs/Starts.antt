@@ -5,16 +5,15 @@ use Rattle.fol_model.specs.World.{World}
 use Rattle.fol_slots.specs.declared.slots.SlotsAndSeats.{SlotsAndSeats}
 use Rattle.fol_slots.specs.Shown.{AreNew, new_keeper}
 use Rattle.fol_slots.specs.Table.{slots_id, slot_count}
-use Rattle.fol_offers.specs.declared.offer.Offer.{Offer}
-use Rattle.fol_offers.specs.Tied.{nothing}
+use Rattle.fol_offers.specs.Offered.{Offered, nothing}
 
 -- no region ticks
 abbrev pub NoneTicks : World → Type 0
 NoneTicks w = (r : ℕ) → w.grid.state r ≢ Ticking
 
 -- so many slots, all kept with nothing in them and none of them in use, and seats of so many workers
-pub record AreNewSlots (count workers : ℕ) (made : SlotsAndSeats Offer × List ℕ) : Type 0 where
-  pub bodies : List Offer
+pub record AreNewSlots (count workers : ℕ) (made : SlotsAndSeats Offered × List ℕ) : Type 0 where
+  pub bodies : List Offered
   pub length_is : length bodies ≡ count
   pub none : All (λ b. b ≡ nothing) bodies
   pub count_is : slot_count made.0.slots ≡ count

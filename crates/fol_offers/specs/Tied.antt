@@ -14,17 +14,9 @@ use Rattle.fol_core.specs.Ticks.{IsTick}
 use Rattle.fol_tick_laws.specs.OpenTicks.{IsOpen}
 use Rattle.fol_slots.specs.declared.view.Place.{Place}
 use Rattle.fol_slots.specs.Shown.{Keeper, place_at}
-use Rattle.fol_offers.specs.declared.offer.Offer.{Offer}
+use Rattle.fol_offers.specs.Offered.{Offered, nothing, of_tick}
 use Rattle.fol_offers.specs.InTurn.{TakeTurns}
 use Rattle.fol_offers.specs.Places.{region_at}
-
--- a body with no tick
-abbrev pub nothing : Offer
-nothing = record { tick = None }
-
--- a body with this tick
-abbrev pub of_tick : Tick → Offer
-of_tick t = record { tick = Some t }
 
 -- the tick of a prepared region waits for a worker: it was made at some place of the history, behind which nothing touched the region
 pub record Waits (m : Meaning) (r : ℕ) (t : Tick) : Type 0 where
@@ -44,7 +36,7 @@ pub record Runs (m : Meaning) (r k : ℕ) (t : Tick) : Type 0 where
   pub opened : IsOpen m (record t { worker = k })
 
 -- a slot in which the tick of region r was offered, which no keeper has since
-pub record InUse (m : Meaning) (r : ℕ) (p : Place Offer) : Type 0 where
+pub record InUse (m : Meaning) (r : ℕ) (p : Place Offered) : Type 0 where
   pub kept : p.kept ≡ None
   pub tick : Tick
   pub offered : p.offered ≡ Some (of_tick tick)
@@ -53,7 +45,7 @@ pub record InUse (m : Meaning) (r : ℕ) (p : Place Offer) : Type 0 where
 
 -- the slots in use are those of the regions in the list, all others are kept with nothing in them, each prepared region has one, and each
 -- Ticking region has one in which the worker that has its tick was found. The workers that have seats take turns
-pub record Tied (m : Meaning) (s : Keeper Offer) (regions : List ℕ) : Type 0 where
+pub record Tied (m : Meaning) (s : Keeper Offered) (regions : List ℕ) : Type 0 where
   pub grid : IsGrid m.opening.grid
   pub in_turn : TakeTurns s.workers m.history
   -- once the history is over, no region is prepared

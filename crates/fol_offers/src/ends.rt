@@ -1,6 +1,6 @@
 //! A worker gives its tick back.
 
-ghost use Rattle.std.specs.Prelude.{◌≡◌, false, All, IfOk, IsTrue, OnErr, OnOk, Some, length};
+ghost use Rattle.std.specs.Prelude.{◌≡◌, false, All, IfErr, IfOk, IsTrue, OnErr, OnOk, Some, length};
 ghost use Rattle.fol_model.specs.Geometry.{is_chunk};
 ghost use Rattle.fol_data.specs.declared.tick.Tick.{Tick};
 ghost use Rattle.fol_slots.specs.Shown.{freed};
@@ -12,7 +12,8 @@ ghost use Rattle.fol_core.specs.Ticks.{SameTick};
 ghost use Rattle.fol_tick_laws.specs.OpenTicks.{IsOpen};
 ghost use Rattle.fol_offers.specs.Ends.{ClearsWishes, Ends, GivesBack, Has, Meets, wishes_may_touch};
 ghost use Rattle.fol_offers.specs.InTurn.{IsFree};
-ghost use Rattle.fol_offers.specs.Tied.{of_tick};
+ghost use Rattle.fol_offers.specs.Offered.{of_tick};
+ghost use Rattle.fol_offers.specs.Shown.{NoneFree};
 
 use crate::offer::Offer;
 use crate::offers::Offers;
@@ -23,7 +24,8 @@ use std::alloc::{AllocError, Global};
 
 impl Offers {
     /// Meets a worker that claimed the tick of this region. The Begin is recorded by the worker itself, unless it was learnt before, and
-    /// the tick is open then. Whatever a worker records while it has a tick comes after this. Takes no memory.
+    /// the tick is open then. Whatever a worker records while it has a tick comes after this. Where no tick was left to be offered, none is
+    /// left. Takes no memory.
     pub fn meet(
         &mut self,
         slots: &Slots<Offer>,
@@ -36,6 +38,7 @@ impl Offers {
         ensures met { Meets self.old self.new seat.number region }
         ensures open { (t : Tick) → seat.claimed ≡ Some (of_tick t)
             → IsOpen self.new.core (record t { worker = seat.number }) }
+        ensures none { NoneFree self.old.core → NoneFree self.new.core }
         ensures seat { result ≡ seat }
     {
         let _entries = self.core.history();
@@ -51,6 +54,35 @@ impl Offers {
     /// tick that the wishes may touch is called back, and then the End is recorded. Returns the new length of the history, with the seat,
     /// which holds no slot any more. If memory runs out, no End is recorded, and the worker has its tick still, which is the same.
     pub fn end(
+        &mut self,
+        alloc: Global,
+        slots: &Slots<Offer>,
+        seat: WorkerSeat<Offer>,
+        tick: Box<Tick>,
+    ) -> (WorkerSeat<Offer>, Result<u64, Box<Tick>>)
+        requires own { self.old.slots ≡ slots_id slots.now }
+        requires seat { seat.slots ≡ slots_id slots.now }
+        requires ran { GivesBack seat tick.value }
+        ensures ends { Ends self.old self.new tick.value result.1 }
+        ensures free { OnOk result.1
+            (IsFree self.new.workers self.new.core.history tick.value.worker) }
+        ensures freed { OnOk result.1 (result.0 ≡ freed seat) }
+        ensures kept { OnErr result.1 (result.0 ≡ seat) }
+        ensures back { IfErr result.1 (λ t. SameTick tick.value t.value) }
+    {
+        let mut tick = tick;
+        let (seat, answer) = self.end_in_place(alloc, slots, seat, &mut *tick);
+        match answer {
+            Ok(length) => {
+                self.boxes.put(tick);
+                (seat, Ok(length))
+            }
+            Err(_) => (seat, Err(tick)),
+        }
+    }
+
+    /// The same where the tick stands. Once its End is recorded, nothing is left in it that is worth keeping.
+    fn end_in_place(
         &mut self,
         alloc: Global,
         slots: &Slots<Offer>,
@@ -127,7 +159,7 @@ impl Offers {
         match self.core.end(alloc, tick) {
             Err(_) => (seat, Err(AllocError)),
             Ok(length) => {
-                let seat = slots.take_in(seat, &mut self.keeper, Offer { tick: None });
+                let seat = slots.take_in(seat, &mut self.keeper, Offer::nothing());
                 let Some(i) = self.places.slot_of(region) else {
                     unreachable!()
                 };

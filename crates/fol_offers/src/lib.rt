@@ -10,6 +10,7 @@
 
 ghost use Rattle.fol_offers.specs.Fit.{OfferedTickMayRun};
 
+mod boxes;
 mod ends;
 mod events;
 mod offer;

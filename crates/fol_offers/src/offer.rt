@@ -1,15 +1,25 @@
 //! What lies in a slot.
 
 ghost use Rattle.std.specs.Prelude.{◌≡◌, Some, IsSome};
+ghost use Rattle.fol_offers.specs.Offered.{nothing, of_tick};
 
 use fol_data::Tick;
 use fol_slots::Body;
+use std::marker::Model;
 
 /// The tick of a region that owes one, or nothing. One that is offered has a tick, which was made in some world that a run leads to: that of
-/// a Begin there, but for its worker, and nothing of it ran.
+/// a Begin there, but for its worker, and nothing of it ran. The tick lies behind a pointer, so that it is claimed at little cost.
 #[derive(Drop)]
 pub struct Offer {
-    pub tick: Option<Tick>,
+    tick: Option<Box<Tick>>,
+}
+
+impl Model for Offer {
+    ghost use Rattle.fol_offers.specs.Offered.{Offered, unboxed};
+
+    ghost Value = { Offered };
+
+    ghost view = { λ o. unboxed o.tick };
 }
 
 impl Body for Offer {
@@ -19,10 +29,24 @@ impl Body for Offer {
 }
 
 impl Offer {
+    /// No tick. Takes no memory.
+    pub fn nothing() -> Offer
+        ensures { result ≡ nothing }
+    {
+        Offer { tick: None }
+    }
+
+    /// This tick.
+    pub fn of(tick: Box<Tick>) -> Offer
+        ensures { result ≡ of_tick tick.value }
+    {
+        Offer { tick: Some(tick) }
+    }
+
     /// The tick, where there is one.
-    pub(crate) fn into_tick(self) -> Tick
+    pub fn into_tick(self) -> Box<Tick>
         requires { IsSome self.tick }
-        ensures { self.tick ≡ Some result }
+        ensures { self.tick ≡ Some result.value }
     {
         match self.tick {
             Some(tick) => tick,

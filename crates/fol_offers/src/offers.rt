@@ -10,10 +10,11 @@ ghost use Rattle.fol_core.specs.Ahead.{NonePrepared, Prepares};
 ghost use Rattle.fol_core.specs.Answers.{is_free, is_over};
 ghost use Rattle.fol_core.specs.Meaning.{Stays, is_prepared, world_of};
 ghost use Rattle.fol_offers.specs.InTurn.{InTurn, TakeTurns};
+ghost use Rattle.fol_offers.specs.Offered.{nothing};
 ghost use Rattle.fol_offers.specs.Shown.{NoneFree, OffersMore, OffersNext};
 ghost use Rattle.fol_offers.specs.Starts.{AreNewSlots, NoneTicks};
-ghost use Rattle.fol_offers.specs.Tied.{nothing};
 
+use crate::boxes::{Boxes, fill};
 use crate::offer::Offer;
 use crate::places::Places;
 use fol_core::Core;
@@ -29,6 +30,7 @@ pub struct Offers {
     pub(crate) core: Core,
     pub(crate) keeper: KeeperSeat<Offer>,
     pub(crate) places: Places,
+    pub(crate) boxes: Boxes,
 }
 
 /// What `Offers::start` makes.
@@ -83,6 +85,7 @@ impl Offers {
                     core,
                     keeper,
                     places,
+                    boxes: Boxes::new(alloc),
                 };
                 Ok(OffersAndSeats {
                     offers,
@@ -205,11 +208,20 @@ impl Offers {
     {
         let _entries = self.core.history();
         self.core.reserve(alloc, region)?;
-        let i = self.places.put(region)?;
-        let tick = self.core.prepare(region);
-        let _nothing = slots.body(&mut self.keeper, i, Offer { tick: Some(tick) });
-        slots.offer(&mut self.keeper, i);
-        Ok(())
+        let boxed = self.boxes.take()?;
+        match self.places.put(region) {
+            Ok(i) => {
+                let tick = self.core.prepare(region);
+                let offer = Offer::of(fill(boxed, tick));
+                let _nothing = slots.body(&mut self.keeper, i, offer);
+                slots.offer(&mut self.keeper, i);
+                Ok(())
+            }
+            Err(_) => {
+                self.boxes.put(boxed);
+                Err(AllocError)
+            }
+        }
     }
 }
 
@@ -220,7 +232,7 @@ fn no_offers(alloc: Global, count: u32) -> Result<Vec<Offer>, AllocError>
 {
     let mut bodies = Vec::with_capacity(alloc, count as usize)?;
     for _ in 0..count {
-        bodies.push_reserved(Offer { tick: None });
+        bodies.push_reserved(Offer::nothing());
     }
     Ok(bodies)
 }

@@ -1,19 +1,18 @@
 //! Which region's tick lies in which slot.
 
-ghost use Rattle.std.specs.Prelude.{◌≡◌, ◌<◌, ◌≤◌, ◌≢◌, ℕ, length, set, replicate, IfOk, IfSome, IsTrue, OnErr, vec_capacity};
+ghost use Rattle.std.specs.Prelude.{◌≡◌, ◌<◌, ◌≤◌, ◌≢◌, ℕ, length, set, replicate, IfOk, IfSome, IsTrue, OnErr, OnOk, vec_capacity};
 ghost use Rattle.std.specs.Option.{is_none};
-ghost use Rattle.fol_offers.specs.Places.{AreFree};
+ghost use Rattle.fol_offers.specs.Places.{AreFree, slot_in};
 
 use std::alloc::{AllocError, Global};
-use std::collections::HashMap;
 use std::marker::Model;
 
 /// The region of each slot, or 0 for a slot that is not in use. No region has two slots.
 #[derive(Drop)]
 pub(crate) struct Places {
     regions: Vec<u64>,
-    /// The slot of each region that has one.
-    slots: HashMap<u64, u32>,
+    /// The slot of each region that has one, by the region's id. A region past the end has none.
+    slots: Vec<Option<u32>>,
     /// The slots that are not in use, with room for all.
     free: Vec<u32>,
 }
@@ -26,7 +25,7 @@ impl Model for Places {
 
     ghost view = { λ p. p.regions.items };
 
-    ghost invariant = { λ p. AreMatched p.regions.items p.slots.entries
+    ghost invariant = { λ p. AreMatched p.regions.items p.slots.items
         × AreFree p.regions.items p.free.items
         × (length p.regions.items ≤ vec_capacity p.free) };
 }
@@ -42,7 +41,7 @@ impl Places {
         let regions = vec![in alloc; 0u64; count as usize]?;
         Ok(Places {
             regions,
-            slots: HashMap::new(alloc),
+            slots: Vec::new(alloc),
             free,
         })
     }
@@ -54,7 +53,10 @@ impl Places {
             × (region_at self.now i ≡ region)) }
         ensures none { IsTrue (is_none result) → (i : ℕ) → region_at self.now i ≢ region }
     {
-        self.slots.get(&region).copied()
+        match self.slots.get(region as usize) {
+            Some(slot) => *slot,
+            None => None,
+        }
     }
 
     /// The region of each slot, and 0 for one that is not in use.
@@ -76,7 +78,8 @@ impl Places {
         let Some(slot) = self.free.last().copied() else {
             return Err(AllocError);
         };
-        self.slots.insert(region, slot)?;
+        make_room(&mut self.slots, region)?;
+        self.slots[region as usize] = Some(slot);
         let _ = self.free.pop();
         self.regions[slot as usize] = region;
         Ok(slot)
@@ -89,10 +92,21 @@ impl Places {
     {
         let i = slot as usize;
         let region = self.regions[i];
-        let _ = self.slots.remove(&region);
+        self.slots[region as usize] = None;
         self.regions[i] = 0;
         self.free.push_reserved(slot);
     }
+}
+
+/// Makes the list long enough for the slot of this region; the regions that are new to it have none.
+fn make_room(slots: &mut Vec<Option<u32>>, region: u64) -> Result<(), AllocError>
+    ensures same { (r : ℕ) → slot_in slots.new.items r ≡ slot_in slots.old.items r }
+    ensures room { OnOk result (region < length slots.new.items) }
+{
+    while slots.len() <= region as usize {
+        slots.push(None)?;
+    }
+    Ok(())
 }
 
 /// So many slots, the last one first.

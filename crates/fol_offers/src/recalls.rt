@@ -33,10 +33,10 @@ impl Offers {
         };
         match slots.try_keep(&mut self.keeper, i) {
             Keep::Kept => {
-                let tick = slots
-                    .body(&mut self.keeper, i, Offer { tick: None })
+                let boxed = slots
+                    .body(&mut self.keeper, i, Offer::nothing())
                     .into_tick();
-                let _is_ready = self.core.withdraw(tick);
+                let _is_ready = self.core.withdraw(self.boxes.unbox(boxed));
                 self.places.clear(i);
             }
             Keep::Busy(worker) => self.core.learn(by, worker, region),
@@ -91,6 +91,7 @@ impl Offers {
             core,
             keeper: _,
             places: _,
+            boxes: _,
         } = offers;
         let _entries = core.history();
         core
@@ -115,8 +116,8 @@ impl Offers {
         }
     }
 
-    /// Calls back what an event on this chunk may touch, which is not looked at where no tick is offered. Fails only when out of memory; then
-    /// nothing has changed.
+    /// Calls back what an event on this chunk may touch, which is not looked at where no tick is offered. Takes memory only where no hold is
+    /// on the chunk. Fails only when out of memory; then nothing has changed.
     pub(crate) fn clear(
         &mut self,
         slots: &Slots<Offer>,
@@ -129,6 +130,10 @@ impl Offers {
         ensures err { OnErr result (self.new ≡ self.old) }
     {
         if self.core.prepared_count() == 0 {
+            return Ok(());
+        }
+        if let Some(region) = self.core.touched_alone(c) {
+            self.call_back_one(slots, by, region);
             return Ok(());
         }
         let touched = self.core.touched(c)?;

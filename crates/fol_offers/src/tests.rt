@@ -85,7 +85,7 @@ fn claim(rt: &impl Abort, slots: &Slots<Offer>, seat: &mut WorkerSeat<Offer>) ->
     requires some { 0 < slot_count slots.now }
 {
     match slots.try_claim(seat, 0) {
-        Claim::Claimed(Offer { tick: Some(tick) }) => tick.region,
+        Claim::Claimed(offer) => offer.into_tick().region,
         _ => panic!(rt; "a tick is claimed"),
     }
 }

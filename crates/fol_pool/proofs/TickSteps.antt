@@ -1,6 +1,7 @@
 -- A tick of a worker, from its claim to its End.
 use Rattle.std.proofs.Common.{◌≡◌, ℕ, refl, sym, ◌∙◌, ap, subst, inl, inr, true, false, List, [], ◌∷◌, ◌++◌, filter, length, map, append_assoc, Option, Some, None}
 use Rattle.std.specs.Prelude.{◌+◌, nat_eq, Result, Ok, Err, IsSome}
+use Rattle.std.specs.Global.{Box}
 use Rattle.std.specs.List.{AllByRecursion, list_any}
 use Rattle.std.proofs.lemmas.Bool.{cases_Bool, eq-eqb}
 use Rattle.fol_model.specs.ActionStep.{plain_of}
@@ -283,18 +284,18 @@ module _ (s u : Shown) (tick : Tick) (most n : ℕ) (ran : HasRun s tick) (did :
   abbrev end : Entry
   end = record { by = tick.worker; event = end_event (world_of (meaning_of now)) tick.worker tick.region tick.log.ran }
 
-  abbrev passed : PassesOn did.ended u most
+  abbrev passed : PassesOn did.ended u tick.region most
   passed = did.passed
 
   -- what stands behind the End
   abbrev quiet : List Entry
-  quiet = quiet_ticks k passed.region ((world_of (meaning_of passed.now)).tick passed.region) passed.count
+  quiet = quiet_ticks k tick.region ((world_of (meaning_of passed.now)).tick tick.region) passed.count
 
   seen_is : u.seen ≡ ((now.seen ++ end ∷ []) ++ passed.learnt) ++ quiet
   seen_is =
-      let counter = (world_of (meaning_of passed.now)).tick passed.region in
+      let counter = (world_of (meaning_of passed.now)).tick tick.region in
       let passes : u.seen ≡ passed.now.seen ++ quiet
-      = subst (λ (j : ℕ). u.seen ≡ passed.now.seen ++ quiet_ticks j passed.region counter passed.count) did.number passed.passes.history in
+      = subst (λ (j : ℕ). u.seen ≡ passed.now.seen ++ quiet_ticks j tick.region counter passed.count) did.number passed.passes.history in
       passes ∙ ap (λ (es : List Entry). es ++ quiet) (passed.seen ∙ ap (λ (es : List Entry). es ++ passed.learnt) did.recorded.history)
 
   late : AllByRecursion (IsLate k) passed.learnt
@@ -319,9 +320,9 @@ module _ (s u : Shown) (tick : Tick) (most n : ℕ) (ran : HasRun s tick) (did :
       let opening = did.turn.adds.opening in
       let all = ((now.seen ++ end ∷ []) ++ passed.learnt) ++ quiet in
       let keeps : Keeps u.lock.workers now.opening all = keeps_to u.lock.workers now.opening u.opening all u.seen opening seen_is did.turn.adds.keeps in
-      let counter = (world_of (meaning_of passed.now)).tick passed.region in
+      let counter = (world_of (meaning_of passed.now)).tick tick.region in
       whole_to now.opening u.opening all u.seen k u.number opening seen_is number
-      (whole_passed now.opening k u.lock.workers (now.seen ++ end ∷ []) passed.learnt ran.calm.some (own_starts k passed.learnt starts) turns_ended passed.region counter passed.count keeps)
+      (whole_passed now.opening k u.lock.workers (now.seen ++ end ∷ []) passed.learnt ran.calm.some (own_starts k passed.learnt starts) turns_ended tick.region counter passed.count keeps)
 
   ended_calm : Calm u
   ended_calm =
@@ -329,7 +330,7 @@ module _ (s u : Shown) (tick : Tick) (most n : ℕ) (ran : HasRun s tick) (did :
       let seen : u.seen ≡ now.seen ++ rest = seen_is ∙ append_assoc (now.seen ++ end ∷ []) passed.learnt quiet ∙ append_assoc now.seen (end ∷ []) (passed.learnt ++ quiet) in
       let calm : AllByRecursion IsCalm rest = (
         refl,
-        all_append IsCalm passed.learnt quiet (starts_calm passed.learnt starts) (quiet_calm k passed.region ((world_of (meaning_of passed.now)).tick passed.region) passed.count),
+        all_append IsCalm passed.learnt quiet (starts_calm passed.learnt starts) (quiet_calm k tick.region ((world_of (meaning_of passed.now)).tick tick.region) passed.count),
       ) in
       let at_turn : Calm now = calm_does s now [] ran.calm (does_looks s now did.turn.looks) tt in
       calm_goes now u rest at_turn (goes_turn s now u rest did.turn seen) calm
@@ -337,7 +338,7 @@ module _ (s u : Shown) (tick : Tick) (most n : ℕ) (ran : HasRun s tick) (did :
   pub end_rests : Rests u
   end_rests = record { works = record { calm = ended_calm; whole = whole_ended }; free = did.free }
 
-pub release_fails : (s u : Shown) (tick back : Tick) (most : ℕ) → HasRun s tick → Releases s u tick most (Err back) → IsStuck u
+pub release_fails : (s u : Shown) (tick : Tick) (back : Box Tick) (most : ℕ) → HasRun s tick → Releases s u tick most (Err back) → IsStuck u
 release_fails s u tick back most ran did = record {
   calm = calm_does s u [] ran.calm (does_still s did.now u did.turn did.refused) tt;
   holds = still_holds s u did.kept (holds_some s ran.out.offered ran.out.holds);

@@ -25,13 +25,19 @@ const CALLER_DOUBLINGS: u32 = 1;
 /// How many seats may be in the lock before a worker stays away at once.
 const BEARABLE_CROWD: u64 = 2;
 
-/// How much pressure goes where a tick ends and finds the lock free.
-const RELIEF: u32 = 2;
+/// How much pressure comes where a tick is to end and finds others in the lock, and how much goes where it finds the lock free: it rises where
+/// more than one tick in three finds others there.
+const PRESSURE: u32 = 2;
 
-/// How much pressure a worker bears before it stays away from any crowd, and how much it remembers at most.
-const BEARABLE_PRESSURE: u32 = 8;
+const RELIEF: u32 = 1;
 
-const MOST_PRESSURE: u32 = 40;
+/// How much pressure a worker bears before it leaves ticks to others, and how much it remembers at most.
+const BEARABLE_PRESSURE: u32 = 16;
+
+const MOST_PRESSURE: u32 = 80;
+
+/// How much pressure more doubles the time for which it stays away.
+const PRESSURE_OF_A_DOUBLING: u32 = 8;
 
 /// What a seat remembers of how often it came in vain.
 #[derive(Drop)]
@@ -67,19 +73,19 @@ impl Patience {
         }
     }
 
-    /// A tick has run, and so many seats are in the lock. Whether its worker had better leave the next one to others.
+    /// A tick has ended, and when it was to end, so many seats were in the lock. Whether its worker had better leave the next one to others.
     ///
-    /// Where it finds others in the lock again and again, ticks are so short that all of them wait for it, and one worker fewer is
-    /// faster. It then stays away the longer, the more often that was so.
+    /// Where a good part of the ticks finds others in the lock, they are so short that all wait for it, and one worker fewer is faster. It
+    /// then stays away the longer, the more often that was so.
     pub(crate) fn leaves(&mut self, crowd: u64) -> bool {
         self.pressure = if crowd == 0 {
             self.pressure.saturating_sub(RELIEF)
         } else {
-            self.pressure.saturating_add(1).min(MOST_PRESSURE)
+            self.pressure.saturating_add(PRESSURE).min(MOST_PRESSURE)
         };
         let leaves = self.pressure > self.bearable;
         self.misses = if leaves {
-            AWAKE.saturating_add(self.pressure / 4)
+            AWAKE.saturating_add(self.pressure / PRESSURE_OF_A_DOUBLING)
         } else {
             0
         };
@@ -98,9 +104,9 @@ impl Patience {
         }
     }
 
-    /// Whether it is time to ask whether the history is over: it was met by nothing again and again.
+    /// Whether it is time to ask whether the history is over: it is about to sleep, since it was met by nothing again and again.
     pub(crate) fn asks(&self) -> bool {
-        self.misses > SPINS && self.misses % 4 == 0
+        self.misses >= AWAKE
     }
 
     /// Whether so many seats in the lock are too many: more than bearable, or under pressure any.

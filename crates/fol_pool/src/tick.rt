@@ -48,11 +48,13 @@ pub(crate) fn ticks<R: Wait, G: Gate + Sync>(
                 gate.passed(tick.worker, tick.region);
                 let (back, ended) = run_and_end(rt, alloc, live, seat, tick, gate);
                 seat = back;
-                if ended.is_err() {
-                    return (seat, Err(AllocError));
-                }
-                if patience.leaves(live.crowd()) {
-                    return (seat, Ok(Rest::Left));
+                match ended {
+                    Ok(crowd) => {
+                        if patience.leaves(crowd) {
+                            return (seat, Ok(Rest::Left));
+                        }
+                    }
+                    Err(_) => return (seat, Err(AllocError)),
                 }
             }
             TryBegin::Idle => return (seat, Ok(Rest::Idle)),
@@ -61,30 +63,32 @@ pub(crate) fn ticks<R: Wait, G: Gate + Sync>(
     unreachable!()
 }
 
-/// Runs and ends a tick that was claimed. If memory was not found for that, the world was stopped.
+/// Runs and ends a tick that was claimed, and returns how many seats were in the lock when it was to end. If memory was not found for that,
+/// the world was stopped.
 fn run_and_end<R: Wait, G: Gate + Sync>(
     rt: &R,
     alloc: Global,
     live: &Live,
     seat: Seat,
-    tick: Tick,
+    tick: Box<Tick>,
     gate: &G,
-) -> (Seat, Result<(), AllocError>)
+) -> (Seat, Result<u64, AllocError>)
     requires own { seat.lock ≡ live_id live.now }
-    requires holds { Holds seat tick }
+    requires holds { Holds seat tick.value }
     ensures same { SameSeat seat result.0 }
     ensures works { Works result.0 }
     ensures rests { OnOk result.1 (Rests result.0) }
 {
     let mut tick = tick;
-    let (mut seat, ran) = run(rt, alloc, live, seat, &mut tick);
+    let (mut seat, ran) = run(rt, alloc, live, seat, &mut *tick);
     if ran.is_err() {
         give_up(rt, live, &mut seat, tick);
         return (seat, Err(AllocError));
     }
+    let crowd = live.crowd();
     let most = if gate.watches() { 0 } else { QUIET_TICKS };
     match live.release(rt, &mut seat, tick, most) {
-        Ok(_) => (seat, Ok(())),
+        Ok(_) => (seat, Ok(crowd)),
         Err(tick) => {
             give_up(rt, live, &mut seat, tick);
             (seat, Err(AllocError))
@@ -115,7 +119,7 @@ fn run<R: Wait>(
 /// on have no drop in them.
 #[cold]
 #[inline(never)]
-fn give_up<R: Wait>(rt: &R, live: &Live, seat: &mut Seat, _tick: Tick)
+fn give_up<R: Wait>(rt: &R, live: &Live, seat: &mut Seat, _tick: Box<Tick>)
     requires own { seat.old.lock ≡ live_id live.now }
     requires stuck { IsStuck seat.old }
     ensures same { SameSeat seat.old seat.new }

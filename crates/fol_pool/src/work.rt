@@ -48,10 +48,10 @@ pub(crate) fn work<R: Wait, G: Gate + Sync>(
         match rest {
             Ok(Rest::Left) => patience.step_back(rt),
             Ok(Rest::Idle) => {
-                patience.step_back(rt);
                 if is_over(rt, live, &mut seat, &patience) {
                     return seat;
                 }
+                patience.step_back(rt);
             }
             Err(_) => return seat,
         }

@@ -1,5 +1,6 @@
 -- Who belongs to a server, and what stays the same of them while they work.
 use Rattle.std.specs.Prelude.{◌≡◌, ◌≢◌, Option, None, IfSome}
+use Rattle.std.specs.Global.{Box}
 use Rattle.fol_data.specs.declared.tick.Tick.{Tick}
 use Rattle.fol_lock.specs.Seat.{IsIdle}
 use Rattle.fol_live.specs.Held.{HoldsRun}
@@ -21,8 +22,8 @@ abbrev pub IsSameSeat : Shown → Shown → Type 0
 IsSameSeat old new = (new.lock ≡ old.lock) × (new.number ≡ old.number)
 
 -- it ran the tick, where it did not fail, and may give it back
-abbrev pub Ran : Shown → Shown → Option Tick → Type 0
-Ran old new tick = IsSameSeat old new × IfSome tick (λ t. HoldsRun new t)
+abbrev pub Ran : Shown → Shown → Option (Box Tick) → Type 0
+Ran old new tick = IsSameSeat old new × IfSome tick (λ t. HoldsRun new t.value)
 
 -- it holds no tick, and so may claim one
 abbrev pub IsFree : Worker → Type 0

@@ -85,10 +85,10 @@ fn run_and_end<R: Wait>(
     alloc: Global,
     server: &Server,
     worker: &mut Worker,
-    tick: Tick,
+    tick: Box<Tick>,
 ) -> Tried
     requires of { IsWorkerOf server.now worker.old }
-    requires holds { HoldsTick worker.old.seat tick }
+    requires holds { HoldsTick worker.old.seat tick.value }
     ensures same { IsSameWorker worker.old worker.new }
     ensures free { IsFreeAfter result worker.new }
 {
@@ -96,8 +96,8 @@ fn run_and_end<R: Wait>(
     let ran = replace_with(
         &mut worker.seat,
         tick,
-        |seat: Seat, tick: Tick| -> (Seat, Option<Tick>)
-            requires { (seat.lock ≡ live_id live.now) × HoldsTick seat tick }
+        |seat: Seat, tick: Box<Tick>| -> (Seat, Option<Box<Tick>>)
+            requires { (seat.lock ≡ live_id live.now) × HoldsTick seat tick.value }
             ensures { Ran seat result.0 result.1 }
         { run(rt, alloc, live, seat, tick) },
     );
@@ -109,14 +109,20 @@ fn run_and_end<R: Wait>(
 
 /// Runs a tick, without the lock. The seat is its host meanwhile: what the tick loads and unloads is recorded as the seat's. Hands the seat
 /// back, and the tick where it has run.
-fn run<R: Wait>(rt: &R, alloc: Global, live: &Live, seat: Seat, tick: Tick) -> (Seat, Option<Tick>)
+fn run<R: Wait>(
+    rt: &R,
+    alloc: Global,
+    live: &Live,
+    seat: Seat,
+    tick: Box<Tick>,
+) -> (Seat, Option<Box<Tick>>)
     requires own { seat.lock ≡ live_id live.now }
-    requires holds { HoldsTick seat tick }
+    requires holds { HoldsTick seat tick.value }
     ensures { Ran seat result.0 result.1 }
 {
     let mut tick = tick;
     let mut host = LiveHost::of(rt, live, seat);
-    let ran = run_tick(alloc, &mut tick, &mut host);
+    let ran = run_tick(alloc, &mut *tick, &mut host);
     let seat = host.into_seat();
     match ran {
         Ok(()) => (seat, Some(tick)),
@@ -129,15 +135,21 @@ fn run<R: Wait>(rt: &R, alloc: Global, live: &Live, seat: Seat, tick: Tick) -> (
 
 /// Ends a tick that has run. The book sees it before the world takes it back, and keeps the visits that it makes. No tick behind it is passed
 /// over, since the book is to see each.
-fn end<R: Wait>(rt: &R, alloc: Global, server: &Server, worker: &mut Worker, tick: Tick) -> Tried
+fn end<R: Wait>(
+    rt: &R,
+    alloc: Global,
+    server: &Server,
+    worker: &mut Worker,
+    tick: Box<Tick>,
+) -> Tried
     requires of { IsWorkerOf server.now worker.old }
-    requires holds { HoldsRun worker.old.seat tick }
+    requires holds { HoldsRun worker.old.seat tick.value }
     ensures same { IsSameWorker worker.old worker.new }
     ensures free { IsFreeAfter result worker.new }
 {
     if server
         .book
-        .visit(rt, alloc, &mut worker.pages, &tick)
+        .visit(rt, alloc, &mut worker.pages, &*tick)
         .is_err()
     {
         drop(tick);

@@ -119,11 +119,11 @@ fn run_and_end<R: Abort + Wait>(
     worker: Seat,
     book: &Book,
     seat: &mut BookSeat,
-    mut tick: Tick,
+    mut tick: Box<Tick>,
     wanted: &[Visit],
 ) -> Seat
     requires own { worker.lock ≡ live_id live.now }
-    requires holds { HoldsTick worker tick }
+    requires holds { HoldsTick worker tick.value }
     requires book_own { IsIdle (book_id book.now) seat.old }
     ensures own { result.lock ≡ live_id live.now }
     ensures free { held result ≡ None }
@@ -131,9 +131,9 @@ fn run_and_end<R: Abort + Wait>(
     ensures book_own { IsIdle (book_id book.now) seat.new }
     ensures book_number { seat.new.number ≡ seat.old.number }
 {
-    let mut worker = run(rt, alloc, live, worker, &mut tick);
-    visit(rt, alloc, book, seat, &tick, Some(wanted));
-    visit(rt, alloc, book, seat, &tick, None);
+    let mut worker = run(rt, alloc, live, worker, &mut *tick);
+    visit(rt, alloc, book, seat, &*tick, Some(wanted));
+    visit(rt, alloc, book, seat, &*tick, None);
     release(rt, live, &mut worker, tick);
     worker
 }
@@ -229,7 +229,7 @@ fn a_visit_follows_an_entity_to_another_region(rt: HostRuntime) {
     open(&rt, &live, &mut caller);
     let tick = claim(&rt, &live, &mut first);
     let other = claim(&rt, &live, &mut second);
-    are_of_two_regions(&rt, &tick, &other);
+    are_of_two_regions(&rt, &*tick, &*other);
     let second = run_and_end(&rt, alloc, &live, second, &book, &mut seat, other, &[]);
     let first = run_and_end(&rt, alloc, &live, first, &book, &mut seat, tick, &[]);
     go_on(&rt, &live, &mut caller);

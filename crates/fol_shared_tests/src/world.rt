@@ -120,13 +120,13 @@ pub fn finish<R: Abort + Wait>(rt: &R, live: &Live, seat: &mut Seat, wanted: Fin
 }
 
 /// Claims a tick, which is offered.
-pub fn claim(rt: &impl Abort, live: &Live, seat: &mut Seat) -> Tick
+pub fn claim(rt: &impl Abort, live: &Live, seat: &mut Seat) -> Box<Tick>
     requires own { seat.old.lock ≡ live_id live.now }
     requires worker { seat.old.number ≢ 0 }
     requires free { held seat.old ≡ None }
     ensures own { seat.new.lock ≡ live_id live.now }
     ensures number { seat.new.number ≡ seat.old.number }
-    ensures holds { HoldsTick seat.new result }
+    ensures holds { HoldsTick seat.new result.value }
 {
     match live.try_begin(seat) {
         TryBegin::Got(tick) => tick,
@@ -150,9 +150,9 @@ pub fn run<R: Abort + Wait>(rt: &R, alloc: Global, live: &Live, seat: Seat, tick
 }
 
 /// Ends a tick that has run.
-pub fn release<R: Abort + Wait>(rt: &R, live: &Live, seat: &mut Seat, tick: Tick)
+pub fn release<R: Abort + Wait>(rt: &R, live: &Live, seat: &mut Seat, tick: Box<Tick>)
     requires own { seat.old.lock ≡ live_id live.now }
-    requires holds { HoldsRun seat.old tick }
+    requires holds { HoldsRun seat.old tick.value }
     ensures own { seat.new.lock ≡ live_id live.now }
     ensures free { held seat.new ≡ None }
     ensures number { seat.new.number ≡ seat.old.number }

@@ -1,7 +1,7 @@
 use Rattle.std.proofs.Common.{◌≡◌, ◌∙◌, sym, ap, refl, length, arith, List, [], ◌∷◌, ◌++◌, append_assoc}
 use Rattle.std.specs.Vec.Iter.{into_iter_items}
 use Rattle.fol_slots.specs.Shown.{Worker}
-use Rattle.fol_offers.specs.declared.offer.Offer.{Offer}
+use Rattle.fol_offers.specs.Offered.{Offered}
 use Rattle.fol_live.specs.Seat.{Shown}
 use Rattle.fol_live.proofs.Dealing.{all_dealt, deals_all, fresh_free, fresh_sit, none_left}
 use Rattle.fol_live.proofs.Taken.{SeatOfLock, view}
@@ -68,6 +68,6 @@ loop-seat-preserved c =
 pub returns : goal.returns
 returns c =
     let left : List SeatOfLock = into_iter_items c.loop-seat.seat-iterator in
-    let rest : List (Worker Offer) = into_iter_items c.loop-seat.rest in
+    let rest : List (Worker Offered) = into_iter_items c.loop-seat.rest in
     let none : length left ≡ 0 = sym c.loop-seat.invariant.counted ∙ c.in-None.ensures.steps.0 in
     deals_all c.args.seats.items c.args.workers.items c.loop-seat.dealt.items (all_dealt c.loop-seat.dealt.items _ c.loop-seat.hand left rest none c.loop-seat.invariant.whole)

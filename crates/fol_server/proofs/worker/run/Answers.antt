@@ -1,10 +1,12 @@
-use Rattle.std.proofs.Common.{◌≡◌}
+use Rattle.std.proofs.Common.{◌≡◌, subst, sym}
+use Rattle.fol_data.specs.declared.tick.Tick.{Tick}
+use Rattle.fol_tick.specs.Runs.{Finishes, MayRun}
 use Rattle.fol_live.specs.Goes.{Hosts}
 use Rattle.fol_live.proofs.HeldTicks.{held_may_run, hosts_lock, hosts_number, run_held}
 use Rattle.fol_server.proofs.worker.run.Goals as goal
 
 pub run_tick-ran-requires : goal.run_tick-ran-requires
-run_tick-ran-requires g c = held_may_run c.args.seat c.args.tick c.requires.holds
+run_tick-ran-requires g c = subst MayRun (sym c.deref_mut.ensures.value) (held_may_run c.args.seat c.args.tick.value c.requires.holds)
 
 pub returns-in-Ok : goal.returns-in-Ok
 returns-in-Ok g c =
@@ -14,7 +16,8 @@ returns-in-Ok g c =
     let hosts : Hosts c.args.seat ok.0 c.run_tick-ran.new.host.seat = rw taken at ok.1 in
     let back : Hosts c.args.seat ok.0 c.into_seat-seat.result = rw given hosts in (
       (hosts_lock _ _ ok.0 back, hosts_number _ _ ok.0 back),
-      run_held c.args.seat c.into_seat-seat.result c.args.tick c.run_tick-ran.new.tick ok.0 c.requires.holds ok.2 back,
+      run_held c.args.seat c.into_seat-seat.result c.args.tick.value c.run_tick-ran.new.tick ok.0 c.requires.holds
+          (subst (λ (t : Tick). Finishes t c.run_tick-ran.new.tick ok.0) c.deref_mut.ensures.value ok.2) back,
     )
 
 pub returns-in-Err : goal.returns-in-Err

@@ -1,7 +1,7 @@
 use Rattle.std.proofs.Common.{◌≡◌, ◌∙◌, sym, ap, subst, arith, ℕ}
 use Rattle.std.specs.Prelude.{None, Some}
 use Rattle.fol_slots.specs.Shown.{Worker}
-use Rattle.fol_offers.specs.declared.offer.Offer.{Offer}
+use Rattle.fol_offers.specs.Offered.{Offered}
 use Rattle.fol_live.specs.Hands.{MissesThese}
 use Rattle.fol_live.specs.Rounds.{numbers_from}
 use Rattle.fol_live.proofs.Trying.{misses_more, misses_none, no_region}
@@ -9,23 +9,23 @@ use Rattle.fol_live.proofs.hand.Hand.claim_within.Goals as goal
 
 pub loop-i-init : goal.loop-i-init
 loop-i-init c =
-    let w : Worker Offer = c.self.inside.worker in
+    let w : Worker Offered = c.self.inside.worker in
     let free : w.slot ≡ None = rw c.self.view_is c.requires.free in
     record {
       reached = omega arith;
       empty = no_region c.self.inside.region w c.self.invariant free;
-      missed = subst (λ (x : Worker Offer). MissesThese x w (numbers_from c.args.first c.args.first)) c.self.view_is (misses_none w c.args.first);
+      missed = subst (λ (x : Worker Offered). MissesThese x w (numbers_from c.args.first c.args.first)) c.self.view_is (misses_none w c.args.first);
     }
 
 pub invariant_of-self : goal.invariant_of-self
 invariant_of-self c =
-    let w : Worker Offer = c.self.inside.worker in
+    let w : Worker Offered = c.self.inside.worker in
     let free : w.slot ≡ None = rw c.self.view_is c.requires.free in
     let before = c.self.invariant.free (no_region c.self.inside.region w c.self.invariant free) in
-    let same = ap (λ (x : Worker Offer). x.slot) c.loop-i.invariant.missed.is in
-    let claimed = ap (λ (x : Worker Offer). x.claimed) c.loop-i.invariant.missed.is in
+    let same = ap (λ (x : Worker Offered). x.slot) c.loop-i.invariant.missed.is in
+    let claimed = ap (λ (x : Worker Offered). x.claimed) c.loop-i.invariant.missed.is in
     record {
-      free = λ e. (same ∙ c.requires.free, claimed ∙ ap (λ (x : Worker Offer). x.claimed) (sym c.self.view_is) ∙ before.1);
+      free = λ e. (same ∙ c.requires.free, claimed ∙ ap (λ (x : Worker Offered). x.claimed) (sym c.self.view_is) ∙ before.1);
       has = λ r e. absurd (none_is r (sym c.loop-i.invariant.empty ∙ e));
     }
   where

@@ -15,7 +15,7 @@ invariant_of-self c =
     let kept : IsKept (shown old) = rw c.deref_mut.ensures.value c.self.invariant.0 in
     let there : Tells c.deref.result.now = record { grid = c.keeps.ensures.grid; run = c.keeps.ensures.run; turns = c.keeps.ensures.in_turn } in
     let tells : Tells new = subst Tells c.deref.ensures there in
-    ((ends old new c.args.tick.now c.end-seat.result.1 kept tells c.end-seat.ensures.ends).keeps, λ never. absurd (cc))
+    ((ends old new c.args.tick.value c.end-seat.result.1 kept tells c.end-seat.ensures.ends).keeps, λ never. absurd (cc))
 
 pub returns-clause-ends : goal.returns-clause-ends
 returns-clause-ends c =
@@ -24,5 +24,5 @@ returns-clause-ends c =
     let kept : IsKept (shown old) = rw c.deref_mut.ensures.value c.self.invariant.0 in
     let there : Tells c.deref.result.now = record { grid = c.keeps.ensures.grid; run = c.keeps.ensures.run; turns = c.keeps.ensures.in_turn } in
     let tells : Tells new = subst Tells c.deref.ensures there in
-    carried (λ a b. Ends a b c.args.tick.now c.end-seat.result.1) (ap shown c.deref_mut.ensures.value ∙ c.self.view_is) refl
-    (ends old new c.args.tick.now c.end-seat.result.1 kept tells c.end-seat.ensures.ends)
+    carried (λ a b. Ends a b c.args.tick.value c.end-seat.result.1) (ap shown c.deref_mut.ensures.value ∙ c.self.view_is) refl
+    (ends old new c.args.tick.value c.end-seat.result.1 kept tells c.end-seat.ensures.ends)

@@ -1,4 +1,4 @@
-use Rattle.std.proofs.Common.{rules, ◌≡◌, ℕ, ◌<◌, List, ◌++◌, refl, sym, ap, subst, false, Some}
+use Rattle.std.proofs.Common.{rules, ◌≡◌, ℕ, ◌<◌, List, ◌++◌, refl, sym, ◌∙◌, ap, subst, false, Some}
 use Rattle.std.proofs.lemmas.Bool.{eq-eqb}
 use Rattle.fol_model.specs.declared.events.Entry.{Entry}
 use Rattle.fol_data.specs.declared.tick.Tick.{Tick}
@@ -6,12 +6,11 @@ use Rattle.fol_core.specs.Ahead.{Spares}
 use Rattle.fol_core.specs.Meaning.{Meaning, is_prepared, world_of}
 use Rattle.fol_core.specs.Ticks.{IsOut}
 use Rattle.fol_tick_laws.specs.OpenTicks.{IsOpen}
-use Rattle.fol_slots.specs.Shown.{Keeper, held_slot}
-use Rattle.fol_offers.specs.declared.offer.Offer.{Offer}
+use Rattle.fol_slots.specs.Shown.{Keeper, held_slot, keeping}
+use Rattle.fol_offers.specs.Offered.{Offered, of_tick}
 use Rattle.fol_offers.specs.Ends.{wishes_may_touch}
 use Rattle.fol_offers.specs.InTurn.{IsFree}
 use Rattle.fol_offers.specs.Shown.{Shown}
-use Rattle.fol_offers.specs.Tied.{of_tick}
 use Rattle.fol_offers.proofs.MetTicks.{end_spares, gives_slot, out_when_open, tied_taken_in}
 use Rattle.fol_offers.proofs.Turns.{end_frees}
 use Rattle.fol_offers.proofs.Tying.{tied_stays}
@@ -39,7 +38,7 @@ slot_of-requires c = (gives_slot c.self.inside.core c.self.inside.keeper c.self.
 pub invariant_of-self-in-Ok : goal.invariant_of-self-in-Ok
 invariant_of-self-in-Ok c =
     let m : Meaning = c.self.inside.core in
-    let s : Keeper Offer = c.self.inside.keeper in
+    let s : Keeper Offered = c.self.inside.keeper in
     let xs : List ℕ = c.self.inside.places in
     let tick : Tick = c.args.tick.now in
     let out : IsOut m tick = out_when_open m c.args.seat tick c.requires.ran
@@ -48,7 +47,7 @@ invariant_of-self-in-Ok c =
     tied_taken_in m s xs c.self.invariant (search rules) tick out c.end.new.self c.take_in-seat.new.keeper c.clear.new.self c.args.seat c.in-Some.i has c.in-Some.ensures.some.0 c.in-Some.ensures.some.1
     (subst (λ (v : Shown). is_prepared v.core tick.region ≡ false) (sym c.self.view_is) c.requires.known)
     (subst (λ (v : Shown). Spares v.core (wishes_may_touch (world_of v.core) tick.log.wishes)) (sym c.self.view_is) c.requires.cleared)
-    c.in-Ok.ensures.recorded c.take_in-seat.ensures.keeper c.clear.ensures
+    c.in-Ok.ensures.recorded (c.take_in-seat.ensures.keeper ∙ ap (λ (o : Offered). keeping s (held_slot c.args.seat) (Some o)) c.nothing.ensures) c.clear.ensures
 
 pub unreachable-requires : goal.unreachable-requires
 unreachable-requires c =
@@ -63,10 +62,10 @@ clear-requires c =
 pub returns-in-Some-clause-free : goal.returns-in-Some-clause-free
 returns-in-Some-clause-free c =
     let m : Meaning = c.self.inside.core in
-    let s : Keeper Offer = c.self.inside.keeper in
+    let s : Keeper Offered = c.self.inside.keeper in
     let tick : Tick = c.args.tick.now in
     let out : IsOut m tick = out_when_open m c.args.seat tick c.requires.ran
     (subst (λ (v : Shown). (t : Tick) → c.args.seat.claimed ≡ Some (of_tick t) → IsOpen v.core (record t { worker = c.args.seat.number })) (sym c.self.view_is) c.requires.open) in
     let free = end_frees s.workers tick.worker tick.region m.history (out.made.before ++ out.made.between) out.made.since _ _ c.self.invariant.in_turn out.made.begin refl out.made.runs_on (eq-eqb tick.region tick.region refl) in
     let now : IsFree s.workers c.end.new.self.history tick.worker = subst (λ (h : List Entry). IsFree s.workers h tick.worker) (sym c.in-Ok.ensures.recorded.history) free in
-    subst (λ (k : ℕ). IsFree k c.end.new.self.history tick.worker) (sym (ap (λ (x : Keeper Offer). x.workers) c.take_in-seat.ensures.keeper)) now
+    subst (λ (k : ℕ). IsFree k c.end.new.self.history tick.worker) (sym (ap (λ (x : Keeper Offered). x.workers) c.take_in-seat.ensures.keeper)) now

@@ -8,14 +8,13 @@ use Rattle.fol_core.specs.Meaning.{Meaning, world_of}
 use Rattle.fol_core.specs.Ticks.{IsOut}
 use Rattle.fol_tick_laws.specs.OpenTicks.{IsOpen}
 use Rattle.fol_slots.specs.Shown.{Worker}
-use Rattle.fol_offers.specs.declared.offer.Offer.{Offer}
+use Rattle.fol_offers.specs.Offered.{Offered, of_tick}
 use Rattle.fol_offers.specs.Ends.{wishes_may_touch}
 use Rattle.fol_offers.specs.Shown.{Shown}
-use Rattle.fol_offers.specs.Tied.{of_tick}
 use Rattle.fol_offers.proofs.CalledBack.{cleared_open, cleared_spared, cleared_unmarked}
 use Rattle.fol_offers.proofs.MetTicks.{gives_has, met_unmarked, out_when_open, wishes_within}
 use Rattle.fol_offers.proofs.Wishes.{each}
-use Rattle.fol_offers.proofs.offers.Offers.end.Goals as goal
+use Rattle.fol_offers.proofs.offers.Offers.end_in_place.Goals as goal
 
 pub meet-seat-requires-clause-has : goal.meet-seat-requires-clause-has
 meet-seat-requires-clause-has c = gives_has c.args.seat c.args.tick.now c.requires.ran
@@ -34,7 +33,7 @@ pub take_back-requires-clause-open : goal.take_back-requires-clause-open
 take_back-requires-clause-open c =
     let met : Shown = c.meet-seat.new.self in
     let cleared : Shown = c.clear_wishes.new.self in
-    subst (λ (s : Worker Offer). (t : Tick) → s.claimed ≡ Some (of_tick t) → IsOpen cleared.core (record t { worker = s.number })) (sym c.meet-seat.ensures.seat)
+    subst (λ (s : Worker Offered). (t : Tick) → s.claimed ≡ Some (of_tick t) → IsOpen cleared.core (record t { worker = s.number })) (sym c.meet-seat.ensures.seat)
     (λ t e. cleared_open met cleared c.args.tick.now.worker c.as_slice.result.now c.clear_wishes.result c.clear_wishes.ensures (record t { worker = c.args.seat.number }) (c.meet-seat.ensures.open t e))
 
 pub take_back-requires-clause-known : goal.take_back-requires-clause-known
