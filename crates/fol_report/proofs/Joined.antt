@@ -5,7 +5,9 @@ use Rattle.std.proofs.lemmas.List.Concat.{flat_map-append}
 use Rattle.std.proofs.lemmas.Fmt.{decimal_digit}
 use Rattle.fol_model.specs.LineWords.{Word, lines_of}
 use Rattle.fol_model.specs.TextLines.{line_of}
-use Rattle.fol_model.specs.ReportWords.{end_words}
+use Rattle.fol_model.specs.ReportWords.{accept_words, action_words, chunk_words, end_words}
+use Rattle.fol_model.specs.declared.actions.Action.{Action}
+use Rattle.fol_model.specs.declared.places.ChunkPos.{ChunkPos}
 use Rattle.fol_model.specs.declared.tasks.Ran.{Ran}
 use Rattle.fol_model.specs.declared.events.Accept.{Accept}
 use Rattle.fol_report.specs.Spaced.{spaced, joined, joined_lines}
@@ -27,14 +29,16 @@ joined_lines_of words (r ∷ rows) = let e = line_of_joined (words r) in let k =
 
 -- the line of an end, where no task ran and none was asked for
 pub quiet_end : (worker region tick : ℕ) → joined (end_words worker region tick [] [])
-    ≡ codes "end " ++ decimal worker ++ codes " " ++ decimal region ++ codes " tick " ++ decimal tick ++ codes " ran 0 accepted 0"
+    ≡ joined (codes "end" ∷ decimal worker ∷ decimal region ∷ codes "tick" ∷ decimal tick ∷ []) ++ codes " ran 0 accepted 0"
 quiet_end worker region tick = let zero : decimal 0 ≡ 48 ∷ [] = decimal_digit 0 (omega arith) in rw zero (simp append_assoc)
-
--- a line that was put behind a page, as the same line behind what lies before the page
-pub behind_page : (out page new ended line other : List ℕ) → ended ≡ new ++ 10 ∷ [] → new ≡ page ++ line → other ≡ line → out ++ ended ≡ out ++ page ++ other ++ 10 ∷ []
-behind_page out page new ended line other f e k = rw (f, e, k) (simp append_assoc)
 
 -- the same line as one of no task and no ask
 pub none_of : (worker region tick : ℕ) (ran : List Ran) (accepts : List Accept) → length ran ≡ 0 → length accepts ≡ 0
     → joined (end_words worker region tick ran accepts) ≡ joined (end_words worker region tick [] [])
 none_of worker region tick ran accepts none none' = let e = nil_from_length ran none in let e' = nil_from_length accepts none' in rw (e, e') refl
+
+-- the line of a post, in the three parts that it is put in
+pub post_parts : (caller delay : ℕ) (chunk : ChunkPos) (answer : Accept) (action : Action)
+    → joined (codes "post" ∷ decimal caller ∷ chunk_words chunk ++ decimal delay ∷ accept_words answer ++ action_words action)
+    ≡ joined (codes "post" ∷ decimal caller ∷ chunk_words chunk ++ decimal delay ∷ []) ++ spaced (accept_words answer) ++ spaced (action_words action)
+post_parts caller delay chunk answer action = rw (spaced_append (accept_words answer) (action_words action)) (simp append_assoc)

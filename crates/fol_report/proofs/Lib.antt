@@ -1,6 +1,9 @@
+pub mod Behind
 pub mod Joined
 pub mod JsonText
+pub mod Lengths
 pub mod Pages
 pub mod PlainBytes
 pub mod PlainWords
 pub mod Quoted
+pub mod Seats

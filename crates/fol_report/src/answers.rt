@@ -1,116 +1,109 @@
 //! The words of answers: what a load, an unload, a post and a task came to.
 
-ghost use Rattle.std.specs.Prelude.{◌≡◌, ◌+◌, ◌≤◌, ◌++◌, [], ◌∷◌, length, codes, decimal, flat_map, IfOk, string_bytes};
+ghost use Rattle.std.specs.Prelude.{◌≡◌, ◌+◌, ◌≤◌, ◌++◌, ◌∷◌, length, IfOk, string_bytes};
 ghost use Rattle.fol_model.specs.ReportWords.{accept_words, full_words, loaded_words, outcome_word, ran_words, unloaded_words};
 ghost use Rattle.fol_report.specs.Spaced.{spaced};
 
-use crate::tail::Tail;
-use crate::words::{put_number, put_word};
+use crate::page::Page;
 use fol_model::{Accept, Loaded, Outcome, Ran, Unloaded};
 use std::alloc::AllocError;
 
 /// Puts the answer that too many sections would be present.
-fn put_full(out: &mut String, present: u32, wanted: u32) -> Result<(), AllocError>
-    ensures { IfOk result (λ _. string_bytes out.new
-        ≡ string_bytes out.old ++ spaced (full_words present wanted)) }
+fn push_full(page: &mut Page, present: u32, wanted: u32)
+    requires { length page.old + 32 ≤ 1024 }
+    ensures text { page.new ≡ page.old ++ spaced (full_words present wanted) }
+    ensures len { length page.new ≤ length page.old + 32 }
 {
-    put_word(out, "full")?;
-    put_number(out, present)?;
-    put_number(out, wanted)
+    page.push_word(b" full ");
+    page.push_short(present);
+    page.push_word(b" ");
+    page.push_short(wanted);
 }
 
 /// Puts what a load came to.
-pub fn put_loaded(out: &mut String, answer: Loaded) -> Result<(), AllocError>
-    ensures { IfOk result (λ _. string_bytes out.new
-        ≡ string_bytes out.old ++ spaced (loaded_words answer)) }
+pub fn push_loaded(page: &mut Page, answer: Loaded)
+    requires { length page.old + 32 ≤ 1024 }
+    ensures text { page.new ≡ page.old ++ spaced (loaded_words answer) }
+    ensures len { length page.new ≤ length page.old + 32 }
 {
     match answer {
-        Loaded::Counted => put_word(out, "counted"),
-        Loaded::Full { present, wanted } => put_full(out, present, wanted),
-        Loaded::Over => put_word(out, "over"),
+        Loaded::Counted => page.push_word(b" counted"),
+        Loaded::Full { present, wanted } => push_full(page, present, wanted),
+        Loaded::Over => page.push_word(b" over"),
     }
 }
 
 /// Puts what an unload came to.
-pub fn put_unloaded(out: &mut String, answer: Unloaded) -> Result<(), AllocError>
-    ensures { IfOk result (λ _. string_bytes out.new
-        ≡ string_bytes out.old ++ spaced (unloaded_words answer)) }
+pub fn push_unloaded(page: &mut Page, answer: Unloaded)
+    requires { length page.old + 32 ≤ 1024 }
+    ensures text { page.new ≡ page.old ++ spaced (unloaded_words answer) }
+    ensures len { length page.new ≤ length page.old + 32 }
 {
     match answer {
-        Unloaded::Lowered => put_word(out, "lowered"),
-        Unloaded::NoTicket => put_word(out, "noticket"),
-        Unloaded::Over => put_word(out, "over"),
+        Unloaded::Lowered => page.push_word(b" lowered"),
+        Unloaded::NoTicket => page.push_word(b" noticket"),
+        Unloaded::Over => page.push_word(b" over"),
     }
 }
 
 /// Puts what became of a task that was asked for.
-pub fn put_accept(out: &mut String, answer: Accept) -> Result<(), AllocError>
-    ensures { IfOk result (λ _. string_bytes out.new
-        ≡ string_bytes out.old ++ spaced (accept_words answer)) }
+fn push_accept(page: &mut Page, answer: Accept)
+    requires { length page.old + 32 ≤ 1024 }
+    ensures text { page.new ≡ page.old ++ spaced (accept_words answer) }
+    ensures len { length page.new ≤ length page.old + 32 }
 {
     match answer {
-        Accept::Posted(number) => put_posted(out, number),
-        Accept::Full { present, wanted } => put_full(out, present, wanted),
+        Accept::Posted(number) => {
+            page.push_word(b" posted ");
+            page.push_number(number);
+        }
+        Accept::Full { present, wanted } => push_full(page, present, wanted),
     }
 }
 
-/// Puts under which number a task was accepted.
-fn put_posted(out: &mut String, number: u64) -> Result<(), AllocError>
-    ensures { IfOk result (λ _. string_bytes out.new
-        ≡ string_bytes out.old ++ spaced (codes "posted" ∷ decimal number ∷ [])) }
+/// Puts what became of a task that was asked for, once there is room for it.
+pub fn put_accept(out: &mut String, page: &mut Page, answer: Accept) -> Result<(), AllocError>
+    ensures { IfOk result (λ _. string_bytes out.new ++ page.new
+        ≡ (string_bytes out.old ++ page.old) ++ spaced (accept_words answer)) }
 {
-    let mut words = Tail::new();
-    words.push_number(number);
-    words.push_word(b" posted ");
-    words.put(out)
-}
-
-/// Puts what became of each task that a tick asked for.
-pub fn put_all_accepts(out: &mut String, answers: &[Accept]) -> Result<(), AllocError>
-    ensures { IfOk result (λ _. string_bytes out.new
-        ≡ string_bytes out.old ++ spaced (flat_map accept_words answers.now)) }
-{
-    for answer in answers {
-        put_accept(out, *answer)?;
-    }
+    page.make_room(out)?;
+    push_accept(page, answer);
     Ok(())
 }
 
-/// Puts what a task came to in front of a text.
+/// Puts what a task came to.
 #[inline]
-fn push_outcome(words: &mut Tail, outcome: Outcome)
-    requires { length words.old + 9 ≤ 80 }
-    ensures text { words.new ≡ (32 ∷ outcome_word outcome) ++ words.old }
-    ensures len { length words.new ≤ length words.old + 9 }
+fn push_outcome(page: &mut Page, outcome: Outcome)
+    requires { length page.old + 9 ≤ 1024 }
+    ensures text { page.new ≡ page.old ++ 32 ∷ outcome_word outcome }
+    ensures len { length page.new ≤ length page.old + 9 }
 {
     match outcome {
-        Outcome::Done => words.push_word(b" done"),
-        Outcome::Foreign => words.push_word(b" foreign"),
-        Outcome::Absent => words.push_word(b" absent"),
-        Outcome::Full => words.push_word(b" full"),
-        Outcome::NoTicket => words.push_word(b" noticket"),
+        Outcome::Done => page.push_word(b" done"),
+        Outcome::Foreign => page.push_word(b" foreign"),
+        Outcome::Absent => page.push_word(b" absent"),
+        Outcome::Full => page.push_word(b" full"),
+        Outcome::NoTicket => page.push_word(b" noticket"),
     }
 }
 
 /// Puts the number and the outcome of a task that ran.
-fn put_one_ran(out: &mut String, task: Ran) -> Result<(), AllocError>
-    ensures { IfOk result (λ _. string_bytes out.new
-        ≡ string_bytes out.old ++ spaced (ran_words task)) }
+fn push_ran(page: &mut Page, task: Ran)
+    requires { length page.old + 32 ≤ 1024 }
+    ensures text { page.new ≡ page.old ++ spaced (ran_words task) }
+    ensures len { length page.new ≤ length page.old + 32 }
 {
-    let mut words = Tail::new();
-    push_outcome(&mut words, task.outcome);
-    words.push_number(task.number);
-    words.push_word(b" ");
-    words.put(out)
+    page.push_word(b" ");
+    page.push_number(task.number);
+    push_outcome(page, task.outcome);
 }
 
-/// Puts the number and the outcome of each task that ran.
-pub fn put_all_ran(out: &mut String, ran: &[Ran]) -> Result<(), AllocError>
-    ensures { IfOk result (λ _. string_bytes out.new
-        ≡ string_bytes out.old ++ spaced (flat_map ran_words ran.now)) }
+/// Puts the number and the outcome of a task that ran, once there is room for them.
+pub fn put_one_ran(out: &mut String, page: &mut Page, task: Ran) -> Result<(), AllocError>
+    ensures { IfOk result (λ _. string_bytes out.new ++ page.new
+        ≡ (string_bytes out.old ++ page.old) ++ spaced (ran_words task)) }
 {
-    for task in ran {
-        put_one_ran(out, *task)?;
-    }
+    page.make_room(out)?;
+    push_ran(page, task);
     Ok(())
 }

@@ -78,6 +78,7 @@ fn count_digits(n: u64) -> usize
 }
 
 /// Writes a long number, and returns the place behind it.
+#[inline(never)]
 fn put_long(bytes: &mut [u8], at: usize, n: u64) -> usize
     requires { at + length (decimal n) ≤ length bytes.old }
     ensures end { result ≡ at + length (decimal n) }

@@ -1,230 +1,145 @@
 //! The line of an event. The seat that recorded it is not written.
 
-ghost use Rattle.std.specs.Prelude.{◌≡◌, ◌+◌, ◌≤◌, [], ◌∷◌, ◌++◌, codes, decimal, flat_map, length, IfOk, string_bytes};
-ghost use Rattle.fol_model.specs.ReportWords.{accept_words, action_words, chunk_words, end_words, entry_words, event_words, loaded_words, ran_words, unloaded_words};
-ghost use Rattle.fol_report.specs.Spaced.{joined, spaced};
+ghost use Rattle.std.specs.Prelude.{◌≡◌, ◌+◌, ◌≤◌, [], ◌∷◌, ◌++◌, codes, decimal, length, IfOk, string_bytes};
+ghost use Rattle.fol_model.specs.ReportWords.{accept_words, action_words, chunk_words, entry_words, event_words, loaded_words, unloaded_words};
+ghost use Rattle.fol_report.specs.Spaced.{joined};
 ghost use Rattle.fol_model.specs.Packed.{event_seen};
-ghost use Rattle.fol_model.specs.declared.events.Event.TheVariants.{Begin};
+ghost use Rattle.fol_model.specs.declared.events.Event.TheVariants.{Begin, Load, Unload};
 
 use crate::actions::put_action;
-use crate::answers::{put_accept, put_all_accepts, put_all_ran, put_loaded, put_unloaded};
+use crate::answers::{push_loaded, push_unloaded, put_accept};
+use crate::ends::put_end;
 use crate::lines::Line;
 use crate::page::Page;
-use crate::tail::Tail;
-use crate::words::{push_chunk, put_number};
-use fol_model::{Accept, Action, ChunkPos, EventRef, Loaded, PackedEntry, Ran, Unloaded};
+use fol_model::{Accept, Action, ChunkPos, EventRef, Loaded, PackedEntry, Unloaded};
 use std::alloc::AllocError;
 
-/// Puts the line of a begin, one of the two most frequent lines, in a page.
+/// Puts the line of a begin, one of the two most frequent lines.
+#[inline(always)]
 pub fn push_begin(page: &mut Page, worker: u32, region: u64)
     requires { length page.old + 127 ≤ 1024 }
     ensures text { page.new ≡ page.old ++ joined (event_words (Begin worker region)) }
     ensures len { length page.new ≤ length page.old + 127 }
 {
     page.push_word(b"begin ");
-    page.push_number(worker as u64);
-    page.push_word(b" ");
-    page.push_number(region);
-}
-
-/// Puts the line of an end of a tick in which no task ran, and which asked for none, in a page: the other of the two most frequent lines.
-pub fn push_quiet_end(page: &mut Page, worker: u32, region: u64, tick: u64)
-    requires { length page.old + 127 ≤ 1024 }
-    ensures text { page.new ≡ page.old ++ joined (end_words worker region tick [] []) }
-    ensures len { length page.new ≤ length page.old + 127 }
-{
-    page.push_word(b"end ");
-    page.push_number(worker as u64);
-    page.push_word(b" ");
-    page.push_number(region);
-    page.push_word(b" tick ");
-    page.push_number(tick);
-    page.push_word(b" ran 0 accepted 0");
-}
-
-/// Puts the line of a begin.
-fn put_begin(out: &mut String, worker: u32, region: u64) -> Result<(), AllocError>
-    ensures { IfOk result (λ _. string_bytes out.new
-        ≡ string_bytes out.old ++ joined (event_words (Begin worker region))) }
-{
-    let mut page = Page::new();
-    push_begin(&mut page, worker, region);
-    page.put(out)
-}
-
-/// Puts the line of a quiet end.
-fn put_quiet_end(out: &mut String, worker: u32, region: u64, tick: u64) -> Result<(), AllocError>
-    ensures { IfOk result (λ _. string_bytes out.new
-        ≡ string_bytes out.old ++ joined (end_words worker region tick [] [])) }
-{
-    let mut page = Page::new();
-    push_quiet_end(&mut page, worker, region, tick);
-    page.put(out)
-}
-
-/// Puts the tasks that ran, after their count.
-fn put_ran(out: &mut String, ran: &[Ran]) -> Result<(), AllocError>
-    ensures { IfOk result (λ _. string_bytes out.new
-        ≡ string_bytes out.old ++ spaced
-        (codes "ran" ∷ decimal (length ran.now) ∷ flat_map ran_words ran.now)) }
-{
-    out.push_str(" ran")?;
-    put_number(out, ran.len())?;
-    put_all_ran(out, ran)
-}
-
-/// Puts what became of the tasks that a tick asked for, after their count.
-fn put_accepted(out: &mut String, accepts: &[Accept]) -> Result<(), AllocError>
-    ensures { IfOk result (λ _. string_bytes out.new
-        ≡ string_bytes out.old ++ spaced
-        (codes "accepted" ∷ decimal (length accepts.now) ∷ flat_map accept_words accepts.now)) }
-{
-    out.push_str(" accepted")?;
-    put_number(out, accepts.len())?;
-    put_all_accepts(out, accepts)
-}
-
-/// Puts what the line of an end begins with: which tick it ends.
-fn put_ended(out: &mut String, worker: u32, region: u64, tick: u64) -> Result<(), AllocError>
-    ensures { IfOk result (λ _. string_bytes out.new
-        ≡ string_bytes out.old ++ joined
-        (codes "end" ∷ decimal worker ∷ decimal region ∷ codes "tick" ∷ decimal tick ∷ [])) }
-{
-    let mut line = Tail::new();
-    line.push_number(tick);
-    line.push_word(b" tick ");
-    line.push_number(region);
-    line.push_word(b" ");
-    line.push_short(worker);
-    line.push_word(b"end ");
-    line.put(out)
-}
-
-/// Puts the line of an end.
-#[tactic(auto, using(crate::proofs::Joined::spaced_append))]
-pub fn put_end(
-    out: &mut String,
-    worker: u32,
-    region: u64,
-    tick: u64,
-    ran: &[Ran],
-    accepts: &[Accept],
-) -> Result<(), AllocError>
-    ensures { IfOk result (λ _. string_bytes out.new
-        ≡ string_bytes out.old ++ joined (end_words worker region tick ran.now accepts.now)) }
-{
-    if ran.is_empty() && accepts.is_empty() {
-        return put_quiet_end(out, worker, region, tick);
-    }
-    put_ended(out, worker, region, tick)?;
-    put_ran(out, ran)?;
-    put_accepted(out, accepts)
+    page.push_seat(worker, region);
 }
 
 /// Puts the line of a load.
-fn put_load(
-    out: &mut String,
-    caller: u32,
-    chunk: ChunkPos,
-    answer: Loaded,
-) -> Result<(), AllocError>
-    ensures { IfOk result (λ _. string_bytes out.new
-        ≡ string_bytes out.old ++ joined (codes "load" ∷ decimal caller ∷ chunk_words chunk
-        ++ loaded_words answer)) }
+fn push_load(page: &mut Page, caller: u32, chunk: ChunkPos, answer: Loaded)
+    requires { length page.old + 127 ≤ 1024 }
+    ensures text { page.new ≡ page.old ++ joined (event_words (Load caller chunk answer)) }
+    ensures len { length page.new ≤ length page.old + 127 }
 {
-    let mut line = Tail::new();
-    push_chunk(&mut line, chunk);
-    line.push_short(caller);
-    line.push_word(b"load ");
-    line.put(out)?;
-    put_loaded(out, answer)
+    page.push_word(b"load ");
+    page.push_short(caller);
+    page.push_chunk(chunk);
+    push_loaded(page, answer);
 }
 
 /// Puts the line of an unload.
-fn put_unload(
-    out: &mut String,
-    caller: u32,
-    chunk: ChunkPos,
-    answer: Unloaded,
-) -> Result<(), AllocError>
-    ensures { IfOk result (λ _. string_bytes out.new
-        ≡ string_bytes out.old ++ joined (codes "unload" ∷ decimal caller ∷ chunk_words chunk
-        ++ unloaded_words answer)) }
+fn push_unload(page: &mut Page, caller: u32, chunk: ChunkPos, answer: Unloaded)
+    requires { length page.old + 127 ≤ 1024 }
+    ensures text { page.new ≡ page.old ++ joined (event_words (Unload caller chunk answer)) }
+    ensures len { length page.new ≤ length page.old + 127 }
 {
-    let mut line = Tail::new();
-    push_chunk(&mut line, chunk);
-    line.push_short(caller);
-    line.push_word(b"unload ");
-    line.put(out)?;
-    put_unloaded(out, answer)
+    page.push_word(b"unload ");
+    page.push_short(caller);
+    page.push_chunk(chunk);
+    push_unloaded(page, answer);
 }
 
-/// Puts the line of a post.
+/// Puts what the line of a post begins with: all but its answer and its action.
+fn push_posts(page: &mut Page, caller: u32, chunk: ChunkPos, delay: u32)
+    requires { length page.old + 127 ≤ 1024 }
+    ensures { page.new ≡ page.old ++ joined (codes "post" ∷ decimal caller ∷ chunk_words chunk
+        ++ decimal delay ∷ []) }
+{
+    page.push_word(b"post ");
+    page.push_short(caller);
+    page.push_chunk(chunk);
+    page.push_word(b" ");
+    page.push_short(delay);
+}
+
+/// Puts the line of a post, whose action has any length.
 fn put_post(
     out: &mut String,
+    page: &mut Page,
     caller: u32,
     chunk: ChunkPos,
     delay: u32,
     action: &Action,
     answer: Accept,
 ) -> Result<(), AllocError>
-    ensures { IfOk result (λ _. string_bytes out.new
-        ≡ string_bytes out.old ++ joined (codes "post" ∷ decimal caller ∷ chunk_words chunk
+    requires { length page.old + 127 ≤ 1024 }
+    ensures text { IfOk result (λ _. string_bytes out.new ++ page.new
+        ≡ (string_bytes out.old ++ page.old)
+        ++ joined (codes "post" ∷ decimal caller ∷ chunk_words chunk
         ++ decimal delay ∷ accept_words answer ++ action_words action.now)) }
+    ensures none { IfOk result (λ _. page.new ≡ []) }
 {
-    let mut line = Tail::new();
-    line.push_short(delay);
-    line.push_word(b" ");
-    push_chunk(&mut line, chunk);
-    line.push_short(caller);
-    line.push_word(b"post ");
-    line.put(out)?;
-    put_accept(out, answer)?;
-    put_action(out, action)
+    push_posts(page, caller, chunk, delay);
+    put_accept(out, page, answer)?;
+    page.put(out)?;
+    put_action(out, action)?;
+    Ok(())
 }
 
-/// Puts the line of an event without its end.
-pub fn put_event(out: &mut String, event: EventRef) -> Result<(), AllocError>
-    ensures { IfOk result (λ _. string_bytes out.new
-        ≡ string_bytes out.old ++ joined (event_words (event_seen event.entry))) }
+/// Puts the line of an event without its end, for which there is room then.
+pub fn put_event(out: &mut String, page: &mut Page, event: EventRef) -> Result<(), AllocError>
+    requires { length page.old + 128 ≤ 1024 }
+    ensures text { IfOk result (λ _. string_bytes out.new ++ page.new
+        ≡ (string_bytes out.old ++ page.old)
+        ++ joined (event_words (event_seen event.entry))) }
+    ensures room { IfOk result (λ _. length page.new + 1 ≤ 1024) }
 {
     match event {
         EventRef::Load {
             caller,
             chunk,
             answer,
-        } => put_load(out, caller, chunk, answer),
+        } => push_load(page, caller, chunk, answer),
         EventRef::Unload {
             caller,
             chunk,
             answer,
-        } => put_unload(out, caller, chunk, answer),
+        } => push_unload(page, caller, chunk, answer),
         EventRef::Post {
             caller,
             chunk,
             delay,
             action,
             answer,
-        } => put_post(out, caller, chunk, delay, action, answer),
-        EventRef::PhaseOpen(ticks) => write!(out, "open {ticks}"),
-        EventRef::Begin { worker, region } => put_begin(out, worker, region),
+        } => return put_post(out, page, caller, chunk, delay, action, answer),
+        EventRef::PhaseOpen(ticks) => {
+            page.push_word(b"open ");
+            page.push_short(ticks);
+        }
+        EventRef::Begin { worker, region } => push_begin(page, worker, region),
         EventRef::End {
             worker,
             region,
             tick,
             ran,
             accepts,
-        } => put_end(out, worker, region, tick, ran, accepts),
-        EventRef::PhaseClose => out.push_str("close"),
-        EventRef::Finish => out.push_str("finish"),
-        EventRef::Stop { caller } => write!(out, "stop {caller}"),
+        } => return put_end(out, page, worker, region, tick, ran, accepts),
+        EventRef::PhaseClose => page.push_word(b"close"),
+        EventRef::Finish => page.push_word(b"finish"),
+        EventRef::Stop { caller } => {
+            page.push_word(b"stop ");
+            page.push_short(caller);
+        }
     }
+    Ok(())
 }
 
 impl Line for PackedEntry {
     ghost words = { entry_words };
 
     fn put(&self, out: &mut String) -> Result<(), AllocError> {
-        put_event(out, self.event())
+        let mut page = Page::new();
+        put_event(out, &mut page, self.event())?;
+        page.put(out)
     }
 }

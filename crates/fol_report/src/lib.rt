@@ -2,8 +2,8 @@
 //!
 //! A report is made of lines, a line of words. What the words of each event and row are is said in `fol_model`, and so are the
 //! three whole texts; each function here gives exactly that text, or is out of memory. `lines` has what all lines share,
-//! `events`, `actions`, `answers` and `rows` spell one line each, `history` gathers those that are most frequent in a `page`, whose
-//! numbers `digits` writes, `text` and `json_form` put the lines together, and `counts` makes the summary.
+//! `events`, `ends`, `actions`, `answers` and `rows` spell one line each, `history` gathers those of its events in a `page`, whose
+//! words `row`, whose numbers `digits` and whose seats `stretch` writes, `text` and `json_form` put the lines together, and `counts` makes the summary.
 //!
 //! A text is built in one buffer that the lines are pushed into, so its cost is linear in its length. This crate serves the top
 //! call, which writes what it gives.
@@ -13,12 +13,15 @@ mod actions;
 mod answers;
 mod counts;
 mod digits;
+mod ends;
 mod events;
 mod history;
 mod json_form;
 mod lines;
 mod page;
+mod row;
 mod rows;
+mod stretch;
 mod tail;
 mod text;
 mod words;

@@ -1,20 +1,27 @@
 //! A page of lines.
 
-ghost use Rattle.std.specs.Prelude.{◌≡◌, ◌+◌, ◌≤◌, [], ◌++◌, decimal, length, IfOk, IsAscii, string_bytes};
+ghost use Rattle.std.specs.Prelude.{◌≡◌, ◌+◌, ◌≤◌, [], ◌∷◌, ◌++◌, decimal, length, IfOk, IsAscii, string_bytes};
+ghost use Rattle.std.specs.Fmt.{signed_decimal};
+ghost use Rattle.fol_model.specs.ReportWords.{chunk_words};
+ghost use Rattle.fol_report.specs.Spaced.{spaced};
 
 use crate::digits::put_digits;
+use crate::row::write_word;
+use crate::stretch::Stretch;
+use fol_model::ChunkPos;
 use std::alloc::AllocError;
 use std::marker::Model;
 
 /// How many bytes it can have.
 const ROOM: usize = 1024;
 
-/// A text that grows at its end, for short lines. The lines of a report as text share one, which is put once it has no room for one more, and
-/// before a line that is not made in it; a line of a JSON report has one of its own.
+/// A text that grows at its end, in which the lines of a history are made. Those of a report as text share one, which is put once it may have no
+/// room for what comes next, and before the action of a post; a line of a JSON report has one of its own.
 #[derive(Drop)]
 pub struct Page {
     bytes: [u8; ROOM],
     len: usize,
+    stretch: Stretch,
 }
 
 impl Model for Page {
@@ -37,6 +44,7 @@ impl Page {
         Page {
             bytes: [0; ROOM],
             len: 0,
+            stretch: Stretch::of(0, 0),
         }
     }
 
@@ -47,9 +55,7 @@ impl Page {
         requires ascii { IsAscii word.now }
         ensures { self.new ≡ self.old ++ word.now }
     {
-        let end = self.len + word.len();
-        self.bytes[self.len..end].copy_from_slice(word);
-        self.len = end;
+        self.len = write_word(&mut self.bytes, self.len, word);
     }
 
     /// Puts a number behind the text, of 20 digits at most.
@@ -60,6 +66,52 @@ impl Page {
         ensures len { length self.new ≤ length self.old + 20 }
     {
         self.len = put_digits(&mut self.bytes, self.len, number);
+    }
+
+    /// Puts a number behind the text, of 10 digits at most.
+    #[inline(always)]
+    pub fn push_short(&mut self, number: u32)
+        requires { length self.old + 10 ≤ 1024 }
+        ensures text { self.new ≡ self.old ++ decimal number }
+        ensures len { length self.new ≤ length self.old + 10 }
+    {
+        self.len = put_digits(&mut self.bytes, self.len, number as u64);
+    }
+
+    /// Puts a number behind the text, of 10 digits at most behind its sign.
+    #[inline]
+    pub fn push_signed(&mut self, number: i32)
+        requires { length self.old + 11 ≤ 1024 }
+        ensures text { self.new ≡ self.old ++ signed_decimal number }
+        ensures len { length self.new ≤ length self.old + 11 }
+    {
+        if number < 0 {
+            self.push_word(b"-");
+        }
+        self.push_short(number.unsigned_abs());
+    }
+
+    /// Puts the coordinates of a chunk behind the text.
+    pub fn push_chunk(&mut self, at: ChunkPos)
+        requires { length self.old + 24 ≤ 1024 }
+        ensures text { self.new ≡ self.old ++ spaced (chunk_words at) }
+        ensures len { length self.new ≤ length self.old + 24 }
+    {
+        self.push_word(b" ");
+        self.push_signed(at.x);
+        self.push_word(b" ");
+        self.push_signed(at.z);
+    }
+
+    /// Puts the numbers of a worker and of a region behind the text.
+    #[inline(always)]
+    pub fn push_seat(&mut self, worker: u32, region: u64)
+        requires { length self.old + 32 ≤ 1024 }
+        ensures text { self.new ≡ self.old ++ decimal worker ++ 32 ∷ decimal region }
+        ensures len { length self.new ≤ length self.old + 32 }
+    {
+        self.stretch.turn_to(worker, region);
+        self.len = self.stretch.put(&mut self.bytes, self.len);
     }
 
     /// Puts the text behind another one, and leaves none.

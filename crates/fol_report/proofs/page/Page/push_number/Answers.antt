@@ -1,29 +1,27 @@
-use Rattle.std.proofs.Common.{ℕ, ◌<◌, ◌≤◌, ◌^◌, ◌++◌, ◌∙◌, sym, arith, decimal, length, length-append, length-take-le, ap}
+use Rattle.std.proofs.Common.{ℕ, ◌++◌, ◌∙◌, sym, arith, decimal, length, length-append, length-take-le, ap}
 use Rattle.std.proofs.lemmas.Str.{IsAscii-append}
-use Rattle.std.proofs.lemmas.Fmt.{IsAscii-decimal, length-decimal-le}
+use Rattle.std.proofs.lemmas.Fmt.{IsAscii-decimal}
+use Rattle.fol_report.proofs.Lengths.{twenty_digits}
 use Rattle.fol_report.proofs.page.Page.push_number.Goals as goal
-
-digits : (n : ℕ) → n < 2 ^ 64 → length (decimal n) ≤ 20
-digits n h = length-decimal-le 20 n (omega arith) (omega (arith, h)) h
 
 pub put_digits-self-inside-requires : goal.put_digits-self-inside-requires
 put_digits-self-inside-requires c =
     let p = c.self.inside in
     let long = sym (ap length c.self.view_is) ∙ length-take-le p.len p.bytes (omega (arith, c.self.invariant.within, c.self.invariant.room)) in
-    omega (arith, long, c.requires, digits c.args.number (omega arith), c.self.invariant.room)
+    omega (arith, long, c.requires, twenty_digits c.args.number (omega arith), c.self.invariant.room)
 
 pub returns-clause-text : goal.returns-clause-text
 returns-clause-text c = c.put_digits-self-inside.ensures.written ∙ ap (λ t. t ++ decimal c.args.number) c.self.view_is
 
 pub returns-clause-len : goal.returns-clause-len
-returns-clause-len c = rw (returns-clause-text c) (omega (arith, length-append {A = ℕ}, digits c.args.number (omega arith)))
+returns-clause-len c = rw (returns-clause-text c) (omega (arith, length-append {A = ℕ}, twenty_digits c.args.number (omega arith)))
 
 pub invariant_of-self : goal.invariant_of-self
 invariant_of-self c =
     let p = c.self.inside in
     let long = sym (ap length c.self.view_is) ∙ length-take-le p.len p.bytes (omega (arith, c.self.invariant.within, c.self.invariant.room)) in
     record {
-      within = omega (arith, long, c.requires, c.put_digits-self-inside.ensures.end, digits c.args.number (omega arith));
+      within = omega (arith, long, c.requires, c.put_digits-self-inside.ensures.end, twenty_digits c.args.number (omega arith));
       room = omega arith;
       ascii = rw (returns-clause-text c, ← c.self.view_is) (IsAscii-append _ _ c.self.invariant.ascii (IsAscii-decimal c.args.number (omega arith)));
     }

@@ -1,20 +1,18 @@
-use Rattle.std.proofs.Common.{ℕ, ◌<◌, ◌≤◌, ◌^◌, arith, decimal, length, length-append, length-drop, ap}
+use Rattle.std.proofs.Common.{ℕ, arith, length, length-append, length-drop, ap}
 use Rattle.std.proofs.lemmas.Str.{IsAscii-append}
-use Rattle.std.proofs.lemmas.Fmt.{IsAscii-decimal, length-decimal-le}
+use Rattle.std.proofs.lemmas.Fmt.{IsAscii-decimal}
+use Rattle.fol_report.proofs.Lengths.{twenty_digits}
 use Rattle.fol_report.proofs.tail.Tail.push_number.Goals as goal
-
-digits : (n : ℕ) → n < 2 ^ 64 → length (decimal n) ≤ 20
-digits n h = length-decimal-le 20 n (omega arith) (omega (arith, h)) h
 
 pub write_digits-self-inside-requires : goal.write_digits-self-inside-requires
 write_digits-self-inside-requires c =
     let t = c.self.inside in
-    (omega (arith, digits c.args.number (omega arith), length-drop t.start t.bytes, ap length c.self.view_is), omega (arith, c.self.invariant.within))
+    (omega (arith, twenty_digits c.args.number (omega arith), length-drop t.start t.bytes, ap length c.self.view_is), omega (arith, c.self.invariant.within))
 
 pub returns-clause-len : goal.returns-clause-len
 returns-clause-len c =
     let w = c.write_digits-self-inside in
-    rw (w.ensures.written, c.self.view_is) (omega (arith, length-append {A = ℕ}, digits c.args.number (omega arith)))
+    rw (w.ensures.written, c.self.view_is) (omega (arith, length-append {A = ℕ}, twenty_digits c.args.number (omega arith)))
 
 pub invariant_of-self : goal.invariant_of-self
 invariant_of-self c =
