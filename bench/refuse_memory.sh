@@ -1,9 +1,11 @@
 #!/usr/bin/env bash
 # Refuses each allocation of a run in turn, one number a run, and says what came of it. Each run must end with 7 and nothing on standard
-# output, or, where the refused request was not needed, with 0 and the whole output.
+# output, or, where the refused request was not needed, with 0 and the whole output. With several workers two whole outputs may differ: a
+# report of `run` is whole, too, where the program's own `check` finds it legal. A run that does not end within a minute is wrong.
 #
 #     bench/refuse_memory.sh [WORD ..]      a small library that the program is started with refuses
 #     FIRST=1 LAST=50 bench/refuse_memory.sh make 3      these numbers alone
+#     PROGRAM=path/to/another bench/refuse_memory.sh ..  another program that takes the same words
 #
 # It refuses in the program as users have it; bench/refuse_memory_checked.py does the same by the toolchain's own runner.
 # The words are the program's own; without words it takes examples/first and one worker. Status 0 means that each run was right.
@@ -90,12 +92,22 @@ C
 # run_with NUMBER: leaves the output in $work/out and the status in $status; 0 refuses nothing.
 run_with() {
     status=0
-    REFUSE=$1 REFUSE_COUNT="$work/count" LD_PRELOAD="$work/refuse.so" \
-        "$root/crates/fol_main/out/fol_main" "${words[@]}" >"$work/out" 2>"$work/err" || status=$?
+    timeout 60 env REFUSE="$1" REFUSE_COUNT="$work/count" LD_PRELOAD="$work/refuse.so" \
+        "$program" "${words[@]}" >"$work/out" 2>"$work/err" || status=$?
 }
 
-# With no words the program says that they are no command; this builds it where it is missing or old.
-"$root/fol" >/dev/null 2>&1 || true
+# Whether the output is whole.
+is_whole() {
+    cmp -s "$work/out" "$work/whole" && return
+    [ "${words[0]}" = run ] && "$program" check "${words[1]}" "${words[2]}" "$work/out" >/dev/null 2>&1
+}
+
+program=${PROGRAM:-}
+if [ -z "$program" ]; then
+    # With no words the program says that they are no command; this builds it where it is missing or old.
+    "$root/fol" >/dev/null 2>&1 || true
+    program="$root/crates/fol_main/out/fol_main"
+fi
 make_library
 
 run_with 0
@@ -112,7 +124,7 @@ for ((number = first; number <= last; number++)); do
     run_with "$number"
     if [ "$status" = 7 ] && [ ! -s "$work/out" ]; then
         refused=$((refused + 1))
-    elif [ "$status" = 0 ] && cmp -s "$work/out" "$work/whole"; then
+    elif [ "$status" = 0 ] && is_whole; then
         unneeded=$((unneeded + 1))
     else
         wrong=$((wrong + 1))

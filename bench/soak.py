@@ -1,9 +1,10 @@
 #!/usr/bin/env python3
 """Runs a program on made-up scripts with several numbers of workers, and judges each report. bench/soak.sh builds the program first.
 
-    bench/soak.py PROGRAM [--workers 1,2,4] [--rounds N] [--seed N] [--limit SECONDS] [--only KIND,..] [--keep FOLDER] [--replay]
+    bench/soak.py PROGRAM [--workers 1,2,4] [--rounds N] [--minutes N] [--seed N] [--limit SECONDS] [--only KIND,..] [--keep FOLDER] [--replay]
 
-A round makes one world and script of each kind from the seed, which is one more in each round. A run fails where it does not end within
+A round makes one world and script of each kind from the seed, which is one more in each round. With --minutes no round begins after that time.
+Every five minutes a line on standard error says how far it is. A run fails where it does not end within
 the limit, ends with another status than 0, writes a complaint, or writes a report that the program's own `check` does not find legal. With
 --replay each report is judged a second time, by the replay of its events in replay.py, which shares nothing with the program. Of the kinds
 whose last state does not depend on the order, that state has to be the same for all numbers of workers. What fails is kept in the folder,
@@ -20,6 +21,9 @@ from pathlib import Path
 sys.dont_write_bytecode = True
 import replay
 import soak_scripts
+
+# How many seconds pass between two lines that say how far it is.
+TELLS = 300
 
 
 def output(words, limit):
@@ -88,6 +92,7 @@ def read_words():
     parser.add_argument("program")
     parser.add_argument("--workers", default="1")
     parser.add_argument("--rounds", type=int, default=10)
+    parser.add_argument("--minutes", type=float, default=float("inf"))
     parser.add_argument("--seed", type=int, default=1)
     parser.add_argument("--limit", type=float, default=60)
     parser.add_argument("--only", default=",".join((*soak_scripts.FIXED, *soak_scripts.FREE)))
@@ -100,15 +105,21 @@ def main():
     words = read_words()
     soak = Soak(words)
     kinds = words.only.split(",")
-    begun = dict.fromkeys(kinds, 0.0)
+    taken = dict.fromkeys(kinds, 0.0)
+    rounds = 0
+    begun = told = time.monotonic()
     with tempfile.TemporaryDirectory() as folder:
-        for seed in range(words.seed, words.seed + words.rounds):
+        while rounds < words.rounds and time.monotonic() - begun < 60 * words.minutes:
             for kind in kinds:
                 start = time.monotonic()
-                soak.judge(Path(folder), kind, seed)
-                begun[kind] += time.monotonic() - start
-    print(", ".join(f"{kind} {seconds:.1f} s" for kind, seconds in begun.items()))
-    print(f"{words.rounds} rounds of {len(kinds)} kinds, workers {words.workers}: {soak.runs} runs, {soak.events} events, {soak.failed} failures")
+                soak.judge(Path(folder), kind, words.seed + rounds)
+                taken[kind] += time.monotonic() - start
+            rounds += 1
+            if time.monotonic() - told >= TELLS:
+                told = time.monotonic()
+                print(f"{(told - begun) / 60:.0f} minutes: {rounds} rounds, {soak.runs} runs, {soak.failed} failures", file=sys.stderr, flush=True)
+    print(", ".join(f"{kind} {seconds:.1f} s" for kind, seconds in taken.items()))
+    print(f"{rounds} rounds of {len(kinds)} kinds, workers {words.workers}: {soak.runs} runs, {soak.events} events, {soak.failed} failures")
     return 1 if soak.failed else 0
 
 

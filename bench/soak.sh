@@ -5,6 +5,7 @@
 #
 #     bench/soak.sh [WORKERS [ROUNDS [SEED]]]      bench/soak.sh 1,2,4,8,64 100 1
 #     PROGRAM=path/to/another bench/soak.sh ..     another program that takes the same words
+#     MINUTES=60 bench/soak.sh 1,8,64 100000       no round begins after so many minutes
 #
 # Each run may take LIMIT seconds, 60 if that is not set. What fails is kept in soak-failures, and the status is 1.
 set -euo pipefail
@@ -16,4 +17,4 @@ if [ -z "$program" ]; then
     "$root/fol" >/dev/null 2>&1 || true
     program="$root/crates/fol_main/out/fol_main"
 fi
-exec python3 -B "$here/soak.py" "$program" --workers "${1:-1}" --rounds "${2:-10}" --seed "${3:-1}" --limit "${LIMIT:-60}" ${REPLAY:+--replay}
+exec python3 -B "$here/soak.py" "$program" --workers "${1:-1}" --rounds "${2:-10}" --seed "${3:-1}" --limit "${LIMIT:-60}" ${MINUTES:+--minutes "$MINUTES"} ${REPLAY:+--replay}
