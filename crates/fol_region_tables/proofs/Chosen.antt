@@ -119,6 +119,14 @@ lower id ys h (x ∷ xs) = elim (cases_Bool (nat_lt x id)) [
   | inr e ↦ rw e (lower id ys h xs)
 ]
 
+-- a rising list with one more id rises
+pub rising_with : (id : ℕ) (xs : List ℕ) → IsStrictlySortedBy nat_cmp xs → IsStrictlySortedBy nat_cmp (with_id id xs)
+unfolding IsStrictlySortedBy
+rising_with id xs sorted =
+    let u = upper id xs in
+    sorted_append nat_cmp (filter (λ k. nat_lt k id) xs) (id ∷ filter (λ k. nat_lt id k) xs) (IsStrictlySortedBy-filter nat_cmp (λ k. nat_lt k id) xs sorted)
+    (u, IsStrictlySortedBy-filter nat_cmp (λ k. nat_lt id k) xs sorted) (lower id (filter (λ k. nat_lt id k) xs) u xs)
+
 pub chosen_below : (p : ℕ → Bool) (n : ℕ) → ((k : ℕ) → p k ≡ true → k < n) → (k : ℕ) → list_any (nat_eq k) (filter p (numbers_below n)) ≡ p k
 chosen_below p n below k = chosen_numbers p n k ∙ elim (cases_Bool (p k)) [
   | inl e ↦ let l : nat_lt k n ≡ true = lt-ltb k n (below k e) in rw (e, l) refl
@@ -153,13 +161,9 @@ module _ (p : ℕ → Bool) (n id : ℕ) (l : id < n) (below : (k : ℕ) → p k
   within k h = elim (or_cases (nat_eq id k) (p k) h) [ inl e ↦ let x = eqb-true id k e in omega arith | inr e ↦ below k e ]
 
   pub with_chosen : with_id id (filter p (numbers_below n)) ≡ filter (λ k. nat_eq id k || p k) (numbers_below n)
-  unfolding IsStrictlySortedBy
   with_chosen =
       let xs : List ℕ = filter p (numbers_below n) in
-      let sorted = IsStrictlySortedBy-filter nat_cmp p (numbers_below n) (numbers_sorted n) in
-      let u = upper id xs in
-      let rows = sorted_append nat_cmp (filter (λ k. nat_lt k id) xs) (id ∷ filter (λ k. nat_lt id k) xs) (IsStrictlySortedBy-filter nat_cmp (λ k. nat_lt k id) xs sorted)
-      (u, IsStrictlySortedBy-filter nat_cmp (λ k. nat_lt id k) xs sorted) (lower id (filter (λ k. nat_lt id k) xs) u xs) in
+      let rows = rising_with id xs (IsStrictlySortedBy-filter nat_cmp p (numbers_below n) (numbers_sorted n)) in
       (number_rows_are n (λ k. nat_eq id k || p k) (with_id id xs) rows members within).0
 
 pub without_chosen : (p : ℕ → Bool) (n id : ℕ) → without_id id (filter p (numbers_below n)) ≡ filter (λ k. not (nat_eq id k) && p k) (numbers_below n)

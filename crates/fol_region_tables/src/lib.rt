@@ -18,5 +18,4 @@ mod rows;
 mod slots;
 mod tables;
 
-pub use links::add_id;
 pub use tables::Tables;

@@ -137,7 +137,7 @@ fn put_made(lists: &mut Lists<u64>, n: usize, made: &[u64], used: usize) -> usiz
 }
 
 /// Puts a rising list with one more id into an empty one with room for it.
-pub fn add_id(ids: &[u64], id: u64, out: &mut Vec<u64>)
+fn add_id(ids: &[u64], id: u64, out: &mut Vec<u64>)
     requires none { out.old.items ≡ [] }
     requires room { length ids.now < vec_capacity out.old }
     ensures added { out.new.items ≡ with_id id ids.now }

@@ -9,7 +9,7 @@ use Rattle.fol_model.specs.declared.places.SectionPos.{SectionPos}
 use Rattle.fol_model.specs.Add.{add, counted, extended, is_full, is_greatest, is_near, is_near_calm, is_wanted, target, target_waits, wanted}
 use Rattle.fol_model.specs.Geometry.{is_chunk, is_section, is_within, section_of}
 use Rattle.fol_model.specs.GridNumbers.{IsGrid}
-use Rattle.fol_model.specs.GridState.{GridState, at_chunk}
+use Rattle.fol_model.specs.GridState.{at_chunk}
 use Rattle.fol_model.specs.GridState as grid
 use Rattle.fol_model.specs.Rules.{Rules}
 use Rattle.fol_model.specs.Universe.{all_sections, count_sections}

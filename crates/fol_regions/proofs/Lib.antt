@@ -7,6 +7,7 @@ pub mod ChangeLists
 pub mod JoinAll
 pub mod NearRegions
 pub mod NearRuns
+pub mod RisingIds
 pub mod ReleaseFacts
 pub mod Resting
 pub mod AddSteps

@@ -150,3 +150,7 @@ regions_none owner next = go (numbers_below next)
     go : (ns : List ℕ) → filter (λ r. nat_lt 0 r && false) ns ≡ []
     go [] = refl
     go (n ∷ ns) = let e = and-false (nat_lt 0 n) in rw e (go ns)
+
+-- the region of one section
+pub regions_one : (owner : SectionPos → ℕ) (next : ℕ) → ((s : SectionPos) → 0 < owner s → owner s < next) → (s : SectionPos) → noted (owner s) [] ≡ regions_of owner next (s ∷ [])
+regions_one owner next below s = ap (noted (owner s)) (sym (regions_none owner next)) ∙ regions_more owner next below [] s

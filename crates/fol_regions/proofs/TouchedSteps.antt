@@ -1,5 +1,5 @@
 -- The regions near a chunk that an event on it may touch.
-use Rattle.std.proofs.Common.{◌≡◌, ℕ, ◌+◌, ◌≤◌, ◌<◌, refl, sym, ◌∙◌, ap, arith, Bool, true, false, cond, not, ◌&&◌, ◌||◌, inl, inr}
+use Rattle.std.proofs.Common.{◌≡◌, ℕ, ◌+◌, ◌≤◌, ◌<◌, refl, sym, ◌∙◌, ap, arith, Bool, true, false, cond, not, ◌&&◌, ◌||◌, [], ◌∷◌, inl, inr}
 use Rattle.std.specs.Prelude.{filter, nat_abs, nat_eq, nat_lt}
 use Rattle.std.proofs.Math.Bool.{or-false}
 use Rattle.std.proofs.lemmas.Bool.{cases_Bool, and_parts, and_from, or_cases, or_right, lt-ltb, ltb-true, le-leb, leb-true}
@@ -9,7 +9,7 @@ use Rattle.fol_model.specs.declared.places.SectionPos.{SectionPos}
 use Rattle.fol_model.specs.Add.{is_full, is_near}
 use Rattle.fol_model.specs.Geometry.{is_chunk, is_section, is_within, section_of}
 use Rattle.fol_model.specs.GridNumbers.{IsGrid}
-use Rattle.fol_model.specs.Universe.{numbers_below}
+use Rattle.fol_model.specs.Universe.{numbers_below, some_section}
 use Rattle.fol_laws.specs.LateBegin.{ground, draws_in}
 use Rattle.fol_laws.proofs.AllSections.{some_section-is, some_section-gives}
 use Rattle.fol_laws.proofs.Distances.{no_distance, self_distance}
@@ -20,7 +20,7 @@ use Rattle.fol_sections.specs.Table.{is_full_for, missing_count}
 use Rattle.fol_sections.proofs.Margins.{section_near}
 use Rattle.fol_region_tables.specs.Book.{Book, owner_of}
 use Rattle.fol_region_tables.proofs.Chosen.{filter_like}
-use Rattle.fol_regions.specs.Near.{is_close}
+use Rattle.fol_regions.specs.Near.{is_close, regions_of}
 use Rattle.fol_regions.specs.Released.{IsPresence, grid_of}
 use Rattle.fol_regions.specs.Touched.{is_touched}
 use Rattle.fol_regions.proofs.HoldSteps as hold
@@ -37,6 +37,14 @@ module _ (owner : SectionPos → ℕ) (home : SectionPos) (limits : is_section h
       let x = some_section-gives (λ s. nat_eq (owner s) r && is_within home 0 s) (and_parts (nat_lt 0 r) _ h).1 in
       let p = and_parts (nat_eq (owner x.0) r) (is_within home 0 x.0) x.2 in
       ap (λ (s : SectionPos). nat_eq (owner s) r) (no_distance home x.0 (leb-true _ _ p.1)) ∙ p.0) (own_close 0)
+
+-- the regions of one section
+owner_near : (owner : SectionPos → ℕ) (home : SectionPos) → is_section home ≡ true → (next : ℕ) → regions_of owner next (home ∷ []) ≡ filter (is_close owner home 0) (numbers_below next)
+unfolding regions_of
+owner_near owner home limits next = filter_like _ _ (λ r. elim (cases_Bool (nat_lt 0 r)) [
+  | inl e ↦ ap (λ b. b && (nat_eq (owner home) r || false)) e ∙ or-false (nat_eq (owner home) r) ∙ sym (close_alone owner home limits r (ltb-true 0 r e))
+  | inr e ↦ ap (λ b. b && (nat_eq (owner home) r || false)) e ∙ sym (ap (λ b. b && some_section (λ s. nat_eq (owner s) r && is_within home 0 s)) e)
+]) (numbers_below next)
 
 -- the section of a chunk is within the limits
 home_section : (grid : Grid) (c : ChunkPos) → IsGrid grid → is_chunk c ≡ true → is_section (section_of grid c) ≡ true
@@ -77,3 +85,8 @@ module _ (s : sections.Table) (b : Book) (presence : IsPresence s b) (ok : IsGri
   touched_are reach e =
       ap (λ (n : ℕ). filter (is_close (owner_of b) (section_of s.grid c) n) (numbers_below b.next)) e
       ∙ filter_like _ _ touched_is (numbers_below b.next)
+
+  -- where it would make none, the owner of the chunk's section
+  pub owner_touched : 0 ≡ cond (not (is_full_for s c) && not (nat_eq (missing_count s c) 0)) (s.grid.create + s.grid.merge) 0
+      → regions_of (owner_of b) b.next (section_of s.grid c ∷ []) ≡ filter (is_touched (grid_of s b) c) (numbers_below b.next)
+  owner_touched e = owner_near (owner_of b) (section_of s.grid c) at_home b.next ∙ touched_are 0 e

@@ -13,7 +13,7 @@ ghost use Rattle.fol_model.specs.Drop.{drop_hold};
 ghost use Rattle.fol_model.specs.Release.{release};
 ghost use Rattle.fol_model.specs.Rules.{Rules};
 ghost use Rattle.fol_model.specs.Outputs.{is_chunk_of, chunk_count};
-ghost use Rattle.fol_regions.specs.Changes.{add_change, release_change};
+ghost use Rattle.fol_regions.specs.Changes.{add_change, nothing, release_change};
 ghost use Rattle.fol_regions.specs.DeadBounds.{most_in};
 ghost use Rattle.fol_regions.specs.Touched.{is_touched};
 ghost use Rattle.fol_regions.specs.Answers.{IsGiven, add_answer, remove_answer, begin_answer, begun_state, some_id, state_answer, unbegun};
@@ -73,9 +73,10 @@ impl Regions {
     ghost use Rattle.fol_regions.specs.Released.{grid_of};
     ghost use Rattle.fol_regions.specs.Table.{Table, grid_state};
 
-    /// No region and no section. Takes the memory for 16,384 sections.
+    /// No region and no section, and nothing changed yet. Takes the memory for 16,384 sections.
     pub fn new(alloc: Global, grid: Grid) -> Result<Regions, AllocError>
         ensures empty { IfOk result (λ t. grid_state t ≡ empty grid) }
+        ensures last { IfOk result (λ t. t.last ≡ nothing) }
     {
         let _create = grid.create;
         let sections = Sections::new(alloc, grid)?;

@@ -1,29 +1,23 @@
 //! The regions that an event on a chunk may touch.
 
-ghost use Rattle.std.specs.Prelude.{◌≡◌, ◌+◌, IsTrue, IfOk, filter, if◌then◌else◌};
+ghost use Rattle.std.specs.Prelude.{◌≡◌, ◌≤◌, ◌∷◌, [], IsTrue, IfOk, filter, nat_abs};
 ghost use Rattle.fol_model.specs.Geometry.{is_chunk};
 ghost use Rattle.fol_model.specs.GridNumbers.{IsGrid};
 ghost use Rattle.fol_model.specs.Universe.{numbers_below};
+ghost use Rattle.fol_region_tables.specs.Book.{owner_of};
+ghost use Rattle.fol_regions.specs.Near.{is_close, regions_of};
 ghost use Rattle.fol_regions.specs.Released.{IsPresence, grid_of};
 ghost use Rattle.fol_regions.specs.Touched.{is_touched};
 
 use crate::add::reach;
 use crate::near::NearRegions;
-use fol_model::{ChunkPos, Grid, section_of};
+use fol_model::{ChunkPos, Grid, SectionPos, section_of};
 use fol_region_tables::Tables;
 use fol_sections::Sections;
 use std::alloc::{AllocError, Global};
 
-/// How far round the section of a chunk a region may be for an event on the chunk to touch it: where an added hold makes sections
-/// present, as far as that reaches, and else no further than the section itself.
-fn touch_reach(grid: &Grid, fills: bool) -> u8
-    requires { IsGrid grid.now }
-    ensures { result ≡ (if fills then grid.now.create + grid.now.merge else 0) }
-{
-    if fills { reach(grid) } else { 0 }
-}
-
-/// The regions that an event on a chunk may touch, rising. Looks where an added hold does.
+/// The regions that an event on a chunk may touch, rising. Looks where an added hold does: as far as that reaches where it makes sections
+/// present, and else no further than the section of the chunk itself.
 pub fn list_touched(
     alloc: Global,
     grid: &Grid,
@@ -38,8 +32,41 @@ pub fn list_touched(
     ensures { IfOk result (λ ids. ids.items
         ≡ filter (is_touched (grid_of sections.now tables.now) c) (numbers_below tables.now.next)) }
 {
-    let fills = sections.will_fill(alloc, c)?;
+    let home = section_of(grid, c);
+    if sections.will_fill(c) {
+        list_near(alloc, tables, home, reach(grid))
+    } else {
+        list_owner(alloc, tables, home)
+    }
+}
+
+/// The regions with a section within a radius, rising.
+fn list_near(
+    alloc: Global,
+    tables: &Tables,
+    home: SectionPos,
+    radius: u8,
+) -> Result<Vec<u64>, AllocError>
+    requires home { (nat_abs home.x ≤ 1000008) × (nat_abs home.z ≤ 1000008) }
+    requires radius { radius ≤ 12 }
+    ensures { IfOk result (λ ids. ids.items
+        ≡ filter (is_close (owner_of tables.now) home radius) (numbers_below tables.now.next)) }
+{
     let mut near = NearRegions::new(alloc)?;
-    near.find(tables, section_of(grid, c), touch_reach(grid, fills));
+    near.find(tables, home, radius);
     Ok(near.into_ids())
+}
+
+/// The region of a section, if it has one.
+fn list_owner(alloc: Global, tables: &Tables, home: SectionPos) -> Result<Vec<u64>, AllocError>
+    ensures { IfOk result (λ ids. ids.items
+        ≡ regions_of (owner_of tables.now) tables.now.next (home ∷ [])) }
+{
+    tables.keeps_lists();
+    let id = tables.owner(home);
+    let mut ids = Vec::new(alloc);
+    if id != 0 {
+        ids.push(id)?;
+    }
+    Ok(ids)
 }

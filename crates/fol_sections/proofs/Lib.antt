@@ -22,3 +22,4 @@ pub mod PageStretches
 pub mod DropSteps
 pub mod MarkSteps
 pub mod HeldChunks
+pub mod SquareWalks

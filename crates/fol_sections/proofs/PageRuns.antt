@@ -6,6 +6,7 @@ use Rattle.std.specs.List.{count_by, filter}
 use Rattle.std.specs.Option.{option_and_then, unwrap_or}
 use Rattle.std.proofs.lemmas.Bool.{cases_Bool, cases_eq, cases_lt, true≢false}
 use Rattle.std.proofs.lemmas.List.{get_or-set_same, get_or-set_other}
+use Rattle.std.proofs.lemmas.List.Sums.{length-filter}
 use Rattle.fol_model.specs.declared.places.SectionPos.{SectionPos}
 use Rattle.fol_model.specs.Geometry.{same_section}
 use Rattle.fol_laws.proofs.SamePlaces.{same_section-true, same_section-self}
@@ -48,6 +49,18 @@ count_none p x z (suc n) h =
     let e : suc n ≡ n + 1 = omega arith in
     let k = count_none p x z n (λ i l. h i (omega arith)) in
     ap (λ m. count_by p (row_of section_at x z m)) e ∙ count_more section_at p x z n ∙ rw (k, h n (omega arith)) refl
+
+-- a test that all sections of a row pass
+pub count_whole : (p : SectionPos → Bool) (x z : ℤ) (n : ℕ) → ((i : ℕ) → i < n → p (section_at (x +ℤ pos i) z) ≡ true) → count_by p (row_of section_at x z n) ≡ n
+count_whole p x z zero h = ap (count_by p) (row-none section_at x z)
+count_whole p x z (suc n) h =
+    let e : suc n ≡ n + 1 = omega arith in
+    let k = count_whole p x z n (λ i l. h i (omega arith)) in
+    ap (λ m. count_by p (row_of section_at x z m)) e ∙ count_more section_at p x z n ∙ rw (k, h n (omega arith)) (sym e)
+
+-- tests that agree on a row count the same of it
+pub count_like : (p q : SectionPos → Bool) (x z : ℤ) (n : ℕ) → ((i : ℕ) → i < n → p (section_at (x +ℤ pos i) z) ≡ q (section_at (x +ℤ pos i) z)) → count_by p (row_of section_at x z n) ≡ count_by q (row_of section_at x z n)
+count_like p q x z n h = sym (length-filter p (row_of section_at x z n)) ∙ ap length (filter_row p q x z n h) ∙ length-filter q (row_of section_at x z n)
 
 -- what is kept of a present section
 pub some_is : (o : Option Counts) → is_some o ≡ true → o ≡ Some (unwrap_or o no_counts)

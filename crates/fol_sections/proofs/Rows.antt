@@ -74,6 +74,11 @@ module _ {X : Type 0} where
     pub rows-more : (x z : ℤ) (rows n : ℕ) → rows_of at x z (rows + 1) n ≡ rows_of at x z rows n ++ row_of at x (z +ℤ pos rows) n
     rows-more x z rows n = rows-split x z rows 1 n ∙ ap (λ xs. rows_of at x z rows n ++ xs) (rows-one x (z +ℤ pos rows) n)
 
+    pub rows-first : (x z : ℤ) (rows n : ℕ) → rows_of at x z (rows + 1) n ≡ row_of at x z n ++ rows_of at x (z +ℤ pos 1) rows n
+    rows-first x z rows n =
+        let e : rows + 1 ≡ 1 + rows = omega arith in
+        ap (λ m. rows_of at x z m n) e ∙ rows-split x z 1 rows n ∙ ap (λ xs. xs ++ rows_of at x (z +ℤ pos 1) rows n) (rows-one x z n)
+
     -- ---- what passes a test, and how many
     module _ (p : X → Bool) (x z : ℤ) (n : ℕ) where
       pub filter_yes : p (at (x +ℤ pos n) z) ≡ true → filter p (row_of at x z (n + 1)) ≡ filter p (row_of at x z n) ++ at (x +ℤ pos n) z ∷ []

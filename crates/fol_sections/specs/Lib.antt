@@ -6,3 +6,4 @@ pub mod Pages
 pub mod Turns
 pub mod Wanted
 pub mod Packed
+pub mod SquareRuns

@@ -16,6 +16,7 @@ mod answers;
 mod chunks;
 mod drops;
 mod listings;
+mod missing;
 mod packed;
 mod pages;
 mod places;
@@ -24,6 +25,7 @@ mod sections;
 mod squares;
 mod stretches;
 mod turns;
+mod walks;
 
 pub use answers::{Added, Removed};
 pub use places::Numbers;

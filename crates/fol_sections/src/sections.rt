@@ -14,6 +14,7 @@ ghost use Rattle.fol_model.specs.GridState.{at_chunk};
 
 use crate::drops::drop_list;
 use crate::listings::list_all;
+use crate::missing::count_missing;
 use crate::pages::{self, Pages, is_present, loaded, near, put_stretch};
 use crate::places::{self, Numbers, number};
 use crate::squares::{Wanted, find_missing, find_square};
@@ -257,17 +258,15 @@ impl Sections {
     }
 
     /// Whether an `add` of a chunk within the limits would make sections present now: the chunk needs missing ones, and there is room
-    /// for them. Takes memory while it looks, and looks where `add` does.
-    pub fn will_fill(&self, alloc: Global, c: ChunkPos) -> Result<bool, AllocError>
+    /// for them. Takes no memory, and looks where `add` does.
+    pub fn will_fill(&self, c: ChunkPos) -> bool
         requires { IsTrue (is_chunk c) }
-        ensures { IfOk result (λ fills. fills
-            ≡ (not (is_full_for self.now c) && not (nat_eq (missing_count self.now c) 0))) }
+        ensures { result
+            ≡ (not (is_full_for self.now c) && not (nat_eq (missing_count self.now c) 0)) }
     {
         let home = section_of(&self.grid, c);
-        let mut missing = Vec::with_capacity(alloc, AREA)?;
-        find_missing(&self.pages, &mut missing, home, create_radius(&self.grid));
-        let wanted = missing.len() as u32;
-        Ok(wanted > 0 && self.count + wanted <= MOST_SECTIONS as u32)
+        let wanted = count_missing(&self.pages, home, create_radius(&self.grid));
+        wanted > 0 && self.count + wanted <= MOST_SECTIONS as u32
     }
 
     /// Removes a hold on a chunk. No section changes. Takes no memory.

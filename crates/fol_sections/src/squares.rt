@@ -12,8 +12,8 @@ ghost use Rattle.fol_sections.specs.Wanted.{is_wanted};
 
 use crate::pages::{Counts, Pages, loaded};
 use crate::runs::find_run;
-use fol_model::{SectionPos, beside, corner};
-use fol_pages::run_len;
+use crate::walks::SquareRuns;
+use fol_model::SectionPos;
 
 /// Which sections of a square are looked for.
 #[derive(Clone, Copy, Debug, PartialEq, Eq)]
@@ -35,33 +35,6 @@ pub fn is_wanted(counts: Option<Counts>, wanted: Wanted) -> bool
     }
 }
 
-/// Adds those of `n` sections in a row that are looked for.
-fn find_row(
-    pages: &Pages,
-    found: &mut Vec<SectionPos>,
-    first: SectionPos,
-    row: u32,
-    n: u32,
-    wanted: Wanted,
-)
-    requires near { (nat_abs first.x ≤ 1000016) × (nat_abs first.z ≤ 1000016) }
-    requires few { (row ≤ 17) × (n ≤ 17) }
-    requires room { length found.old.items + 17 ≤ vec_capacity found.old }
-    ensures found { found.new.items ≡ found.old.items
-        ++ filter (λ s. is_wanted wanted (counts_at pages.now.entries s))
-        (row_of section_at first.x (first.z +ℤ pos row) n) }
-    ensures few { length found.new.items ≤ length found.old.items + 17 }
-    ensures room { vec_capacity found.old ≤ vec_capacity found.new }
-{
-    let mut i = 0;
-    while i < n {
-        let s = beside(first, i, row);
-        let len = run_len(s.x, n - i);
-        find_run(pages, found, s, len, wanted);
-        i += len;
-    }
-}
-
 /// Finds the sections within a radius that are looked for.
 pub fn find_square(
     pages: &Pages,
@@ -79,10 +52,9 @@ pub fn find_square(
     ensures few { length found.new.items ≤ 289 }
     ensures room { vec_capacity found.old ≤ vec_capacity found.new }
 {
-    let first = corner(s, radius);
-    let side = 2 * radius as u32 + 1;
-    for row in 0..side {
-        find_row(pages, found, first, row, side, wanted);
+    let mut runs = SquareRuns::new(s, radius);
+    while let Some((first, len)) = runs.next_run() {
+        find_run(pages, found, first, len, wanted);
     }
 }
 

@@ -11,8 +11,8 @@ ghost use Rattle.fol_sections.specs.Turns.{fall, rise};
 
 use crate::pages::Pages;
 use crate::runs::turn_run;
-use fol_model::{SectionPos, beside, corner};
-use fol_pages::run_len;
+use crate::walks::SquareRuns;
+use fol_model::SectionPos;
 
 /// What became of a section.
 #[derive(Clone, Copy, Debug, PartialEq, Eq)]
@@ -35,37 +35,6 @@ pub fn turned(number: u16, turn: Turn) -> u16
     }
 }
 
-/// Counts a turn at `n` sections in a row.
-fn turn_row(pages: &mut Pages, first: SectionPos, row: u32, n: u32, turn: Turn)
-    requires near { (nat_abs first.x ≤ 1000016) × (nat_abs first.z ≤ 1000016) }
-    requires few { (row ≤ 17) × (n ≤ 17) }
-    requires here { (q : SectionPos) → 0
-        < count_by (same_section q) (row_of section_at first.x (first.z +ℤ pos row) n)
-        → IsTrue (is_here pages.old.entries q) }
-    requires low { (q : SectionPos)
-        → fall turn (count_by (same_section q) (row_of section_at first.x (first.z +ℤ pos row) n))
-        ≤ near_at pages.old.entries q }
-    requires high { (q : SectionPos) → near_at pages.old.entries q
-        + count_by (same_section q) (row_of section_at first.x (first.z +ℤ pos row) n) < 2 ^ 16 }
-    ensures near { (q : SectionPos) → near_at pages.new.entries q
-        + fall turn (count_by (same_section q) (row_of section_at first.x (first.z +ℤ pos row) n))
-        ≡ near_at pages.old.entries q + rise turn
-        (count_by (same_section q) (row_of section_at first.x (first.z +ℤ pos row) n)) }
-    ensures here { (q : SectionPos) → is_here pages.new.entries q ≡ is_here pages.old.entries q }
-    ensures chunks { (q : SectionPos) → chunks_at pages.new.entries q
-        ≡ chunks_at pages.old.entries q }
-    ensures room { spare pages.new ≡ spare pages.old }
-    ensures used { AllUsed pages.old.entries → AllUsed pages.new.entries }
-{
-    let mut i = 0;
-    while i < n {
-        let s = beside(first, i, row);
-        let len = run_len(s.x, n - i);
-        turn_run(pages, s, len, turn);
-        i += len;
-    }
-}
-
 /// Counts a turn of a section at all sections within the radius.
 pub fn turn_square(pages: &mut Pages, s: SectionPos, radius: u8, turn: Turn)
     requires near { (nat_abs s.x ≤ 1000008) × (nat_abs s.z ≤ 1000008) }
@@ -84,9 +53,8 @@ pub fn turn_square(pages: &mut Pages, s: SectionPos, radius: u8, turn: Turn)
     ensures room { spare pages.new ≡ spare pages.old }
     ensures used { AllUsed pages.old.entries → AllUsed pages.new.entries }
 {
-    let first = corner(s, radius);
-    let side = 2 * radius as u32 + 1;
-    for row in 0..side {
-        turn_row(pages, first, row, side, turn);
+    let mut runs = SquareRuns::new(s, radius);
+    while let Some((first, len)) = runs.next_run() {
+        turn_run(pages, first, len, turn);
     }
 }

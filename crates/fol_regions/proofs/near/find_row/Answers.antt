@@ -11,7 +11,6 @@ pub loop-i-init : goal.loop-i-init
 loop-i-init c = record {
   near = λ before e. e ∙ ap (regions_of (owner_of c.args.tables.now) c.args.tables.now.next) (sym (ap (λ xs. before ++ xs) (row-none c.args.first c.args.row) ∙ append-none before));
   few = omega arith;
-  rooms = c.requires.rooms;
   bound = omega arith;
 }
 
@@ -27,6 +26,5 @@ loop-i-preserved c =
           near (before ++ row_of c.args.first c.args.row c.loop-i.i) (c.loop-i.invariant.near before e)
           ∙ ap (regions_of owner next) (append_assoc before (row_of c.args.first c.args.row c.loop-i.i) (run_of section_at (c.args.first.x +ℤ pos c.loop-i.i) z len) ∙ ap (λ xs. before ++ xs) (sym (row-run c.args.first c.args.row c.loop-i.i len)));
       few = omega (arith, c.find_run.ensures.few, c.loop-i.invariant.few);
-      rooms = c.find_run.ensures.rooms;
       bound = omega (arith, c.run_len-len.ensures.few, c.loop-i.invariant.bound);
     }

@@ -1,5 +1,4 @@
 use Rattle.std.proofs.Common.{◌≡◌, ◌+◌, ◌-◌, ◌≤◌, ◌++◌, length, List}
-use Rattle.std.specs.Vec.{vec_capacity}
 use Rattle.fol_model.specs.declared.places.SectionPos.{SectionPos}
 use Rattle.fol_region_tables.specs.Book.{owner_of}
 use Rattle.fol_regions.specs.Near.{regions_of, row_of}
@@ -7,9 +6,8 @@ use Rattle.fol_regions.proofs.near.find_row.Given as goal
 
 abbrev pub invariant-loop-i : goal.invariant-loop-i
 invariant-loop-i l = record {
-  near : (before : List SectionPos) → l.initial.near.items ≡ regions_of (owner_of l.tables) l.tables.next before → l.near.items ≡ regions_of (owner_of l.tables) l.tables.next (before ++ row_of l.first l.row l.i);
-  few : length l.near.items ≤ length l.initial.near.items + l.i;
-  rooms : (625 ≤ vec_capacity l.near) × (625 ≤ vec_capacity l.made);
+  near : (before : List SectionPos) → l.initial.near ≡ regions_of (owner_of l.tables) l.tables.next before → l.near ≡ regions_of (owner_of l.tables) l.tables.next (before ++ row_of l.first l.row l.i);
+  few : length l.near ≤ length l.initial.near + l.i;
   bound : l.i ≤ l.n;
 }
 

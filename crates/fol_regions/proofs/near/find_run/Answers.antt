@@ -16,11 +16,10 @@ loop-id-init c = record {
   near = λ before e. e ∙ ap (regions_of (owner_of c.args.tables.now) c.args.tables.now.next) (sym (ap (λ xs. before ++ xs) (row-none section_at c.args.s.x c.args.s.z) ∙ append-none before));
   last = refl;
   few = omega arith;
-  rooms = c.requires.rooms;
 }
 
-pub note-requires-clause-few : goal.note-requires-clause-few
-note-requires-clause-few c = omega (arith, c.loop-id.invariant.few, c.requires.few, c.run-ids.ensures.few, c.loop-id-test.true)
+pub note-requires : goal.note-requires
+note-requires c = omega (arith, c.loop-id.invariant.few, c.requires.few, c.run-ids.ensures.few, c.loop-id-test.true)
 
 pub loop-id-preserved : goal.loop-id-preserved
 loop-id-preserved c =
@@ -31,19 +30,17 @@ loop-id-preserved c =
     let is : id ≡ owner (section_at (c.args.s.x +ℤ pos i) c.args.s.z) = c.run-ids.ensures.owners i (omega (arith, c.run-ids.ensures.few, c.loop-id-test.true)) in
     let below : (q : SectionPos) → 0 < owner q → owner q < next = λ q p. live_next c.args.tables.now c.keeps_lists.ensures (owner q) (owner_live c.args.tables.now c.keeps_lists.ensures q p) in
     elim c.if-id-last.branch [
-      | then-id-last w ↦ rw (w.near-is, w.made-is, w.last-is) (record {
-        near = λ before e. w.note.ensures.noted ∙ run_more owner next below c.args.s.x c.args.s.z before i id c.loop-id.near.items (c.loop-id.invariant.near before e) is;
-        last = ap (noted id) w.note.ensures.noted ∙ noted_twice id c.loop-id.near.items ∙ sym w.note.ensures.noted;
+      | then-id-last w ↦ rw (w.near-is, w.last-is) (record {
+        near = λ before e. w.note.ensures.noted ∙ run_more owner next below c.args.s.x c.args.s.z before i id c.loop-id.near (c.loop-id.invariant.near before e) is;
+        last = ap (noted id) w.note.ensures.noted ∙ noted_twice id c.loop-id.near ∙ sym w.note.ensures.noted;
         few = omega (arith, w.note.ensures.few, c.loop-id.invariant.few);
-        rooms = w.note.ensures.rooms;
       })
       | else-id-last w ↦
-          let same : noted id c.loop-id.near.items ≡ c.loop-id.near.items = ap (λ n. noted n c.loop-id.near.items) w.if-id-last.false ∙ c.loop-id.invariant.last in
-          rw (w.near-is, w.made-is, w.last-is) (record {
-            near = λ before e. sym same ∙ run_more owner next below c.args.s.x c.args.s.z before i id c.loop-id.near.items (c.loop-id.invariant.near before e) is;
+          let same : noted id c.loop-id.near ≡ c.loop-id.near = ap (λ n. noted n c.loop-id.near) w.if-id-last.false ∙ c.loop-id.invariant.last in
+          rw (w.near-is, w.last-is) (record {
+            near = λ before e. sym same ∙ run_more owner next below c.args.s.x c.args.s.z before i id c.loop-id.near (c.loop-id.invariant.near before e) is;
             last = c.loop-id.invariant.last;
             few = omega (arith, c.loop-id.invariant.few);
-            rooms = c.loop-id.invariant.rooms;
           })
     ]
 

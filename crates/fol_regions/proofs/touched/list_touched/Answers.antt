@@ -1,23 +1,33 @@
-use Rattle.std.proofs.Common.{◌≡◌, ◌+◌, sym, ◌∙◌, ap, subst, cond}
-use Rattle.std.specs.Prelude.{filter}
+use Rattle.std.proofs.Common.{◌≡◌, ◌+◌, ◌∷◌, [], sym, ◌∙◌, ap, subst, cond}
+use Rattle.std.specs.Prelude.{IfOk, filter}
 use Rattle.fol_model.specs.declared.grids.Grid.{Grid}
+use Rattle.fol_model.specs.declared.places.SectionPos.{SectionPos}
 use Rattle.fol_model.specs.Geometry.{section_of}
 use Rattle.fol_model.specs.GridNumbers.{IsGrid}
 use Rattle.fol_model.specs.Universe.{numbers_below}
 use Rattle.fol_region_tables.specs.Book.{owner_of}
-use Rattle.fol_regions.specs.Near.{is_close}
-use Rattle.fol_regions.proofs.TouchedSteps.{home_near, touched_are}
+use Rattle.fol_regions.specs.Near.{is_close, regions_of}
+use Rattle.fol_regions.proofs.TouchedSteps.{home_near, owner_touched, touched_are}
 use Rattle.fol_regions.proofs.touched.list_touched.Goals as goal
 
-pub find-requires-clause-home : goal.find-requires-clause-home
-find-requires-clause-home c = rw c.section_of.ensures (home_near c.args.grid.now c.args.c (subst IsGrid (sym c.requires.same) c.requires.numbers) c.requires.in_range)
+pub list_near-requires-clause-home : goal.list_near-requires-clause-home
+list_near-requires-clause-home c = rw c.section_of-home.ensures (home_near c.args.grid.now c.args.c (subst IsGrid (sym c.requires.same) c.requires.numbers) c.requires.in_range)
 
-pub returns : goal.returns
-returns c =
+pub returns-then-will_fill : goal.returns-then-will_fill
+returns-then-will_fill c =
     let s = c.args.sections.now in
     let t = c.args.tables.now in
-    let home = c.section_of.ensures ∙ ap (λ (g : Grid). section_of g c.args.c) c.requires.same in
-    let near : c.into_ids.result.items ≡ filter (is_close (owner_of t) (section_of s.grid c.args.c) c.touch_reach.result) (numbers_below t.next)
-    = c.into_ids.ensures ∙ c.find.ensures.near ∙ (λ i. filter (is_close (owner_of t) (home i) c.touch_reach.result) (numbers_below t.next)) in
-    let reach = c.touch_reach.ensures ∙ (λ i. cond (c.in_ok-fills.ensures i) ((c.requires.same i).create + (c.requires.same i).merge) 0) in
-    near ∙ touched_are s t c.requires.presence c.requires.numbers c.args.c c.requires.in_range c.touch_reach.result reach
+    let home = c.section_of-home.ensures ∙ ap (λ (g : Grid). section_of g c.args.c) c.requires.same in
+    let fills = sym c.if-will_fill.true ∙ c.will_fill.ensures in
+    let reach = c.reach.ensures ∙ ap (λ (g : Grid). g.create + g.merge) c.requires.same ∙ ap (λ b. cond b (s.grid.create + s.grid.merge) 0) fills in
+    let near = ap (λ (q : SectionPos). filter (is_close (owner_of t) q c.reach.result) (numbers_below t.next)) home ∙ touched_are s t c.requires.presence c.requires.numbers c.args.c c.requires.in_range c.reach.result reach in
+    subst (λ xs. IfOk c.list_near.result (λ ids. ids.items ≡ xs)) near c.list_near.ensures
+
+pub returns-else-will_fill : goal.returns-else-will_fill
+returns-else-will_fill c =
+    let s = c.args.sections.now in
+    let t = c.args.tables.now in
+    let home = c.section_of-home.ensures ∙ ap (λ (g : Grid). section_of g c.args.c) c.requires.same in
+    let fills = sym c.if-will_fill.false ∙ c.will_fill.ensures in
+    let alone = ap (λ (q : SectionPos). regions_of (owner_of t) t.next (q ∷ [])) home ∙ owner_touched s t c.requires.presence c.requires.numbers c.args.c c.requires.in_range (ap (λ b. cond b (s.grid.create + s.grid.merge) 0) fills) in
+    subst (λ xs. IfOk c.list_owner.result (λ ids. ids.items ≡ xs)) alone c.list_owner.ensures

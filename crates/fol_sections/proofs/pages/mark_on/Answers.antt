@@ -1,4 +1,4 @@
-use Rattle.std.proofs.Common.{◌≤◌, refl, ◌∙◌, ap, arith, cond, length, rules}
+use Rattle.std.proofs.Common.{◌≤◌, refl, ◌∙◌, ap, arith, cond, length}
 use Rattle.std.specs.Prelude.{Some, pos}
 use Rattle.std.proofs.lemmas.Grind.{common_steps}
 use Rattle.fol_model.specs.declared.places.SectionPos.{SectionPos}

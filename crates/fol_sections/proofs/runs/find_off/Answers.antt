@@ -1,4 +1,4 @@
-use Rattle.std.proofs.Common.{◌≡◌, ◌+◌, sym, ◌∙◌, ap, arith, true, false, ◌∷◌, [], ◌++◌, append_assoc, length, length-append}
+use Rattle.std.proofs.Common.{◌≡◌, sym, ◌∙◌, ap, arith, true, ◌∷◌, [], ◌++◌, append_assoc, length, length-append}
 use Rattle.std.specs.Prelude.{None, pos, ◌+ℤ◌}
 use Rattle.std.specs.List.{filter}
 use Rattle.fol_model.specs.declared.places.SectionPos.{SectionPos}

@@ -1,36 +1,41 @@
-use Rattle.std.proofs.Common.{◌≡◌, ◌+◌, ◌*◌, sym, ◌∙◌, ap, arith, ◌++◌, length}
-use Rattle.std.specs.Prelude.{pos, ◌+ℤ◌}
+use Rattle.std.proofs.Common.{sym, ◌∙◌, ap, arith, ◌++◌, append_assoc, length}
 use Rattle.std.specs.List.{filter}
 use Rattle.std.proofs.lemmas.List.Elements.{filter-append}
 use Rattle.fol_model.specs.declared.places.SectionPos.{SectionPos}
 use Rattle.fol_sections.specs.Pages.{counts_at}
-use Rattle.fol_sections.specs.Rows.{row_of, rows_of, section_at}
+use Rattle.fol_sections.specs.Rows.{row_of, section_at}
+use Rattle.fol_sections.specs.SquareRuns.{rest}
 use Rattle.fol_sections.specs.Wanted.{is_wanted}
-use Rattle.fol_sections.proofs.Rows.{rows-none, rows-more}
-use Rattle.fol_sections.proofs.SquareRows.{rows-square}
+use Rattle.fol_sections.proofs.Lengths.{length-square}
+use Rattle.fol_sections.proofs.SquareWalks.{run_shorter}
 use Rattle.fol_sections.proofs.squares.find_square.Goals as goal
 
-pub loop-row-init : goal.loop-row-init
-loop-row-init c = record {
-  found = c.requires.none ∙ sym (ap (filter (λ s. is_wanted c.args.wanted (counts_at c.args.pages.now.entries s))) (rows-none section_at c.corner-first.result.x c.corner-first.result.z (2 * c.args.radius + 1)));
-  few = omega (arith, ap length c.requires.none);
-  room = omega arith;
-}
-
-pub loop-row-preserved : goal.loop-row-preserved
-loop-row-preserved c =
+pub loop-first-init : goal.loop-first-init
+loop-first-init c =
     let test = λ (q : SectionPos). is_wanted c.args.wanted (counts_at c.args.pages.now.entries q) in
-    let first = c.corner-first.result in
-    let n = 2 * c.args.radius + 1 in
     record {
-      found = c.find_row.ensures.found ∙ ap (λ xs. xs ++ filter test (row_of section_at first.x (first.z +ℤ pos c.loop-row.row) n)) c.loop-row.invariant.found
-          ∙ sym (ap (filter test) (rows-more section_at first.x first.z c.loop-row.row n) ∙ filter-append test (rows_of section_at first.x first.z c.loop-row.row n) (row_of section_at first.x (first.z +ℤ pos c.loop-row.row) n));
-      few = omega (arith, c.find_row.ensures.few, c.loop-row.invariant.few);
-      room = omega (arith, c.find_row.ensures.room, c.loop-row.invariant.room);
+      found = (λ i. c.requires.none i ++ filter test (c.new-runs.ensures i));
+      few = omega (arith, ap length c.requires.none, ap length c.new-runs.ensures, length-square c.args.s c.args.radius c.requires.few);
+      room = omega arith;
     }
 
-pub returns-clause-found : goal.returns-clause-found
-returns-clause-found c =
-    let e : c.loop-row.row ≡ 2 * c.args.radius + 1 = omega arith in
-    let all = rw (e, c.corner-first.ensures) at c.loop-row.invariant.found in
-    all ∙ ap (filter (λ q. is_wanted c.args.wanted (counts_at c.args.pages.now.entries q))) (rows-square c.args.s c.args.radius (2 * c.args.radius + 1) (omega arith))
+pub find_run-requires-clause-room : goal.find_run-requires-clause-room
+find_run-requires-clause-room c =
+    let shorter = run_shorter c.in-Some.first.x c.in-Some.first.z c.in-Some.len _ _ c.in-Some.ensures.run in
+    omega (arith, shorter, c.loop-first.invariant.few, c.loop-first.invariant.room, c.requires.room)
+
+pub loop-first-preserved : goal.loop-first-preserved
+loop-first-preserved c =
+    let test = λ (q : SectionPos). is_wanted c.args.wanted (counts_at c.args.pages.now.entries q) in
+    let row = row_of section_at c.in-Some.first.x c.in-Some.first.z c.in-Some.len in
+    let come = rest c.next_run.new.self in
+    let shorter = run_shorter c.in-Some.first.x c.in-Some.first.z c.in-Some.len _ _ c.in-Some.ensures.run in
+    record {
+      found = ap (λ xs. xs ++ filter test come) c.find_run.ensures.found ∙ append_assoc c.loop-first.found.items (filter test row) (filter test come)
+          ∙ ap (λ xs. c.loop-first.found.items ++ xs) (sym (ap (filter test) c.in-Some.ensures.run ∙ filter-append test row come)) ∙ c.loop-first.invariant.found;
+      few = omega (arith, shorter, c.find_run.ensures.few, c.loop-first.invariant.few);
+      room = omega (arith, c.find_run.ensures.room, c.loop-first.invariant.room);
+    }
+
+pub loop-first-smaller : goal.loop-first-smaller
+loop-first-smaller c = omega (arith, run_shorter c.in-Some.first.x c.in-Some.first.z c.in-Some.len _ _ c.in-Some.ensures.run, c.in-Some.ensures.some)

@@ -1,19 +1,24 @@
-use Rattle.std.proofs.Common.{◌≡◌, ◌+◌}
+use Rattle.std.proofs.Common.{◌≡◌, ◌+◌, ◌-◌, ◌≤◌, length}
 use Rattle.std.specs.List.{count_by}
 use Rattle.std.specs.HashMap.{spare}
 use Rattle.fol_model.specs.declared.places.SectionPos.{SectionPos}
 use Rattle.fol_model.specs.Geometry.{same_section}
+use Rattle.fol_model.specs.Universe.{square}
 use Rattle.fol_sections.specs.Pages.{AllUsed, chunks_at, is_here, near_at}
-use Rattle.fol_sections.specs.Rows.{rows_of, section_at}
+use Rattle.fol_sections.specs.SquareRuns.{rest}
 use Rattle.fol_sections.specs.Turns.{fall, rise}
 use Rattle.fol_sections.proofs.turns.turn_square.Given as goal
 
-abbrev pub invariant-loop-row : goal.invariant-loop-row
-invariant-loop-row l = record {
-  near : (q : SectionPos) → near_at l.pages.entries q + fall l.turn (count_by (same_section q) (rows_of section_at l.first.x l.first.z l.row l.side))
-      ≡ near_at l.initial.pages.entries q + rise l.turn (count_by (same_section q) (rows_of section_at l.first.x l.first.z l.row l.side));
+abbrev pub invariant-loop-first : goal.invariant-loop-first
+invariant-loop-first l = record {
+  near : (q : SectionPos) → near_at l.pages.entries q + fall l.fn.turn (count_by (same_section q) (square l.fn.s l.fn.radius) - count_by (same_section q) (rest l.runs))
+      ≡ near_at l.initial.pages.entries q + rise l.fn.turn (count_by (same_section q) (square l.fn.s l.fn.radius) - count_by (same_section q) (rest l.runs));
+  few : (q : SectionPos) → count_by (same_section q) (rest l.runs) ≤ count_by (same_section q) (square l.fn.s l.fn.radius);
   here : (q : SectionPos) → is_here l.pages.entries q ≡ is_here l.initial.pages.entries q;
   chunks : (q : SectionPos) → chunks_at l.pages.entries q ≡ chunks_at l.initial.pages.entries q;
   used : AllUsed l.initial.pages.entries → AllUsed l.pages.entries;
   room : spare l.pages ≡ spare l.initial.pages;
 }
+
+abbrev pub decreases-loop-first : goal.decreases-loop-first
+decreases-loop-first l = length (rest l.runs)

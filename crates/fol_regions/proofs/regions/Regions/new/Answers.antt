@@ -13,4 +13,5 @@ returns c = record {
   empty = IfOk-weaker c.of_parts.result _ _
       (λ t e. e ∙ steps.new_state c.args.grid c.in_ok-sections.sections c.in_ok-tables.tables c.keeps_lists.ensures c.in_ok-sections.ensures.grid c.in_ok-sections.ensures.empty c.in_ok-tables.ensures.owner c.in_ok-tables.ensures.live c.keeps_states.ensures c.in_ok-tables.ensures.next)
       c.of_parts.ensures.state;
+  last = IfOk-weaker c.of_parts.result _ _ (λ t e. e ∙ c.in_ok-change.ensures) c.of_parts.ensures.last;
 }

@@ -7,13 +7,12 @@ use Rattle.fol_regions.specs.Near.{regions_of, rows_of}
 use Rattle.fol_region_tables.proofs.BookFacts.{owner_live, live_next}
 use Rattle.fol_region_tables.proofs.Chosen.{filter_like}
 use Rattle.fol_regions.proofs.NearRegions.{regions_none, regions_square, rows-none, rows-more, rows-square}
-use Rattle.fol_regions.proofs.near.find_near.Goals as goal
+use Rattle.fol_regions.proofs.near.NearRegions.find.Goals as goal
 
 pub loop-row-init : goal.loop-row-init
 loop-row-init c = record {
-  near = c.clear.ensures.items ∙ sym (ap (regions_of (owner_of c.args.tables.now) c.args.tables.now.next) (rows-none c.corner-first.result (2 * c.args.reach + 1)) ∙ regions_none (owner_of c.args.tables.now) c.args.tables.now.next);
-  few = omega (arith, ap length c.clear.ensures.items);
-  rooms = (omega (arith, c.clear.ensures.capacity, c.requires.rooms.0), c.requires.rooms.1);
+  near = c.clear.ensures ∙ sym (ap (regions_of (owner_of c.args.tables.now) c.args.tables.now.next) (rows-none c.corner-first.result (2 * c.args.reach + 1)) ∙ regions_none (owner_of c.args.tables.now) c.args.tables.now.next);
+  few = omega (arith, ap length c.clear.ensures);
 }
 
 pub find_row-requires-clause-first : goal.find_row-requires-clause-first
@@ -30,7 +29,6 @@ loop-row-preserved c =
     record {
       near = c.find_row.ensures.near (rows_of first c.loop-row.row n) c.loop-row.invariant.near ∙ ap (regions_of (owner_of c.args.tables.now) c.args.tables.now.next) (sym (rows-more first c.loop-row.row n));
       few = omega (arith, c.find_row.ensures.few, c.loop-row.invariant.few, c.requires.reach);
-      rooms = c.find_row.ensures.rooms;
     }
 
 pub returns-clause-near : goal.returns-clause-near
