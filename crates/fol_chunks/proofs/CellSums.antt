@@ -2,7 +2,6 @@
 use Rattle.std.proofs.Common.{◌≡◌, ℕ, ◌≤◌, Bool, true, false, cond, List, [], ◌∷◌, ◌++◌, length, refl, sym, ◌∙◌, ap, subst, inl, inr, arith, Option, Some, None}
 use Rattle.std.specs.Prelude.{ℤ, Contains, sum_by, Result, Ok, Err, OnOk, OnErr}
 use Rattle.std.specs.Cmp.{IsEquivalence, decided}
-use Rattle.std.specs.Global.{Vec}
 use Rattle.std.specs.List.{count_by, flat_map, IsDistinct, AllByRecursion}
 use Rattle.std.specs.List.Sorted.{IsStrictlySortedBy}
 use Rattle.std.specs.Map.{keys_of, values_of}
@@ -94,20 +93,20 @@ unfolding IsStrictlySortedBy
 no_cell key = record { order = tt; chunk = refl }
 
 -- ---- all cells
-abbrev pub weigh : (BlockAt → ℕ) → Vec BlockAt → ℕ
-weigh f v = sum_by f v.items
+abbrev pub weigh : (BlockAt → ℕ) → List BlockAt → ℕ
+weigh f v = sum_by f v
 
-pub flat_sum : (f : BlockAt → ℕ) (es : List ((ℤ × ℤ) × Vec BlockAt)) → sum_by f (blocks_in es) ≡ sum_by (weigh f) (values_of es)
+pub flat_sum : (f : BlockAt → ℕ) (es : List ((ℤ × ℤ) × List BlockAt)) → sum_by f (blocks_in es) ≡ sum_by (weigh f) (values_of es)
 flat_sum f [] = refl
-flat_sum f (e ∷ es) = omega (arith, sum_by-append f (e.1).items (blocks_in es), sum_by-cons (weigh f) e.1 (values_of es), flat_sum f es)
+flat_sum f (e ∷ es) = omega (arith, sum_by-append f e.1 (blocks_in es), sum_by-cons (weigh f) e.1 (values_of es), flat_sum f es)
 
 module _ (key : ℤ × ℤ) (p : BlockAt → Bool) (f : BlockAt → ℕ) (lie : (x : BlockAt) → p x ≡ true → lies_at key x ≡ true) where
-  nowhere : (es : List ((ℤ × ℤ) × Vec BlockAt)) → ((e : (ℤ × ℤ) × Vec BlockAt) → Contains es e → IsCell e.0 (e.1).items) → AllByRecursion (λ k. same_key key k ≡ false) (keys_of es) → sum_by (only p f) (blocks_in es) ≡ 0
+  nowhere : (es : List ((ℤ × ℤ) × List BlockAt)) → ((e : (ℤ × ℤ) × List BlockAt) → Contains es e → IsCell e.0 e.1) → AllByRecursion (λ k. same_key key k ≡ false) (keys_of es) → sum_by (only p f) (blocks_in es) ≡ 0
   nowhere [] h a = refl
   nowhere (e ∷ es) h a =
-      omega (arith, sum_by-append (only p f) (e.1).items (blocks_in es), none_other e.0 (e.1).items (h e (0, omega arith, refl)) key p f lie a.0, nowhere es (λ d m. h d (contains_more d e es m)) a.1)
+      omega (arith, sum_by-append (only p f) e.1 (blocks_in es), none_other e.0 e.1 (h e (0, omega arith, refl)) key p f lie a.0, nowhere es (λ d m. h d (contains_more d e es m)) a.1)
 
-  in_one : (es : List ((ℤ × ℤ) × Vec BlockAt)) → ((e : (ℤ × ℤ) × Vec BlockAt) → Contains es e → IsCell e.0 (e.1).items) → IsDistinct same_key (keys_of es) → sum_by (only p f) (blocks_in es) ≡ sum_by (only p f) (blocks_at es key)
+  in_one : (es : List ((ℤ × ℤ) × List BlockAt)) → ((e : (ℤ × ℤ) × List BlockAt) → Contains es e → IsCell e.0 e.1) → IsDistinct same_key (keys_of es) → sum_by (only p f) (blocks_in es) ≡ sum_by (only p f) (blocks_at es key)
   unfolding IsDistinct
   in_one [] h d = refl
   in_one (e ∷ es) h d =
@@ -115,13 +114,13 @@ module _ (key : ℤ × ℤ) (p : BlockAt → Bool) (f : BlockAt → ℕ) (lie : 
         | inl t ↦
             let Q : ℤ × ℤ → Type 0 = λ k. AllByRecursion (λ q. same_key k q ≡ false) (keys_of es) in
             let rest : sum_by (only p f) (blocks_in es) ≡ 0 = nowhere es (λ c m. h c (contains_more c e es m)) (subst Q (sym (key_same key e.0 t)) d.0) in
-            rw t (omega (arith, sum_by-append (only p f) (e.1).items (blocks_in es), rest))
+            rw t (omega (arith, sum_by-append (only p f) e.1 (blocks_in es), rest))
         | inr n ↦
-            rw n (omega (arith, sum_by-append (only p f) (e.1).items (blocks_in es), none_other e.0 (e.1).items (h e (0, omega arith, refl)) key p f lie n, in_one es (λ c m. h c (contains_more c e es m)) d.1))
+            rw n (omega (arith, sum_by-append (only p f) e.1 (blocks_in es), none_other e.0 e.1 (h e (0, omega arith, refl)) key p f lie n, in_one es (λ c m. h c (contains_more c e es m)) d.1))
       ]
 
-module _ (es : List ((ℤ × ℤ) × Vec BlockAt)) (a : AreCells es) where
-  each_cell : (e : (ℤ × ℤ) × Vec BlockAt) → Contains es e → IsCell e.0 (e.1).items
+module _ (es : List ((ℤ × ℤ) × List BlockAt)) (a : AreCells es) where
+  each_cell : (e : (ℤ × ℤ) × List BlockAt) → Contains es e → IsCell e.0 e.1
   each_cell e m = a.cells e.0 e.1 (lookup-from_Contains key_laws e.0 e.1 es a.keys m)
 
   -- what passes lies in one chunk
@@ -131,7 +130,7 @@ module _ (es : List ((ℤ × ℤ) × Vec BlockAt)) (a : AreCells es) where
   cell_here : (key : ℤ × ℤ) → IsCell key (blocks_at es key)
   cell_here key = look (cell_at es key) refl
     where
-      look : (o : Option (Vec BlockAt)) → cell_at es key ≡ o → IsCell key (items_of o)
+      look : (o : Option (List BlockAt)) → cell_at es key ≡ o → IsCell key (items_of o)
       look None e = no_cell key
       look (Some v) e = a.cells key v e
 
@@ -161,10 +160,10 @@ module _ (es : List ((ℤ × ℤ) × Vec BlockAt)) (a : AreCells es) where
       ∙ sym (place_sum key b (λ x. x.id) e)
       ∙ sym (number_sum (blocks_in es) b (once_cells b))
 
-pub items_there : (es : List ((ℤ × ℤ) × Vec BlockAt)) (key : ℤ × ℤ) (v : Vec BlockAt) → cell_at es key ≡ Some v → blocks_at es key ≡ v.items
+pub items_there : (es : List ((ℤ × ℤ) × List BlockAt)) (key : ℤ × ℤ) (v : List BlockAt) → cell_at es key ≡ Some v → blocks_at es key ≡ v
 items_there es key v e = ap items_of e
 
-pub items_none : (es : List ((ℤ × ℤ) × Vec BlockAt)) (key : ℤ × ℤ) → cell_at es key ≡ None → blocks_at es key ≡ []
+pub items_none : (es : List ((ℤ × ℤ) × List BlockAt)) (key : ℤ × ℤ) → cell_at es key ≡ None → blocks_at es key ≡ []
 items_none es key e = ap items_of e
 
 -- a list of one chunk stays such a list where a block may have been put, added or taken out
@@ -180,9 +179,9 @@ module _ (key : ℤ × ℤ) (xs ys : List BlockAt) (c : IsCell key xs) where
   cell_after_add y (Ok t) e s h k = cell_more key xs c ys y e s h
   cell_after_add y (Err t) e s h k = cell_same k
 
-pub blocks_values : (es : List ((ℤ × ℤ) × Vec BlockAt)) → flat_map (λ v. v.items) (values_of es) ≡ blocks_in es
+pub blocks_values : (es : List ((ℤ × ℤ) × List BlockAt)) → flat_map (λ v. v) (values_of es) ≡ blocks_in es
 blocks_values [] = refl
-blocks_values (e ∷ es) = ap (λ l. (e.1).items ++ l) (blocks_values es)
+blocks_values (e ∷ es) = ap (λ l. e.1 ++ l) (blocks_values es)
 
 pub no_cells : AreCells []
 unfolding IsDistinct

@@ -1,7 +1,6 @@
 -- The weights of blocks in the first chunks of a list.
 use Rattle.std.proofs.Common.{◌≡◌, ℕ, ◌+◌, ◌<◌, ◌≤◌, ◌||◌, Bool, true, false, not, List, [], ◌∷◌, length, get_or, take, drop, refl, sym, ◌∙◌, ap, inl, inr, arith, length-take}
 use Rattle.std.specs.Prelude.{ℤ, Contains, sum_by, if◌then◌else◌}
-use Rattle.std.specs.Global.{Vec}
 use Rattle.std.specs.List.{count_by}
 use Rattle.std.specs.List.Sorted.{IsStrictlySortedBy}
 use Rattle.std.specs.Cmp.{tied_itself}
@@ -133,7 +132,7 @@ module _ (f : BlockAt → ℕ) where
   in_le chunks n xs = sum_le (only (lies_in (take n chunks)) f) (only (lies_in chunks) f) (in_all chunks n) xs
 
 -- the blocks of one chunk more
-pub count_next : (es : List ((ℤ × ℤ) × Vec BlockAt)) (chunks : List ChunkPos) (i n : ℕ) (d : ChunkPos) → AreCells es → IsStrictlySortedBy chunk_cmp chunks → i < length chunks → n ≡ count_by (lies_in (take i chunks)) (blocks_in es)
+pub count_next : (es : List ((ℤ × ℤ) × List BlockAt)) (chunks : List ChunkPos) (i n : ℕ) (d : ChunkPos) → AreCells es → IsStrictlySortedBy chunk_cmp chunks → i < length chunks → n ≡ count_by (lies_in (take i chunks)) (blocks_in es)
     → n + length (blocks_at es ((get_or chunks i d).x, (get_or chunks i d).z)) ≡ count_by (lies_in (take (i + 1) chunks)) (blocks_in es)
 count_next es chunks i n d a s l h =
     let here : List BlockAt = blocks_at es ((get_or chunks i d).x, (get_or chunks i d).z) in

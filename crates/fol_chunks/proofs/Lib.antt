@@ -3,6 +3,9 @@ pub mod Movement
 pub mod EitherList
 pub mod Flats
 pub mod Weighing
+pub mod OnPages
+pub mod Spots
+pub mod PageSteps
 pub mod CellSums
 pub mod CellSteps
 pub mod ChunkLists

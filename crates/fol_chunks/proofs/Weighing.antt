@@ -1,9 +1,8 @@
 -- How the weights of blocks sum.
-use Rattle.std.proofs.Common.{◌≡◌, ℕ, ◌+◌, ◌<◌, ◌≤◌, Bool, true, false, cond, not, List, [], ◌∷◌, ◌++◌, length, get_or, refl, sym, ◌∙◌, ap, inl, inr, arith}
+use Rattle.std.proofs.Common.{◌≡◌, ℕ, ◌+◌, ◌≤◌, Bool, true, false, cond, not, List, [], ◌∷◌, ◌++◌, length, get_or, refl, sym, ◌∙◌, ap, inl, inr, arith}
 use Rattle.std.specs.Prelude.{Contains, sum_by, slice_set}
 use Rattle.std.specs.List.{count_by, filter, insert, remove, IsDistinct, AllByRecursion}
-use Rattle.std.specs.List.Sorted.{IsStrictlySortedBy, IsPartitionPoint}
-use Rattle.std.specs.declared.cmp.Ordering.TheVariants.{Less, Greater}
+use Rattle.std.specs.List.Sorted.{IsStrictlySortedBy}
 use Rattle.std.proofs.lemmas.Bool.{cases_Bool}
 use Rattle.std.proofs.lemmas.List.Sorted.{IsPermutation-remove, sum_by-IsPermutation}
 use Rattle.std.proofs.lemmas.List.Sums.{sum_by-append, sum_by-cons, sum_by-set}
@@ -16,6 +15,7 @@ use Rattle.fol_keyed.specs.Apart.{Untied}
 use Rattle.fol_keyed.proofs.Keyed.{contains_cases, contains_more, at_own}
 use Rattle.fol_keyed.proofs.Places.{same_block-true, same_block-self, block_cmp_total, block_cmp_tells}
 use Rattle.fol_keyed.proofs.Sorted.{differ_from_sorted, none_between, sorted_insert, sorted_remove, sorted_set}
+use Rattle.fol_chunks.specs.Pages.{Found, Lacking}
 use Rattle.fol_chunks.specs.Rows.{by_place}
 use Rattle.fol_chunks.specs.Weights.{only, one_at, stands_at, stands_elsewhere, OneMore, Clears, Puts}
 
@@ -170,14 +170,6 @@ number_sum (x ∷ xs) b h =
     ]
 
 -- ---- one list in order of place
--- the block of a place stands here
-abbrev pub Found : List BlockAt → BlockPos → ℕ → Type 0
-Found xs b i = (i < length xs) × ((e : BlockAt) → (get_or xs i e).at ≡ b)
-
--- no block has the place, and one that had it would stand here
-abbrev pub Lacking : List BlockAt → BlockPos → ℕ → Type 0
-Lacking xs b i = (i ≤ length xs) × IsPartitionPoint (λ x. block_cmp x.at b ≡ Less) (λ x. block_cmp x.at b ≡ Greater) xs i
-
 module _ (xs : List BlockAt) where
   pub differ : IsStrictlySortedBy by_place xs → Differ xs
   differ s = differ_from_sorted (λ (x : BlockAt). x.at) block_cmp block_cmp_total same_block same_block-true xs s

@@ -4,7 +4,6 @@ use Rattle.std.specs.List.{IsDistinct, flat_map}
 use Rattle.std.specs.List.Sorted.{IsStrictlySortedBy}
 use Rattle.std.specs.Map.{keys_of, lookup}
 use Rattle.std.specs.Ordering.{int_eq}
-use Rattle.std.specs.Global.{Vec}
 use Rattle.fol_model.specs.declared.openings.BlockAt.{BlockAt}
 use Rattle.fol_model.specs.declared.places.BlockPos.{BlockPos}
 use Rattle.fol_model.specs.declared.places.ChunkPos.{ChunkPos}
@@ -31,20 +30,20 @@ abbrev pub is_astray : ℤ × ℤ → BlockAt → Bool
 is_astray key x = not (lies_at key x)
 
 -- the list of a chunk, where it has one
-abbrev pub cell_at : List ((ℤ × ℤ) × Vec BlockAt) → ℤ × ℤ → Option (Vec BlockAt)
+abbrev pub cell_at : List ((ℤ × ℤ) × List BlockAt) → ℤ × ℤ → Option (List BlockAt)
 cell_at entries key = lookup (same_key key) entries
 
-abbrev pub items_of : Option (Vec BlockAt) → List BlockAt
+abbrev pub items_of : Option (List BlockAt) → List BlockAt
 items_of None = []
-items_of (Some cell) = cell.items
+items_of (Some cell) = cell
 
 -- the blocks of a chunk
-abbrev pub blocks_at : List ((ℤ × ℤ) × Vec BlockAt) → ℤ × ℤ → List BlockAt
+abbrev pub blocks_at : List ((ℤ × ℤ) × List BlockAt) → ℤ × ℤ → List BlockAt
 blocks_at entries key = items_of (cell_at entries key)
 
 -- the blocks of all chunks
-abbrev pub blocks_in : List ((ℤ × ℤ) × Vec BlockAt) → List BlockAt
-blocks_in entries = flat_map (λ e. (e.1).items) entries
+abbrev pub blocks_in : List ((ℤ × ℤ) × List BlockAt) → List BlockAt
+blocks_in entries = flat_map (λ e. e.1) entries
 
 -- the blocks of one chunk, in order of place
 pub record IsCell (key : ℤ × ℤ) (xs : List BlockAt) : Type 0 where
@@ -52,6 +51,6 @@ pub record IsCell (key : ℤ × ℤ) (xs : List BlockAt) : Type 0 where
   pub chunk : count_by (is_astray key) xs ≡ 0
 
 -- a chunk has one list at most, of its blocks
-pub record AreCells (entries : List ((ℤ × ℤ) × Vec BlockAt)) : Type 0 where
+pub record AreCells (entries : List ((ℤ × ℤ) × List BlockAt)) : Type 0 where
   pub keys : IsDistinct same_key (keys_of entries)
-  pub cells : (key : ℤ × ℤ) (cell : Vec BlockAt) → cell_at entries key ≡ Some cell → IsCell key cell.items
+  pub cells : (key : ℤ × ℤ) (cell : List BlockAt) → cell_at entries key ≡ Some cell → IsCell key cell

@@ -3,6 +3,7 @@ pub mod Boxed
 pub mod Contents
 pub mod Rows
 pub mod Weights
+pub mod Pages
 pub mod Cells
 pub mod Kept
 pub mod Crowds

@@ -1,25 +1,22 @@
 //! A list of blocks in order of place.
 
-ghost use Rattle.std.specs.Prelude.{◌≡◌, ℕ, ◌+◌, ◌<◌, ◌≤◌, true, false, length, vec_len, sum_by, count_by, slice_index_or, MatchResult, IsTrue, OnOk, OnErr};
+ghost use Rattle.std.specs.Prelude.{◌≡◌, ◌+◌, ◌<◌, ◌≤◌, true, false, vec_len, count_by, MatchResult};
 ghost use Rattle.std.specs.Vec.{vec_capacity};
 ghost use Rattle.std.specs.List.Sorted.{IsStrictlySortedBy, IsPartitionPoint};
 ghost use Rattle.std.specs.declared.cmp.Ordering.TheVariants.{Less, Greater};
 ghost use Rattle.fol_model.specs.Universe.{block_cmp};
 ghost use Rattle.fol_model.specs.World.{block_in};
+ghost use Rattle.fol_chunks.specs.Pages.{Found, Lacking};
 ghost use Rattle.fol_chunks.specs.Rows.{by_place};
 ghost use Rattle.fol_chunks.specs.Weights.{OneMore, Puts, Clears, stands_at};
 
 use fol_keyed::compare_blocks;
 use fol_model::{BlockAt, BlockPos};
-use std::alloc::AllocError;
 
 /// Where the block stands in the list, or where it would stand.
-fn place_of(blocks: &[BlockAt], at: BlockPos) -> Result<usize, usize>
+pub fn place_of(blocks: &[BlockAt], at: BlockPos) -> Result<usize, usize>
     requires { IsStrictlySortedBy by_place blocks.now }
-    ensures { MatchResult result (λ i. (i < length blocks.now)
-        × ((d : BlockAt) → (slice_index_or blocks.now i d).at ≡ at)) (λ i. (i ≤ length blocks.now)
-        × IsPartitionPoint (λ x. block_cmp x.at at ≡ Less) (λ x. block_cmp x.at at
-        ≡ Greater) blocks.now i) }
+    ensures { MatchResult result (Found blocks.now at) (Lacking blocks.now at) }
 {
     blocks.binary_search_by(|block| compare_blocks(block.at, at))
 }
@@ -77,31 +74,6 @@ pub fn put(blocks: &mut Vec<BlockAt>, block: BlockAt, len: &mut usize) -> bool
     }
 }
 
-/// Gives a block its number where it is there or memory is found for it, and says whether it did. `len` counts one that was not there.
-pub fn put_or_grow(blocks: &mut Vec<BlockAt>, block: BlockAt, len: &mut usize) -> bool
-    requires order { IsStrictlySortedBy by_place blocks.old.items }
-    requires few { len.old < usize.MAX }
-    ensures order { IsStrictlySortedBy by_place blocks.new.items }
-    ensures put { result ≡ true → Puts blocks.old.items blocks.new.items block }
-    ensures absent { result ≡ false → count_by (stands_at block.at) blocks.old.items ≡ 0 }
-    ensures same { result ≡ false → blocks.new.items ≡ blocks.old.items }
-    ensures counted { len.new + vec_len blocks.old ≡ len.old + vec_len blocks.new }
-{
-    match place_of(blocks, block.at) {
-        Ok(i) => {
-            blocks[i] = block;
-            true
-        }
-        Err(i) => match blocks.insert(i, block) {
-            Ok(()) => {
-                *len += 1;
-                true
-            }
-            Err(_) => false,
-        },
-    }
-}
-
 /// Puts a block between others where there is room for it, and says whether there is. `len` counts it. Takes no memory.
 fn insert_within(blocks: &mut Vec<BlockAt>, i: usize, block: BlockAt, len: &mut usize) -> bool
     requires few { len.old < usize.MAX }
@@ -126,23 +98,6 @@ fn insert_within(blocks: &mut Vec<BlockAt>, i: usize, block: BlockAt, len: &mut 
             true
         }
         Err(_) => unreachable!(),
-    }
-}
-
-/// Adds a block that is not there. The blocks stay where this fails.
-pub fn add(blocks: &mut Vec<BlockAt>, block: BlockAt) -> Result<(), AllocError>
-    requires order { IsStrictlySortedBy by_place blocks.old.items }
-    requires absent { count_by (stands_at block.at) blocks.old.items ≡ 0 }
-    ensures order { IsStrictlySortedBy by_place blocks.new.items }
-    ensures ok { OnOk result (OneMore blocks.old.items blocks.new.items block) }
-    ensures err { OnErr result (blocks.new.items ≡ blocks.old.items) }
-{
-    match place_of(blocks, block.at) {
-        Ok(_) => unreachable!(),
-        Err(i) => match blocks.insert(i, block) {
-            Ok(()) => Ok(()),
-            Err(_) => Err(AllocError),
-        },
     }
 }
 

@@ -24,8 +24,8 @@ const MOST_BLOCKS: usize = 1 << 40;
 /// Room is made for so many more chunks at once, at most.
 const MOST_CELLS: usize = 4096;
 
-/// The blocks of a region, each with a number above 0. They lie by chunk. A block that came when no memory was found for it in the list
-/// of its chunk is fresh, and joins that list when room is made.
+/// The blocks of a region, each with a number above 0. They lie by chunk. A block that came when no memory was found for it in its
+/// chunk is fresh, and joins those of its chunk when room is made.
 #[derive(Drop)]
 pub struct Blocks {
     cells: Cells,
@@ -194,6 +194,7 @@ impl Blocks {
     fn put(&mut self, block: BlockAt)
         requires laid { AreLaid self.old }
         requires filled { 0 < block.id }
+        requires counted { length (blocks_of self.old) ≤ self.old.len }
         requires few { self.old.len < usize.MAX }
         requires room { vec_len self.old.fresh < vec_capacity self.old.fresh }
         ensures laid { AreLaid self.new }
@@ -213,6 +214,7 @@ impl Blocks {
     fn put_settled(&mut self, block: BlockAt)
         requires laid { AreLaid self.old }
         requires filled { 0 < block.id }
+        requires counted { length (blocks_of self.old) ≤ self.old.len }
         requires few { self.old.len < usize.MAX }
         requires absent { count_by (stands_at block.at) self.old.fresh.items ≡ 0 }
         requires room { vec_len self.old.fresh < vec_capacity self.old.fresh }

@@ -7,13 +7,13 @@ ghost use Rattle.fol_keyed.specs.Order.{chunk_cmp};
 ghost use Rattle.fol_chunks.specs.Weights.{SameBlocks, OneMore, Puts, Clears, stands_at, lies_in};
 ghost use Rattle.fol_chunks.specs.Cells.{AreCells, blocks_in, blocks_at, cell_at, key_at};
 
-use crate::block_list;
+use crate::block_pages::BlockPages;
 use fol_model::{BlockAt, BlockPos, ChunkPos, chunk_of};
 use std::alloc::{AllocError, Global};
 use std::collections::HashMap;
 
 /// The blocks of each chunk, in order of place, by the x and the z of the chunk.
-pub type Cells = HashMap<(i32, i32), Vec<BlockAt>>;
+pub type Cells = HashMap<(i32, i32), BlockPages>;
 
 /// The key of a chunk.
 pub fn key_of(c: ChunkPos) -> (i32, i32)
@@ -36,7 +36,7 @@ pub fn number_at(cells: &Cells, key: (i32, i32), at: BlockPos) -> u16
     ensures { result ≡ block_in (blocks_in cells.now.entries) at }
 {
     match cells.get(&key) {
-        Some(cell) => block_list::number_at(cell, at),
+        Some(cell) => cell.number_at(at),
         None => 0,
     }
 }
@@ -70,12 +70,12 @@ pub fn add_to(cells: &Cells, list: &mut Vec<BlockAt>) -> Result<(), AllocError>
     ensures { OnOk result (list.new.items ≡ list.old.items ++ blocks_in cells.now.entries) }
 {
     for cell in cells.values() {
-        list.extend_from_slice(cell)?;
+        cell.add_to(list)?;
     }
     Ok(())
 }
 
-/// Gives a block its number where it is there or memory is found for it in its chunk's list, and says whether it did. `len` counts one
+/// Gives a block its number where it is there or memory is found for it in its chunk, and says whether it did. `len` counts one
 /// that was not there.
 pub fn put(
     cells: &mut Cells,
@@ -86,6 +86,7 @@ pub fn put(
 ) -> bool
     requires cells { AreCells cells.old.entries }
     requires key { key ≡ key_at block.at }
+    requires counted { length (blocks_in cells.old.entries) ≤ len.old }
     requires few { len.old < usize.MAX }
     ensures cells { AreCells cells.new.entries }
     ensures put { result ≡ true
@@ -98,7 +99,7 @@ pub fn put(
         ≡ len.old + length (blocks_in cells.new.entries) }
 {
     match cells.get_mut(&key) {
-        Some(cell) => block_list::put_or_grow(cell, block, len),
+        Some(cell) => cell.put(alloc, block, len),
         None => put_first(cells, alloc, key, block, len),
     }
 }
@@ -141,6 +142,7 @@ pub fn add(
 ) -> Result<(), AllocError>
     requires cells { AreCells cells.old.entries }
     requires key { key ≡ key_at block.at }
+    requires few { length (blocks_in cells.old.entries) < usize.MAX }
     requires absent { count_by (stands_at block.at) (blocks_in cells.old.entries) ≡ 0 }
     ensures cells { AreCells cells.new.entries }
     ensures ok { OnOk result (OneMore (blocks_in cells.old.entries)
@@ -149,7 +151,7 @@ pub fn add(
         (blocks_in cells.new.entries)) }
 {
     match cells.get_mut(&key) {
-        Some(cell) => block_list::add(cell, block),
+        Some(cell) => cell.add(alloc, block),
         None => open(cells, alloc, key, block),
     }
 }
@@ -165,8 +167,7 @@ fn open(cells: &mut Cells, alloc: Global, key: (i32, i32), block: BlockAt) -> Re
     ensures err { OnErr result (SameBlocks (blocks_in cells.old.entries)
         (blocks_in cells.new.entries)) }
 {
-    let mut cell = Vec::new(alloc);
-    cell.push(block)?;
+    let cell = BlockPages::of(alloc, block)?;
     match cells.insert(key, cell) {
         Ok(_) => Ok(()),
         Err(_) => Err(AllocError),
@@ -186,7 +187,7 @@ fn take_out(cells: &mut Cells, key: (i32, i32), at: BlockPos, len: &mut usize) -
 {
     match cells.get_mut(&key) {
         Some(cell) => {
-            block_list::clear(cell, at, len);
+            cell.clear(at, len);
             cell.is_empty()
         }
         None => false,

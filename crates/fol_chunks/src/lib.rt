@@ -10,6 +10,7 @@
 
 mod block_area;
 mod block_list;
+mod block_pages;
 mod blocks;
 mod cells;
 mod chunks;
@@ -19,6 +20,7 @@ mod entity_list;
 mod ground;
 mod held;
 mod moves;
+mod pages;
 mod steps;
 mod tally;
 

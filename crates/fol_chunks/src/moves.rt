@@ -1,6 +1,6 @@
 //! What moves from the blocks of one region to those of another.
 
-ghost use Rattle.std.specs.Prelude.{◌≡◌, ℕ, ◌+◌, ◌≤◌, sum_by, count_by, vec_len};
+ghost use Rattle.std.specs.Prelude.{◌≡◌, ℕ, ◌+◌, ◌≤◌, length, sum_by, count_by, vec_len};
 ghost use Rattle.std.specs.Vec.{vec_capacity};
 ghost use Rattle.std.specs.List.Sorted.{IsStrictlySortedBy};
 ghost use Rattle.fol_model.specs.declared.places.BlockPos.{BlockPos};
@@ -10,8 +10,9 @@ ghost use Rattle.fol_chunks.specs.Rows.{by_place};
 ghost use Rattle.fol_chunks.specs.Weights.{only, one_at, lies_in, lies_outside};
 ghost use Rattle.fol_chunks.specs.Cells.{AreCells, IsCell, blocks_in, lies_at, is_astray};
 
+use crate::block_pages::BlockPages;
 use crate::cells::{Cells, key_of};
-use fol_keyed::{ChunkList, join, move_listed};
+use fol_keyed::{ChunkList, move_listed};
 use fol_model::{BlockAt, ChunkPos};
 
 /// Moves the fresh blocks that lie in the chunks, and says how many they are.
@@ -109,25 +110,20 @@ fn move_cell(
 
 /// Takes the list of a chunk in, and says how many blocks it has. They become fresh where the chunk has a list already, and where
 /// there is no room for another list. Takes no memory.
-fn take_in(
-    cells: &mut Cells,
-    fresh: &mut Vec<BlockAt>,
-    key: (i32, i32),
-    cell: Vec<BlockAt>,
-) -> usize
+fn take_in(cells: &mut Cells, fresh: &mut Vec<BlockAt>, key: (i32, i32), cell: BlockPages) -> usize
     requires cells { AreCells cells.old.entries }
     requires order { IsStrictlySortedBy by_place fresh.old.items }
-    requires cell { IsCell key cell.items }
+    requires cell { IsCell key cell }
     requires apart { (at : BlockPos) → sum_by (one_at at) (blocks_in cells.old.entries)
-        + sum_by (one_at at) fresh.old.items + sum_by (one_at at) cell.items ≤ 1 }
-    requires room { vec_len fresh.old + vec_len cell ≤ vec_capacity fresh.old }
+        + sum_by (one_at at) fresh.old.items + sum_by (one_at at) cell ≤ 1 }
+    requires room { vec_len fresh.old + length cell ≤ vec_capacity fresh.old }
     ensures cells { AreCells cells.new.entries }
     ensures order { IsStrictlySortedBy by_place fresh.new.items }
     ensures moved { (f : BlockAt → ℕ) → sum_by f (blocks_in cells.new.entries)
         + sum_by f fresh.new.items ≡ sum_by f (blocks_in cells.old.entries)
-        + sum_by f fresh.old.items + sum_by f cell.items }
-    ensures count { result ≡ vec_len cell }
-    ensures len { vec_len fresh.new ≤ vec_len fresh.old + vec_len cell }
+        + sum_by f fresh.old.items + sum_by f cell }
+    ensures count { result ≡ length cell }
+    ensures len { vec_len fresh.new ≤ vec_len fresh.old + length cell }
     ensures capacity { vec_capacity fresh.old ≤ vec_capacity fresh.new }
 {
     let moved = cell.len();
@@ -137,7 +133,7 @@ fn take_in(
             Err(_) => unreachable!(),
         }
     } else {
-        join(fresh, &cell);
+        cell.join_to(fresh);
     }
     moved
 }

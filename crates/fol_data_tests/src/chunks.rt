@@ -210,6 +210,74 @@ fn many_blocks_are_kept(rt: HostRuntime) -> Result<(), Fail> {
     Ok(())
 }
 
+/// One of 2,053 blocks of one chunk.
+fn within_one(i: u32) -> BlockPos
+    requires { i < 2053 }
+{
+    let n = i * 1_021 % 2_053;
+    BlockPos {
+        x: (n % 16) as i32,
+        y: (n / 256) as i32,
+        z: (n / 16 % 16) as i32,
+    }
+}
+
+/// Sets 2,052 of the blocks of one chunk in no order, each to another number.
+fn fill_one(chunks: &mut Chunks) -> Result<(), AllocError> {
+    for i in 0..2_052_u32 {
+        chunks.reserve(1)?;
+        chunks.set(within_one(i), (i + 1) as u16);
+    }
+    Ok(())
+}
+
+/// Takes each third block of them away.
+fn clear_thirds(chunks: &mut Chunks) -> Result<(), AllocError> {
+    for i in 0..684_u32 {
+        chunks.reserve(1)?;
+        chunks.set(within_one(3 * i), 0);
+    }
+    Ok(())
+}
+
+/// Whether one of the blocks has its number, and none where it was taken away.
+fn is_right(chunks: &Chunks, i: u32, is_cleared: bool) -> bool
+    requires { i < 2053 }
+{
+    let id = if is_cleared && i % 3 == 0 { 0 } else { i + 1 };
+    chunks.get(within_one(i)) as u32 == id
+}
+
+/// Whether all of the blocks have their numbers, and none where each third was taken away.
+fn are_right(chunks: &Chunks, is_cleared: bool) -> bool {
+    for i in 0..2_052_u32 {
+        if !is_right(chunks, i, is_cleared) {
+            return false;
+        }
+    }
+    true
+}
+
+/// Whether the blocks of a chunk are all there once they are set, and all but each third once these are taken away.
+fn keeps_one_chunk(chunks: &mut Chunks, alloc: Global) -> Result<bool, AllocError> {
+    fill_one(chunks)?;
+    let is_filled = are_right(chunks, false);
+    let all = count_blocks(alloc, chunks)?;
+    clear_thirds(chunks)?;
+    let is_cleared = are_right(chunks, true);
+    let others = count_blocks(alloc, chunks)?;
+    Ok(is_filled && is_cleared && all == 2_052 && others == 1_368)
+}
+
+/// More blocks of one chunk than fit on a page come in no order, and some of them go.
+#[test]
+fn a_full_chunk_is_kept(rt: HostRuntime) -> Result<(), Fail> {
+    let mut chunks = Chunks::new(rt.alloc());
+    let is_right = keeps_one_chunk(&mut chunks, rt.alloc())?;
+    assert!(rt; is_right);
+    Ok(())
+}
+
 /// One block that lies with its chunk, and no entity.
 fn with_block(alloc: Global, at: BlockPos, id: u16) -> Result<Chunks, AllocError>
     ensures { IfOk result (λ c. (flat_of c).standing ≡ λ k. None) }

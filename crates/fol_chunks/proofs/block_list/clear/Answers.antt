@@ -1,4 +1,5 @@
-use Rattle.fol_chunks.proofs.Weighing.{Found, Lacking, absent, clears_absent, order_removed, removed}
+use Rattle.fol_chunks.specs.Pages.{Found, Lacking}
+use Rattle.fol_chunks.proofs.Weighing.{absent, clears_absent, order_removed, removed}
 use Rattle.fol_chunks.proofs.block_list.clear.Goals as goal
 
 pub returns-in-Ok-clause-order : goal.returns-in-Ok-clause-order

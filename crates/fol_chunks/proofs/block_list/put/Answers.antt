@@ -1,4 +1,5 @@
-use Rattle.fol_chunks.proofs.Weighing.{Found, Lacking, absent, order_replaced, puts_more, replaced}
+use Rattle.fol_chunks.specs.Pages.{Found, Lacking}
+use Rattle.fol_chunks.proofs.Weighing.{absent, order_replaced, puts_more, replaced}
 use Rattle.fol_chunks.proofs.block_list.put.Goals as goal
 
 pub returns-in-Ok-clause-order : goal.returns-in-Ok-clause-order

@@ -4,4 +4,4 @@ use Rattle.fol_chunks.specs.Cells.{blocks_in}
 use Rattle.fol_chunks.proofs.cells.add_to.Given as goal
 
 abbrev pub invariant-loop-cell : goal.invariant-loop-cell
-invariant-loop-cell l = l.list.items ++ flat_map (λ v. v.items) l.cell-iterator ≡ l.fn.list.items ++ blocks_in l.fn.cells.entries
+invariant-loop-cell l = l.list.items ++ flat_map (λ v. v) l.cell-iterator ≡ l.fn.list.items ++ blocks_in l.fn.cells.entries

@@ -3,13 +3,10 @@ use Rattle.fol_model.specs.World.{block_in}
 use Rattle.fol_chunks.proofs.CellSums.{items_none, items_there, number_cells}
 use Rattle.fol_chunks.proofs.cells.number_at.Goals as goal
 
-pub number_at-requires : goal.number_at-requires
-number_at-requires c = rw c.deref.ensures.value (c.requires.cells.cells c.args.key c.in-Some.cell.now (sym c.in-Some.ensures.value)).order
-
 pub returns-in-Some : goal.returns-in-Some
 returns-in-Some c =
     c.number_at.ensures
-    ∙ ap (λ xs. block_in xs c.args.at) (c.deref.ensures.value ∙ sym (items_there c.args.cells.now.entries c.args.key c.in-Some.cell.now (sym c.in-Some.ensures.value)))
+    ∙ ap (λ xs. block_in xs c.args.at) (sym (items_there c.args.cells.now.entries c.args.key c.in-Some.cell.now (sym c.in-Some.ensures.value)))
     ∙ number_cells c.args.cells.now.entries c.requires.cells c.args.key c.args.at c.requires.key
 
 pub returns-in-None : goal.returns-in-None

@@ -7,18 +7,14 @@ use Rattle.fol_chunks.proofs.CellSteps.{cells_written, clears_written, len_writt
 use Rattle.fol_chunks.proofs.Weighing.{clears_absent}
 use Rattle.fol_chunks.proofs.cells.take_out.Goals as goal
 
-pub clear-requires-clause-order : goal.clear-requires-clause-order
-clear-requires-clause-order c = (c.requires.cells.cells c.args.key c.in-Some.cell.now (sym c.in-Some.ensures.value)).order
-
-pub clear-requires-clause-counted : goal.clear-requires-clause-counted
-clear-requires-clause-counted c =
+pub clear-requires : goal.clear-requires
+clear-requires c =
     let there : cell_at c.args.cells.now.entries c.args.key ≡ Some c.in-Some.cell.now = sym c.in-Some.ensures.value in
     omega (
       arith,
       ap length (items_there c.args.cells.now.entries c.args.key c.in-Some.cell.now there),
       len_chunk c.args.cells.now.entries c.requires.cells c.args.key,
       c.requires.counted,
-      c.in-Some.cell.now.ok,
     )
 
 pub returns-in-Some-clause-counted : goal.returns-in-Some-clause-counted
@@ -26,10 +22,8 @@ returns-in-Some-clause-counted c =
     let there : cell_at c.args.cells.now.entries c.args.key ≡ Some c.in-Some.cell.now = sym c.in-Some.ensures.value in
     omega (
       arith,
-      len_written c.args.cells.now.entries _ c.args.key c.in-Some.cell.now c.clear.new.blocks there (c.get_mut.follows.holds c.clear.new.blocks).0,
+      len_written c.args.cells.now.entries _ c.args.key c.in-Some.cell.now c.clear.new.self there (c.get_mut.follows.holds c.clear.new.self).0,
       c.clear.ensures.counted,
-      c.in-Some.cell.now.ok,
-      c.clear.new.blocks.ok,
     )
 
 pub returns-in-None-clause-counted : goal.returns-in-None-clause-counted
@@ -38,14 +32,14 @@ returns-in-None-clause-counted c = omega (arith, ap (λ m. length (blocks_in m.e
 pub returns-in-Some-clause-cells : goal.returns-in-Some-clause-cells
 returns-in-Some-clause-cells c =
     let there : cell_at c.args.cells.now.entries c.args.key ≡ Some c.in-Some.cell.now = sym c.in-Some.ensures.value in
-    let w = c.get_mut.follows.holds c.clear.new.blocks in
-    let kept = cell_clear c.args.key c.in-Some.cell.now.items (c.requires.cells.cells c.args.key c.in-Some.cell.now there) c.clear.new.blocks.items c.args.at c.clear.ensures.order c.clear.ensures.cleared in
-    cells_written c.args.cells.now.entries _ c.args.key c.requires.cells c.clear.new.blocks kept w.4 (w.3 (ap is_some there)).0
+    let w = c.get_mut.follows.holds c.clear.new.self in
+    let kept = cell_clear c.args.key c.in-Some.cell.now (c.requires.cells.cells c.args.key c.in-Some.cell.now there) c.clear.new.self c.args.at c.clear.ensures.order c.clear.ensures.cleared in
+    cells_written c.args.cells.now.entries _ c.args.key c.requires.cells c.clear.new.self kept w.4 (w.3 (ap is_some there)).0
 
 pub returns-in-Some-clause-cleared : goal.returns-in-Some-clause-cleared
 returns-in-Some-clause-cleared c =
     let there : cell_at c.args.cells.now.entries c.args.key ≡ Some c.in-Some.cell.now = sym c.in-Some.ensures.value in
-    clears_written c.args.cells.now.entries _ c.args.key c.in-Some.cell.now c.clear.new.blocks there (c.get_mut.follows.holds c.clear.new.blocks).0 c.requires.cells c.args.at c.requires.key c.clear.ensures.cleared
+    clears_written c.args.cells.now.entries _ c.args.key c.in-Some.cell.now c.clear.new.self there (c.get_mut.follows.holds c.clear.new.self).0 c.requires.cells c.args.at c.requires.key c.clear.ensures.cleared
 
 pub returns-in-None-clause-cleared : goal.returns-in-None-clause-cleared
 returns-in-None-clause-cleared c =
