@@ -5,14 +5,14 @@ use Rattle.std.specs.List.{AllWithin, swap_remove}
 use Rattle.std.specs.List.Sorted.{IsPermutation}
 use Rattle.std.proofs.lemmas.List.Elements.{AllWithin-none, AllWithin-more, AllWithin-upto, All-from_all_within, All-push, All-nil, Contains-get_or, Contains-append_right}
 use Rattle.std.proofs.lemmas.List.Sorted.{IsPermutation-refl, IsPermutation-sym, IsPermutation-trans, IsPermutation-append_left, IsPermutation-append_right, IsPermutation-pop_more, IsPermutation-swap_remove, All-permutation, Contains-permutation, length_permutation, sum_by-IsPermutation}
-use Rattle.std.proofs.lemmas.List.Sums.{sum_by-append, get_or-le-sum_by}
+use Rattle.std.proofs.lemmas.List.Sums.{sum_by-append, sum_by-cons, get_or-le-sum_by}
 use Rattle.std.proofs.lemmas.List.{map-append, length-map, append-nil}
 use Rattle.fol_model.specs.declared.tasks.Task.{Task}
 use Rattle.fol_keyed.specs.Parted.{Parted}
 use Rattle.fol_keyed.proofs.Keyed.{count_all}
 use Rattle.fol_queues.specs.declared.dated.Dated.{Dated}
 use Rattle.fol_queues.specs.Waiting.{is_due}
-use Rattle.fol_queues.specs.Parted.{DueParted, MovedInto}
+use Rattle.fol_queues.specs.Parted.{DueParted, IsTakingDue, MovedInto}
 
 -- what was moved passes, and none of the first i of what is left
 pub record IsParting {X : Type 0} (p : X → Bool) (xs left moved : List X) (i : ℕ) : Type 0 where
@@ -62,13 +62,6 @@ parted_again p xs left rest moved h m = record {
   no = All-permutation (λ x. p x ≡ false) left rest m h.no;
 }
 
--- so far taken from a heap: due tasks, without their deadlines
-pub record IsTakingDue (now : ℕ) (xs left : List Dated) (out : List Task) : Type 0 where
-  pub due : List Dated
-  pub tasks : out ≡ map (λ d. d.task) due
-  pub all : IsPermutation xs (due ++ left)
-  pub yes : All (λ d. is_due now d ≡ true) due
-
 module _ (now : ℕ) (xs : List Dated) where
   pub due_none : (out : List Task) → out ≡ [] → IsTakingDue now xs xs out
   due_none out e = record { due = []; tasks = e; all = IsPermutation-refl xs; yes = All-nil (λ d. is_due now d ≡ true) }
@@ -81,12 +74,6 @@ module _ (now : ℕ) (xs : List Dated) where
         all = IsPermutation-pop_more xs h.due left rest d h.all m;
         yes = All-push (λ d. is_due now d ≡ true) h.due d h.yes t;
       }
-
-  pub due_room : (left : List Dated) (out : List Task) (e : Dated) → IsTakingDue now xs left out → 0 < length left → is_due now (get_or left 0 e) ≡ true → length out < count_by (is_due now) xs
-  due_room left out e h l t =
-      let f : length out ≡ length h.due = ap (λ (ts : List Task). length ts) h.tasks ∙ length-map h.due (λ (d : Dated). d.task) in
-      let r : length h.due < count_by (is_due now) xs = room_left (is_due now) xs left h.due 0 e h.all h.yes l t in
-      omega arith
 
   pub due_done : (left : List Dated) (out : List Task) → IsTakingDue now xs left out → All (λ d. is_due now d ≡ false) left → DueParted now xs left out
   due_done left out h none = record { due = h.due; tasks = h.tasks; parted = record { all = h.all; yes = h.yes; no = none } }
@@ -129,3 +116,19 @@ module _ (p : Dated → Bool) (f : Dated → Dated) (xs others : List Dated) whe
 
   pub moving_done : (left joined : List Dated) (i : ℕ) → IsMovingInto p f xs left others joined i → length left ≤ i → MovedInto p f xs left others joined
   moving_done left joined i h l = record { moved = h.moved; joins = h.joins; parted = parting_done p xs left h.moved i h.parting l }
+
+-- one that passes goes
+pub one_less : {X : Type 0} (p : X → Bool) (xs rest : List X) (x : X) → IsPermutation xs (x ∷ rest) → p x ≡ true → count_by p xs ≡ 1 + count_by p rest
+one_less p xs rest x m t =
+    sym (sum_by-IsPermutation (λ z. cond (p z) 1 0) xs (x ∷ rest) m) ∙ sum_by-cons (λ z. cond (p z) 1 0) x rest ∙ ap (λ b. cond b 1 0 + count_by p rest) t
+
+-- what is left may stand in another order
+pub taking_again : (now : ℕ) (xs left rest : List Dated) (out : List Task) → IsTakingDue now xs left out → IsPermutation left rest → IsTakingDue now xs rest out
+taking_again now xs left rest out h m = record { due = h.due; tasks = h.tasks; all = IsPermutation-trans xs (h.due ++ left) (h.due ++ rest) h.all (IsPermutation-append_right h.due left rest m); yes = h.yes }
+
+-- all that is due has gone, or is left
+pub taking_count : (now : ℕ) (xs left : List Dated) (out : List Task) → IsTakingDue now xs left out → length out + count_by (is_due now) left ≡ count_by (is_due now) xs
+taking_count now xs left out h =
+    let one : Dated → ℕ = λ d. cond (is_due now d) 1 0 in
+    let gone : length out ≡ length h.due = ap (λ (ts : List Task). length ts) h.tasks ∙ length-map h.due (λ (d : Dated). d.task) in
+    omega (arith, sum_by-IsPermutation one xs (h.due ++ left) h.all, sum_by-append one h.due left, count_all (is_due now) h.due h.yes)

@@ -1,16 +1,19 @@
 -- The order of tasks in a heap.
-use Rattle.std.proofs.Common.{◌≡◌, ℕ, ◌<◌, ◌≤◌, ◌*◌, ◌+◌, false, List, length, get_or, rules, arith, sym, subst}
+use Rattle.std.proofs.Common.{◌≡◌, ℕ, ◌<◌, ◌≤◌, ◌*◌, ◌+◌, ◌∙◌, ap, cond, inl, inr, true, false, refl, List, [], ◌∷◌, take, length-take, length, get_or, rules, arith, sym, subst}
 use Rattle.std.specs.Cmp.{IsTotalOrder}
 use Rattle.std.specs.Cmp.Rules.{comparing}
 use Rattle.std.specs.Slice.Heapsort.{IsHeapWithin}
 use Rattle.std.specs.BinaryHeap.{lt_by_cmp, IsHeap}
-use Rattle.std.proofs.lemmas.Bool.{leb-false, lt-leb}
+use Rattle.std.proofs.lemmas.Bool.{cases_Bool, le-leb, leb-false, lt-leb, lt-ltb}
 use Rattle.std.specs.BinaryHeap.Sift.{SiftsDown, RestoresHeap}
 use Rattle.std.specs.List.{swap_remove}
 use Rattle.std_alloc.proofs.HeapSift.{at_most, popped, greatest}
 use Rattle.std.proofs.lemmas.List.Elements.{All-from_recursion}
-use Rattle.std.specs.Prelude.{All}
-use Rattle.fol_keyed.proofs.Keyed.{at_own}
+use Rattle.std.specs.Prelude.{All, count_by, nat_lt}
+use Rattle.std.proofs.lemmas.List.{get_or-take}
+use Rattle.std.proofs.lemmas.List.Elements.{at_read}
+use Rattle.std.proofs.lemmas.List.Sums.{get_or-le-sum_by}
+use Rattle.fol_keyed.proofs.Keyed.{at_own, count_none}
 use Rattle.fol_queues.specs.declared.dated.Dated.{Dated}
 use Rattle.fol_queues.specs.Turn.{by_turn}
 use Rattle.fol_queues.specs.Waiting.{is_due}
@@ -48,3 +51,49 @@ none_due now ds h first = λ k d l.
     let later : now < (get_or ds 0 d).deadline = leb-false (get_or ds 0 d).deadline now (first d some) in
     let last : (get_or ds 0 d).deadline ≤ (get_or ds k d).deadline = not_after (get_or ds 0 d) (get_or ds k d) (top k d l) in
     lt-leb (get_or ds k d).deadline now (omega arith)
+
+-- where the first task is due, some are, and else none is
+pub first_tells : (now : ℕ) (ds : List Dated) (d : Dated) → IsHeap by_turn ds → 0 < length ds → d ≡ get_or ds 0 d → is_due now d ≡ nat_lt 0 (count_by (is_due now) ds)
+first_tells now ds d h l e = elim (cases_Bool (is_due now d)) [
+  | inl t ↦
+      let one : cond (is_due now (get_or ds 0 d)) 1 0 ≤ count_by (is_due now) ds = get_or-le-sum_by (λ (z : Dated). cond (is_due now z) 1 0) ds 0 d l in
+      let due : is_due now (get_or ds 0 d) ≡ true = ap (is_due now) (sym e) ∙ t in
+      let some : 1 ≤ count_by (is_due now) ds = rw due at one in
+      t ∙ sym (lt-ltb 0 (count_by (is_due now) ds) (omega arith))
+  | inr f ↦
+      let none : All (λ z. is_due now z ≡ false) ds = none_due now ds h (λ z m. at_read ds (λ y. is_due now y ≡ false) 0 d l e f z) in
+      f ∙ sym (ap (nat_lt 0) (count_none (is_due now) ds none))
+]
+
+pub none_tells : (now : ℕ) (ds : List Dated) → length ds ≡ 0 → false ≡ nat_lt 0 (count_by (is_due now) ds)
+none_tells now [] e = refl
+none_tells now (d ∷ ds) e = absurd (omega (arith, e))
+
+-- the first ones stay a heap where they stay as they are
+pub heap_stays : (n : ℕ) (xs ys : List Dated) → ((k : ℕ) (d : Dated) → k < n → get_or ys k d ≡ get_or xs k d) → IsHeapWithin (lt_by_cmp by_turn) xs 0 n → IsHeapWithin (lt_by_cmp by_turn) ys 0 n
+heap_stays n xs ys same h = λ p k d low a b l. (λ i. lt_by_cmp by_turn (same p d (omega arith) i) (same k d l i)) ∙ h p k d low a b l
+
+-- the first ones are a heap of their own, and all of them where they are all
+pub heap_first : (n : ℕ) (xs : List Dated) → IsHeapWithin (lt_by_cmp by_turn) xs 0 n → n ≤ length xs → IsHeap by_turn (take n xs)
+unfolding IsHeap
+heap_first n xs h l = λ p k d low a b m.
+    let few : length (take n xs) ≡ n = omega (arith, length-take n xs, l) in
+    heap_stays n xs (take n xs) (λ j e s. get_or-take n xs j e s) h p k d low a b (omega (arith, few, m))
+
+pub heap_whole : (n : ℕ) (xs : List Dated) → n ≡ length xs → IsHeapWithin (lt_by_cmp by_turn) xs 0 n → IsHeap by_turn xs
+unfolding IsHeap
+heap_whole n xs e h = λ p k d low a b l. h p k d low a b (omega (arith, e, l))
+
+pub heap_to : (n : ℕ) (xs : List Dated) → n ≡ length xs → IsHeap by_turn xs → IsHeapWithin (lt_by_cmp by_turn) xs 0 n
+unfolding IsHeap
+heap_to n xs e h = λ p k d low a b l. h p k d low a b (omega (arith, e, l))
+
+-- a task that is taken from where a due one was read is due
+pub due_at : (now : ℕ) (ds : List Dated) (i : ℕ) (d e : Dated) → i < length ds → d ≡ get_or ds i d → d.deadline ≤ now → e ≡ get_or ds i e → is_due now e ≡ true
+due_at now ds i d e some is l own =
+    let read = at_read ds (λ z. is_due now z ≡ true) i d some is (le-leb d.deadline now l) in
+    ap (is_due now) own ∙ read e
+
+pub restored : (n : ℕ) (xs ys : List Dated) → RestoresHeap by_turn xs 0 n ys → IsHeapWithin (lt_by_cmp by_turn) xs 0 n → IsHeap by_turn ys
+unfolding RestoresHeap
+restored n xs ys r h = r h

@@ -1,5 +1,5 @@
 -- A queue that was parted by a test.
-use Rattle.std.specs.Prelude.{ℕ, ◌≡◌, Bool, List, ◌++◌, map}
+use Rattle.std.specs.Prelude.{ℕ, ◌≡◌, Bool, true, List, ◌++◌, All, map}
 use Rattle.std.specs.List.Sorted.{IsPermutation}
 use Rattle.fol_model.specs.declared.tasks.Task.{Task}
 pub use Rattle.fol_keyed.specs.Parted.{Parted}
@@ -11,6 +11,13 @@ pub record DueParted (now : ℕ) (xs left : List Dated) (out : List Task) : Type
   pub due : List Dated
   pub tasks : out ≡ map (λ d. d.task) due
   pub parted : Parted (is_due now) xs left due
+
+-- some due tasks were moved, and their deadlines are gone
+pub record IsTakingDue (now : ℕ) (xs left : List Dated) (out : List Task) : Type 0 where
+  pub due : List Dated
+  pub tasks : out ≡ map (λ d. d.task) due
+  pub all : IsPermutation xs (due ++ left)
+  pub yes : All (λ d. is_due now d ≡ true) due
 
 -- what passes joined others, each changed by f
 pub record MovedInto (p : Dated → Bool) (f : Dated → Dated) (xs left others joined : List Dated) : Type 0 where

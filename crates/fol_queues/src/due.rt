@@ -1,6 +1,6 @@
-//! How many tasks of a heap are due.
+//! Which tasks of a heap are due.
 
-ghost use Rattle.std.specs.Prelude.{◌≡◌, count_by};
+ghost use Rattle.std.specs.Prelude.{◌≡◌, count_by, nat_lt};
 ghost use Rattle.std.specs.BinaryHeap.{IsHeap};
 ghost use Rattle.fol_queues.specs.Waiting.{is_due};
 ghost use Rattle.fol_queues.specs.Turn.{by_turn};
@@ -10,6 +10,17 @@ use crate::Dated;
 
 /// The levels of a heap are fewer.
 const LEVELS: u32 = 64;
+
+/// Whether one of the tasks is due.
+pub fn is_any_due(tasks: &[Dated], now: u64) -> bool
+    requires { IsHeap by_turn tasks.now }
+    ensures { result ≡ nat_lt 0 (count_by (is_due now) tasks.now) }
+{
+    if tasks.is_empty() {
+        return false;
+    }
+    tasks[0].deadline <= now
+}
 
 /// How many of the tasks are due.
 pub fn count_due(tasks: &[Dated], now: u64) -> u64

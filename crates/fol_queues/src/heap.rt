@@ -3,7 +3,7 @@
 ghost use Rattle.std.specs.Prelude.{◌≡◌, ◌+◌, ◌*◌, ◌<◌, ◌≤◌, ◌∷◌, [], ◌++◌, length, vec_len, slice_index_or};
 ghost use Rattle.std.specs.Vec.{vec_capacity};
 ghost use Rattle.std.specs.BinaryHeap.{IsHeap};
-ghost use Rattle.std.specs.BinaryHeap.Sift.{ComparesAt, IsGreaterChild, SiftsUp, SiftsDown};
+ghost use Rattle.std.specs.BinaryHeap.Sift.{ComparesAt, IsGreaterChild, RestoresHeap, SiftsUp, SiftsDown};
 ghost use Rattle.std.specs.List.Sorted.{IsPermutation};
 ghost use Rattle.fol_queues.specs.Turn.{by_turn};
 
@@ -47,6 +47,17 @@ pub fn build(tasks: &mut [Dated])
     while 0 < at {
         at -= 1;
         sink(tasks, at);
+    }
+}
+
+/// Makes a heap of the tasks, of which the first `ordered` are one.
+pub fn restore(tasks: &mut [Dated], ordered: usize)
+    requires bound { ordered ≤ length tasks.old }
+    ensures same { IsPermutation tasks.old tasks.new }
+    ensures order { RestoresHeap by_turn tasks.old 0 ordered tasks.new }
+{
+    for at in ordered..tasks.len() {
+        rise(tasks, at);
     }
 }
 

@@ -5,8 +5,8 @@
 //! has its deadlines moved by one offset.
 //!
 //! The crate promises that `accept` adds exactly the task, that `take_due` takes exactly the tasks whose deadline has come, in order of
-//! number, and that `move_listed` moves exactly the tasks on the chunks of a list. Only `reserve` takes memory. It serves the data of
-//! a region.
+//! number, that `give_back` lets such tasks wait again, and that `move_listed` moves exactly the tasks on the chunks of a list. Only
+//! `reserve` takes memory. It serves the data of a region.
 #![tactic(auto)]
 
 mod dated;

@@ -1,6 +1,6 @@
 //! A queue of tasks with deadlines.
 
-ghost use Rattle.std.specs.Prelude.{◌≡◌, ◌+◌, ◌^◌, ◌≤◌, ◌||◌, not, Bool, IsTrue, ◌↔◌, ℕ, List, [], length, count_by, OnOk, vec_len, IsNone};
+ghost use Rattle.std.specs.Prelude.{◌≡◌, ◌+◌, ◌^◌, ◌≤◌, ◌||◌, not, Bool, IsTrue, ◌↔◌, ℕ, List, [], length, count_by, nat_lt, OnOk, vec_len, IsNone};
 ghost use Rattle.std.specs.List.Sorted.{IsStrictlySortedBy};
 ghost use Rattle.std.specs.Option.{option_map, option_or, is_none, is_some, ForSome};
 ghost use Rattle.std.specs.Vec.{vec_capacity};
@@ -18,6 +18,8 @@ use std::marker::Model;
 #[derive(Drop)]
 pub struct Queues {
     tasks: Vec<Dated>,
+    /// So many of the first tasks are a heap. The others came back from a tick before one of them ran.
+    ordered: usize,
 }
 
 impl Model for Queues {
@@ -33,12 +35,13 @@ impl Model for Queues {
       spare = vec_capacity q.tasks - vec_len q.tasks;
     } };
 
-    ghost invariant = { λ q. IsQueue q.tasks.items };
+    ghost invariant = { λ q. IsQueue q.tasks.items q.ordered };
 }
 
 impl Queues {
     ghost use Rattle.fol_queues.specs.Waiting.{Waiting, dated, task_in, len_of, is_due, due_count, lies_listed, count_listed, raised, IsRaisable, option_filter};
     ghost use Rattle.fol_queues.specs.Distinct.{Distinct};
+    ghost use Rattle.fol_queues.specs.Again.{AreNew, queued_again};
 
     /// No task. Takes no memory.
     pub fn new(alloc: Global) -> Queues
@@ -47,6 +50,7 @@ impl Queues {
     {
         Queues {
             tasks: Vec::new(alloc),
+            ordered: 0,
         }
     }
 
@@ -78,14 +82,29 @@ impl Queues {
         ensures spare { self.old.spare ≤ self.new.spare + 1 }
     {
         let deadline = begun + delay as u64;
-        heap::push(&mut self.tasks, Dated { task, deadline });
+        let dated = Dated { task, deadline };
+        if self.ordered == self.tasks.len() {
+            heap::push(&mut self.tasks, dated);
+            self.ordered += 1;
+        } else {
+            self.tasks.push_reserved(dated);
+        }
     }
 
     /// How many tasks have their deadline at `now` or before.
     pub fn count_due(&self, now: u64) -> u64
         ensures { result ≡ due_count now self.now }
     {
-        due::count_due(&self.tasks, now)
+        let (heap, others) = self.tasks.split_at(self.ordered);
+        due::count_due(heap, now) + walks::count_due(others, now)
+    }
+
+    /// Whether a task has its deadline at `now` or before. Looks at the first task and at those that came back.
+    pub fn is_any_due(&self, now: u64) -> bool
+        ensures { result ≡ nat_lt 0 (due_count now self.now) }
+    {
+        let (heap, others) = self.tasks.split_at(self.ordered);
+        walks::count_due(others, now) > 0 || due::is_any_due(heap, now)
     }
 
     /// Moves the tasks whose deadline is at most `now` into `out`, in order of number. Takes no memory, and the room that they had is
@@ -102,8 +121,26 @@ impl Queues {
         ensures count { length out.new.items ≡ due_count now self.old }
         ensures spare { self.old.spare + length out.new.items ≤ self.new.spare }
     {
-        walks::move_due(&mut self.tasks, now, out);
+        walks::move_due(&mut self.tasks, self.ordered, now, out);
+        self.ordered = self.tasks.len();
         out.sort_unstable_by_key(|task| task.number);
+    }
+
+    /// Lets the due tasks of a tick of which none ran wait for the next tick of the region again, which has begun `begun` ticks then. Returns
+    /// their list, emptied. Takes no memory, and sorts nothing: they mostly go out again as they came.
+    pub fn give_back(&mut self, due: Vec<Task>, begun: u64) -> Vec<Task>
+        requires spare { length due.items ≤ self.old.spare }
+        requires begun { begun ≤ 2 ^ 62 }
+        requires order { Rising due.items }
+        requires fresh { AreNew due.items (dated self.old) }
+        ensures tasks { dated self.new ≡ queued_again (begun + 1) due.items (dated self.old) }
+        ensures len { len_of self.new ≡ len_of self.old + length due.items }
+        ensures spare { self.old.spare ≤ self.new.spare + length due.items }
+        ensures empty { result.items ≡ [] }
+    {
+        let mut due = due;
+        walks::put_back(&mut self.tasks, &mut due, begun + 1);
+        due
     }
 
     /// Moves the tasks on the chunks into another queue, each with its deadline moved by the offset. The chunks stand by z, and then
@@ -131,6 +168,9 @@ impl Queues {
         let list = ChunkList::of(chunks);
         walks::move_listed(&mut self.tasks, &list, &mut into.tasks, offset);
         heap::build(&mut self.tasks);
+        self.ordered = self.tasks.len();
+        heap::restore(&mut into.tasks, into.ordered);
+        into.ordered = into.tasks.len();
     }
 
     /// How many tasks are on the chunks, which stand by z, and then by x.

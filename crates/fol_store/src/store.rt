@@ -1,6 +1,6 @@
 //! The store.
 
-ghost use Rattle.std.specs.Prelude.{◌≡◌, ◌+◌, ◌≤◌, ◌<◌, ◌^◌, not, ◌||◌, true, false, ℕ, IsTrue, IsNone, IfOk, OnOk, OnErr, All};
+ghost use Rattle.std.specs.Prelude.{nat_lt, ◌≡◌, ◌+◌, ◌≤◌, ◌<◌, ◌^◌, not, ◌||◌, true, false, ℕ, IsTrue, IsNone, IfOk, OnOk, OnErr, All};
 ghost use Rattle.std.specs.Option.{option_or, is_none, ForSome};
 ghost use Rattle.std.specs.List.Sorted.{IsStrictlySortedBy};
 ghost use Rattle.std.specs.Ordering.{nat_cmp};
@@ -160,6 +160,15 @@ impl Store {
     {
         let slot = self.bags.slot(id as usize);
         slot.body.queues.count_due(slot.body.tick + 1)
+    }
+
+    /// Whether a task of a bag is due in the next tick of its region. Costs the same however many there are.
+    pub fn is_any_due(&self, id: u64) -> bool
+        requires { (bag_of self.now id).here ≡ true }
+        ensures { result ≡ nat_lt 0 (due_of self.now id) }
+    {
+        let slot = self.bags.slot(id as usize);
+        slot.body.queues.is_any_due(slot.body.tick + 1)
     }
 
     /// Says that the bag of a region has to be gathered anew, since other chunks are loaded.

@@ -23,7 +23,7 @@ impl Store {
             → moved rec (within (is_recorded (bag_of self.now id).chunks) (flat_of self.now))
             ≡ within (is_recorded (bag_of self.now id).chunks) (flat_of self.now) }
     {
-        self.is_whole(id) && self.count_due(id) == 0 && self.is_still(id)
+        self.is_whole(id) && !self.is_any_due(id) && self.is_still(id)
     }
 
     /// Whether no entity in the bag of a region has a speed.

@@ -3,10 +3,15 @@ use Rattle.std.proofs.lemmas.List.Sorted.{IsNonDecreasingBy-from_sort_by_key}
 use Rattle.fol_model.specs.declared.tasks.Task.{Task}
 use Rattle.fol_queues.specs.Waiting.{is_due}
 use Rattle.fol_queues.proofs.Queued.{left_of, left_distinct, takes, takes_in_order, takes_count, takes_len}
+use Rattle.fol_queues.proofs.Turns.{heap_to}
 use Rattle.fol_queues.proofs.queues.Queues.take_due.Goals as goal
 
 pub invariant_of-self : goal.invariant_of-self
-invariant_of-self c = record { distinct = left_distinct _ (is_due c.args.now) _ _ c.move_due.ensures.parted.parted c.self.invariant.distinct; order = c.move_due.ensures.order }
+invariant_of-self c = record {
+  distinct = left_distinct _ (is_due c.args.now) _ _ c.move_due.ensures.parted.parted c.self.invariant.distinct;
+  heap = heap_to _ c.move_due.new.tasks.items (omega arith) c.move_due.ensures.order;
+  bound = omega arith;
+}
 
 pub returns-clause-left : goal.returns-clause-left
 returns-clause-left c = rw (← c.self.view_is) (left_of _ (is_due c.args.now) _ _ c.move_due.ensures.parted.parted c.self.invariant.distinct)
