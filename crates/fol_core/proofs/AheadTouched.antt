@@ -8,6 +8,7 @@ use Rattle.fol_model.specs.declared.places.ChunkPos.{ChunkPos}
 use Rattle.fol_model.specs.declared.regions.State.{State}
 use Rattle.fol_model.specs.declared.regions.State.TheVariants.{Dead}
 use Rattle.fol_model.specs.Add.{is_full, is_near, wanted}
+use Rattle.fol_model.specs.Geometry.{section_of}
 use Rattle.fol_model.specs.GridState.{GridState, is_ready}
 use Rattle.fol_model.specs.Run.{world}
 use Rattle.fol_model.specs.Universe.{numbers_below}
@@ -81,3 +82,7 @@ module _ (o : Opening) (h : List Entry) (p : ℕ → Bool) (t : Tables) (s : Sta
   pub holds_now : (c : ChunkPos) → (grid_state t.regions).holds c ≡ (world o h).grid.holds c
   unfolding ahead_of
   holds_now c = ap (λ (g : GridState). g.holds c) s.stands.fits.regions ∙ ap (λ (v : World). v.grid.holds c) s.runs.ahead.is.same
+
+  pub owner_now : (c : ChunkPos) → (grid_state t.regions).owner (section_of (grid_state t.regions).grid c) ≡ (world o h).grid.owner (section_of (world o h).grid.grid c)
+  unfolding ahead_of
+  owner_now c = ap (λ (g : GridState). g.owner (section_of g.grid c)) s.stands.fits.regions ∙ ap (λ (v : World). v.grid.owner (section_of v.grid.grid c)) s.runs.ahead.is.same

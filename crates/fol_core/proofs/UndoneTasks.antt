@@ -1,5 +1,5 @@
 -- The tasks of a tick that comes back before anything of it ran.
-use Rattle.std.proofs.Common.{◌≡◌, ◌≢◌, ℕ, ◌+◌, ◌-◌, ◌≤◌, ◌<◌, refl, sym, ◌∙◌, ap, arith, Bool, true, false, inl, inr, ◌||◌, List, [], ◌∷◌, ◌++◌}
+use Rattle.std.proofs.Common.{◌≡◌, ◌≢◌, ℕ, ◌+◌, ◌-◌, ◌≤◌, ◌<◌, refl, sym, ◌∙◌, ap, arith, Bool, true, false, inl, inr, ◌||◌, List}
 use Rattle.std.specs.Prelude.{nat_eq, nat_le, if◌then◌else◌, IsNone, IsTrue, Option, Some, None}
 use Rattle.std.specs.Option.{is_none, option_map, option_or}
 use Rattle.std.proofs.lemmas.Bool.{cases_Bool, eqb-true, eqb-false, eq-eqb, ne_eqb, leb-true, leb-false, and_parts}
@@ -8,68 +8,29 @@ use Rattle.fol_model.specs.declared.tasks.Task.{Task}
 use Rattle.fol_model.specs.declared.places.ChunkPos.{ChunkPos}
 use Rattle.fol_model.specs.Geometry.{section_of}
 use Rattle.fol_model.specs.GridState.{GridState}
-use Rattle.fol_model.specs.ActionStep.{at_id}
-use Rattle.fol_model.specs.FlatTick.{AllAbove, Rising}
 use Rattle.fol_model.specs.Job.{Job, queued, taken_task}
 use Rattle.fol_model.specs.QueuedTask.{counted_down, is_queued_in, queued_in}
 use Rattle.fol_early_laws.specs.EarlyBegins.{down_all}
 use Rattle.fol_queues.specs.declared.dated.Dated.{Dated}
 use Rattle.fol_queues.specs.Waiting.{job_of, task_in}
 use Rattle.fol_world.specs.Hands.{at_rest, owner_of, went}
-use Rattle.fol_core.specs.Undone.{AreNew, queued_again}
+use Rattle.fol_queues.specs.Again.{AreNew, dated_at}
 use Rattle.fol_core.proofs.BegunHands.{listed}
 
--- ---- tasks that are queued again, the last one first
-
-pub again_last : (deadline : ℕ) (xs : List Task) (t : Task) (f : ℕ → Option Dated) → queued_again deadline (xs ++ t ∷ []) f ≡ queued_again deadline xs (at_id f t.number (Some (record { task = t; deadline = deadline })))
-again_last deadline [] t f = refl
-again_last deadline (x ∷ xs) t f = ap (λ (k : ℕ → Option Dated). at_id k x.number (Some (record { task = x; deadline = deadline }))) (again_last deadline xs t f)
-
-above_front : (n : ℕ) (xs : List Task) (t : Task) → AllAbove n (xs ++ t ∷ []) → AllAbove n xs
-above_front n [] t a = tt
-above_front n (x ∷ xs) t a = (a.0, above_front n xs t a.1)
-
-above_last : (n : ℕ) (xs : List Task) (t : Task) → AllAbove n (xs ++ t ∷ []) → n < t.number
-above_last n [] t a = a.0
-above_last n (x ∷ xs) t a = above_last n xs t a.1
-
-pub rising_front : (xs : List Task) (t : Task) → Rising (xs ++ t ∷ []) → Rising xs
-rising_front [] t r = tt
-rising_front (x ∷ xs) t r = (above_front x.number xs t r.0, rising_front xs t r.1)
-
-pub new_last : (xs : List Task) (t : Task) (f : ℕ → Option Dated) → AreNew (xs ++ t ∷ []) f → IsNone (f t.number)
-new_last [] t f a = a.0
-new_last (x ∷ xs) t f a = new_last xs t f a.1
-
-pub new_front : (xs : List Task) (t : Task) (d : Dated) (f : ℕ → Option Dated) → Rising (xs ++ t ∷ []) → AreNew (xs ++ t ∷ []) f → AreNew xs (at_id f t.number (Some d))
-new_front [] t d f r a = tt
-new_front (x ∷ xs) t d f r a =
-    let l = above_last x.number xs t r.0 in
-    let z : nat_eq t.number x.number ≡ false = ne_eqb t.number x.number (λ e. omega arith) in
-    (rw z a.0, new_front xs t d f r.1 a.1)
+-- ---- tasks that are queued again
 
 -- what stands under a number then
 abbrev pub again_at : ℕ → Option Task → Option Dated → Option Dated
-again_at deadline None x = x
-again_at deadline (Some t) x = Some (record { task = t; deadline = deadline })
-
-pub again_is : (deadline : ℕ) (ts : List Task) (f : ℕ → Option Dated) (n : ℕ) → queued_again deadline ts f n ≡ again_at deadline (task_in ts n) (f n)
-again_is deadline [] f n = refl
-again_is deadline (t ∷ ts) f n = elim (cases_Bool (nat_eq t.number n)) [
-  | inl e ↦ rw e refl
-  | inr e ↦ rw e (again_is deadline ts f n)
-]
+again_at deadline t x = option_or (option_map (dated_at deadline) t) x
 
 -- tasks whose numbers are free
 pub all_new : (ts : List Task) (f : ℕ → Option Dated) → ((n : ℕ) (t : Task) → task_in ts n ≡ Some t → IsNone (f n)) → AreNew ts f
-all_new [] f h = tt
-all_new (t ∷ ts) f h = (
-  h t.number t (let z : nat_eq t.number t.number ≡ true = eq-eqb t.number t.number refl in rw z refl),
-  all_new ts f (λ n u e. elim (cases_Bool (nat_eq t.number n)) [
-    | inl k ↦ h n t (rw k refl)
-    | inr k ↦ h n u (rw k e)
-  ]),
-)
+all_new ts f h = λ n. free (f n) (task_in ts n) (h n)
+  where
+    free : (x : Option Dated) (o : Option Task) → ((t : Task) → o ≡ Some t → IsNone x) → IsTrue (is_none x || is_none o)
+    free None o h = refl
+    free (Some d) None h = refl
+    free (Some d) (Some t) h = let none : IsNone (Some d) = h t refl in absurd (cc)
 
 -- ---- the task of a tick under a number
 

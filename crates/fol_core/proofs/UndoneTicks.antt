@@ -57,7 +57,8 @@ use Rattle.fol_world.specs.Released.{CanComeBack, IsReturned}
 use Rattle.fol_core.specs.Room.{EntryRoom, HasRoom, room_of}
 use Rattle.fol_world.specs.Stands.{Fits, IsCourse, Stands}
 use Rattle.fol_core.specs.Ticks.{IsTick}
-use Rattle.fol_core.specs.Undone.{AreNew, IsRoomAgain, Undoes, rests_again}
+use Rattle.fol_queues.specs.Again.{AreNew}
+use Rattle.fol_core.specs.Undone.{IsRoomAgain, Undoes, rests_again}
 use Rattle.fol_core.proofs.Ahead.{at_again, good_now, state_ahead}
 use Rattle.fol_core.proofs.AheadRuns.{good_at}
 use Rattle.fol_world.proofs.BackTasks.{apart, chunk_in, in_time}
@@ -72,7 +73,7 @@ use Rattle.fol_world.proofs.JoinedBags.{behind, in_front}
 use Rattle.fol_world.proofs.KeptUp.{keeps_exact}
 use Rattle.fol_core.proofs.OwedMost.{owed_most}
 use Rattle.fol_world.proofs.Unheld.{none_on, none_rests}
-use Rattle.fol_core.proofs.UndoneTasks.{again_at, again_is, again_job, all_new, job_back, jobs_apart, one_listed, one_number, taken_apart, taken_one}
+use Rattle.fol_core.proofs.UndoneTasks.{again_at, again_job, all_new, job_back, jobs_apart, one_listed, one_number, taken_apart, taken_one}
 use Rattle.fol_world.proofs.UnsettledBags.{have_bags}
 
 none_dated : (k : ℕ) (x : Option Dated) → option_map (job_of k) x ≡ None → IsNone x
@@ -265,7 +266,7 @@ module _ (o : Opening) (h : List Entry) (p : ℕ → Bool) (t : Tables) (s : Sta
 
   again : (n : ℕ) → rests_again tick n ≡ queued_in w.grid id (w.jobs n)
   again n =
-      ap (option_map (job_of tick.body.tick)) (again_is (tick.body.tick + 1) tick.due (dated tick.body.queues) n ∙ ap (λ (u : Option Task). again_at (tick.body.tick + 1) u (dated tick.body.queues n)) (due_at n))
+      ap (option_map (job_of tick.body.tick)) (ap (λ (u : Option Task). again_at (tick.body.tick + 1) u (dated tick.body.queues n)) (due_at n))
       ∙ again_job w.grid id positive n tick.body.tick (w.jobs n) (dated tick.body.queues n) (λ j e z. (good.sound.each n j e).rest_low z) (other_taker n) (queue n)
 
   pub counter_most : tick.body.tick ≤ 2 ^ 62

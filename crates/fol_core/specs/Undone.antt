@@ -1,5 +1,5 @@
 -- A tick comes back before anything of it ran.
-use Rattle.std.specs.Prelude.{ℕ, ◌≡◌, ◌+◌, ◌≤◌, ◌<◌, Bool, false, true, ◌||◌, List, [], ◌∷◌, length, Option, Some, IsNone, vec_len, vec_capacity}
+use Rattle.std.specs.Prelude.{ℕ, ◌≡◌, ◌+◌, ◌≤◌, ◌<◌, Bool, false, true, ◌||◌, List, [], length, Option, vec_len, vec_capacity}
 use Rattle.std.specs.Global.{Vec}
 use Rattle.std.specs.Option.{option_map, option_or}
 use Rattle.fol_model.specs.declared.openings.Opening.{Opening}
@@ -9,7 +9,7 @@ use Rattle.fol_model.specs.ActionStep.{at_id}
 use Rattle.fol_model.specs.Job.{Job}
 use Rattle.fol_model.specs.Run.{world}
 use Rattle.fol_chunks.specs.Contents.{flat_of as contents_of, joined}
-use Rattle.fol_queues.specs.declared.dated.Dated.{Dated}
+use Rattle.fol_queues.specs.Again.{queued_again}
 use Rattle.fol_queues.specs.Waiting.{dated, job_of}
 use Rattle.fol_data.specs.declared.tick.Tick.{Tick}
 use Rattle.fol_regions.specs.Answers.{unbegun}
@@ -23,16 +23,6 @@ use Rattle.fol_world.specs.Agenda.{GrowsBy, IsAgenda, IsTop}
 use Rattle.fol_core.specs.Ahead.{StandsAhead}
 use Rattle.fol_world.specs.Released.{IsReturned}
 use Rattle.fol_core.specs.Ticks.{IsTick}
-
--- these tasks wait again, with this deadline
-abbrev pub queued_again : ℕ → List Task → (ℕ → Option Dated) → ℕ → Option Dated
-queued_again deadline [] f = f
-queued_again deadline (t ∷ ts) f = at_id (queued_again deadline ts f) t.number (Some (record { task = t; deadline = deadline }))
-
--- none of these tasks waits
-abbrev pub AreNew : List Task → (ℕ → Option Dated) → Type 0
-AreNew [] f = Unit {0}
-AreNew (t ∷ ts) f = IsNone (f t.number) × AreNew ts f
 
 -- the tasks of a tick of which none ran, with the rests that they had before its Begin
 abbrev pub rests_again : Tick → ℕ → Option Job

@@ -12,8 +12,9 @@
 //! 4. `Core::release` takes a tick back that `fol_tick::run_tick` has run. `Core::end` does the same where the tick stands.
 //!    `Core::reserve_release` takes the memory beforehand, so that neither can fail.
 //! 5. `Core::prepare` gives the tick of a region before its Begin is recorded; `Core::learn` records that Begin, or `Core::withdraw` takes
-//!    the tick back. In between no call may touch the region. `Core::touched` says what an event on a chunk may touch, and where a hold is
-//!    on the chunk `Core::touched_alone` says it with no list.
+//!    the tick back. `Core::prepare_in` and `Core::withdraw_in` do so where a tick stands, and `Core::reserve_with` where a list does. In
+//!    between no call may touch the region. `Core::touched` says what an event on a chunk may touch, and where a hold is on the chunk
+//!    `Core::touched_alone` says it with no list.
 //! 6. `Core::close_phase` and `Core::finish` end a phase and the history, and `Core::closing` gives all that stands at the end.
 #![tactic(auto)]
 

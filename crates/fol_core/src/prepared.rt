@@ -19,7 +19,7 @@ use crate::undone::undo;
 use fol_data::Tick;
 use fol_model::{ChunkPos, Event, PackedEntry, SectionPos, State, Task, section_of};
 use fol_regions::Regions;
-use fol_world::begins::{hand_out, tick_of};
+use fol_world::begins::{blank, hand_out};
 use fol_world::tables::Tables;
 use std::alloc::{AllocError, Global};
 
@@ -45,6 +45,8 @@ impl Core {
     pub fn touched_alone(&self, c: ChunkPos) -> Option<u64>
         ensures ready { PreparedAreReady self.now }
         ensures held { IsSome result ↔ (0 < (world_of self.now).grid.holds c) }
+        ensures owner { IfSome result (λ id. id ≡ (world_of self.now).grid.owner
+            (section_around (world_of self.now).grid.grid c)) }
         ensures alone { IfSome result (λ id. (r : ℕ) → may_touch (world_of self.now) c r
             ≡ (is_ready ((world_of self.now).grid.state r) && nat_eq id r)) }
     {
@@ -84,12 +86,27 @@ impl Core {
         ensures room { length result.due ≤ result.body.queues.spare }
         ensures prepared { Prepares self.old self.new id }
     {
+        let mut tick = blank(self.alloc);
+        self.prepare_in(id, &mut tick);
+        tick
+    }
+
+    /// The same in the place of this tick, whatever was in it. An empty list for wishes there keeps its memory.
+    pub fn prepare_in(&mut self, id: u64, tick: &mut Tick)
+        requires on { is_over (world_of self.old) ≡ false }
+        requires free { is_free self.old id ≡ true }
+        requires ready { IsReadyToBegin self.old id }
+        ensures tick { IsTick (world_of self.old) (length self.old.history) 0 id tick.new }
+        ensures room { length tick.new.due ≤ tick.new.body.queues.spare }
+        ensures prepared { Prepares self.old self.new id }
+    {
         let begun = self.history.as_slice().len() as u64;
         let room = due_room(self.room.take());
-        let taken = hand_out(&mut self.tables, id, room);
+        hand_out(self.alloc, &mut self.tables, id, room, tick);
+        tick.worker = 0;
+        tick.begun = begun;
         self.tables.course.size += 1;
         self.marks.add(id);
-        tick_of(self.alloc, 0, id, begun, taken, Vec::new(self.alloc))
     }
 
     /// Records the Begin of a prepared region, whose tick is out already, by this worker. The region is prepared no more. Its tick counts as
@@ -114,9 +131,21 @@ impl Core {
         ensures withdrawn { Withdraws self.old self.new tick.region }
         ensures ready { IsTrue result → IsReadyToBegin self.new tick.region }
     {
+        let mut tick = tick;
+        self.withdraw_in(&mut tick)
+    }
+
+    /// The same where the tick stands. Nothing is left in it that is worth keeping.
+    pub fn withdraw_in(&mut self, tick: &mut Tick) -> bool
+        requires prepared { is_prepared self.old tick.old.region ≡ true }
+        requires tick { IsTick (world_of self.old) tick.old.begun 0 tick.old.region tick.old }
+        requires room { length tick.old.due ≤ tick.old.body.queues.spare }
+        ensures withdrawn { Withdraws self.old self.new tick.old.region }
+        ensures ready { IsTrue result → IsReadyToBegin self.new tick.old.region }
+    {
         let id = tick.region;
         self.marks.remove(id);
-        let due = undo(&mut self.tables, tick);
+        let due = undo(self.alloc, &mut self.tables, tick);
         self.tables.course.size -= 1;
         self.room = room_again(&self.tables, id, due);
         self.room.is_some()
@@ -148,6 +177,8 @@ fn list_touched(
 fn owner_if_held(regions: &Regions, home: SectionPos, c: ChunkPos) -> Option<u64>
     requires home { home ≡ section_around (grid_state regions.now).grid c }
     ensures held { IsSome result ↔ (0 < (grid_state regions.now).holds c) }
+    ensures owner { IfSome result (λ id. id ≡ (grid_state regions.now).owner
+        (section_around (grid_state regions.now).grid c)) }
     ensures given { IfSome result (λ id. id < (grid_state regions.now).next) }
     ensures alone { IfSome result (λ id. (r : ℕ) → is_touched (grid_state regions.now) c r
         ≡ nat_eq id r) }

@@ -71,8 +71,8 @@ impl Core {
     }
 
     /// Ends a tick that was given out and that is finished, as `release` does, but in its place: where that is recorded, nothing is left
-    /// in the tick that is worth keeping. It takes memory, but not where the tick is ready to be released, by `reserve_release`. If memory
-    /// runs out, the tick is the same, and nothing has changed, but a readiness may be lost.
+    /// in the tick that is worth keeping but the memory of its lists. It takes memory, but not where the tick is ready to be released, by
+    /// `reserve_release`. If memory runs out, the tick is the same, and nothing has changed, but a readiness may be lost.
     pub fn end(&mut self, alloc: Global, tick: &mut Tick) -> Result<u64, AllocError>
         requires out { IsOut self.old tick.old }
         requires spares { Spares self.old (wishes_touch

@@ -9,7 +9,7 @@ use crate::BeginAnswer;
 use crate::entries::record;
 use crate::machine::{Core, Room};
 use fol_model::{Event, State, Task};
-use fol_world::begins::{due_list, hand_out, tick_of};
+use fol_world::begins::{blank, due_list, hand_out};
 use fol_world::tables::grow_history;
 use std::alloc::{AllocError, Global};
 
@@ -21,11 +21,31 @@ impl Core {
         ensures ready { OnOk result (IsReadyToBegin self.new id) }
         ensures same { Stays self.old self.new }
     {
+        self.reserve_with(alloc, id, Vec::new(alloc))
+    }
+
+    /// The same with this list for the due tasks, whatever is in it: where it has room for them, none is taken for them.
+    pub fn reserve_with(
+        &mut self,
+        alloc: Global,
+        id: u64,
+        list: Vec<Task>,
+    ) -> Result<(), AllocError>
+        requires given { IsGiven (world_of self.old) id }
+        ensures ready { OnOk result (IsReadyToBegin self.new id) }
+        ensures same { Stays self.old self.new }
+    {
         self.room = None;
         grow_history(&mut self.history, &self.tables.course, self.marks.count())?;
         self.marks.make_room(id)?;
         self.tables.agenda.reserve(1 + self.marks.count() as usize)?;
-        let due = due_list(alloc, &self.tables.regions, &mut self.tables.store, id)?;
+        let due = due_list(
+            alloc,
+            &self.tables.regions,
+            &mut self.tables.store,
+            id,
+            list,
+        )?;
         self.room = Some(Room::Begin { id, due });
         Ok(())
     }
@@ -51,11 +71,13 @@ impl Core {
         }
         let begun = self.history.as_slice().len() as u64;
         let room = due_room(self.room.take());
-        let taken = hand_out(&mut self.tables, id, room);
+        let mut tick = blank(self.alloc);
+        hand_out(self.alloc, &mut self.tables, id, room, &mut tick);
+        tick.worker = worker;
+        tick.begun = begun;
         let event = Event::Begin { worker, region: id };
         record(&mut self.history, &mut self.tables.course, by, event);
-        let wishes = Vec::new(self.alloc);
-        BeginAnswer::Got(tick_of(self.alloc, worker, id, begun, taken, wishes))
+        BeginAnswer::Got(tick)
     }
 }
 

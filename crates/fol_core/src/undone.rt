@@ -3,36 +3,30 @@
 ghost use Rattle.std.specs.Prelude.{◌≡◌, ◌+◌, ◌≤◌, ◌<◌, ◌^◌, [], length, vec_len, vec_capacity};
 ghost use Rattle.fol_model.specs.FlatTick.{Rising};
 ghost use Rattle.fol_queues.specs.Waiting.{dated};
-ghost use Rattle.fol_core.specs.Undone.{AreNew, MayBeUndone, Undoes, queued_again};
+ghost use Rattle.fol_core.specs.Undone.{MayBeUndone, Undoes};
 
-use fol_data::Tick;
-use fol_model::{State, Task};
+use fol_data::{RegionData, Tick};
+use fol_model::{Sequence, State, Task};
 use fol_queues::Queues;
 use fol_world::agenda::add;
 use fol_world::ends::bring_back;
 use fol_world::tables::Tables;
+use std::alloc::Global;
+use std::mem;
 
 /// What a tick has, of which nothing ran, lies in the store again as it lay there before its Begin. Its region is Ready and owes the tick.
 /// Returns the list of the due tasks, emptied. Takes no memory.
-pub(crate) fn undo(tables: &mut Tables, tick: Tick) -> Vec<Task>
-    requires { MayBeUndone tables.old tick }
-    ensures undone { Undoes tables.old tables.new tick }
+pub(crate) fn undo(alloc: Global, tables: &mut Tables, tick: &mut Tick) -> Vec<Task>
+    requires { MayBeUndone tables.old tick.old }
+    ensures undone { Undoes tables.old tables.new tick.old }
     ensures empty { result.items ≡ [] }
 {
-    let Tick {
-        worker: _,
-        region,
-        begun: _,
-        chunks,
-        due,
-        mut body,
-        log: _,
-        next: _,
-        moved: _,
-    } = tick;
-    let mut due = due.into_vec();
+    let region = tick.region;
+    let chunks = mem::replace(&mut tick.chunks, Sequence::new(alloc));
+    let due = mem::replace(&mut tick.due, Sequence::new(alloc));
+    let mut body = mem::replace(&mut tick.body, RegionData::new(alloc));
     body.owed += 1;
-    queue_again(&mut body.queues, &mut due, body.tick);
+    let due = body.queues.give_back(due.into_vec(), body.tick);
     bring_back(tables, region, chunks.into_vec(), body);
     tables.regions.unbegin(region);
     add(
@@ -43,19 +37,4 @@ pub(crate) fn undo(tables: &mut Tables, tick: Tick) -> Vec<Task>
         State::Ready,
     );
     due
-}
-
-/// Takes the tasks out of a list, and lets each wait for the next tick of the region, which has begun so many.
-fn queue_again(queues: &mut Queues, due: &mut Vec<Task>, begun: u64)
-    requires spare { length due.old.items ≤ queues.old.spare }
-    requires few { begun ≤ 2 ^ 62 }
-    requires order { Rising due.old.items }
-    requires fresh { AreNew due.old.items (dated queues.old) }
-    ensures tasks { dated queues.new
-        ≡ queued_again (begun + 1) due.old.items (dated queues.old) }
-    ensures empty { due.new.items ≡ [] }
-{
-    while let Some(task) = due.pop() {
-        queues.accept(task, 1, begun);
-    }
 }

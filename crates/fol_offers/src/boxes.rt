@@ -1,14 +1,13 @@
 //! Boxes for ticks.
 
-ghost use Rattle.std.specs.Prelude.{◌≡◌};
-
-use fol_data::{RegionData, Tick};
-use fol_model::{Sequence, TickLog};
+use fol_data::Tick;
+use fol_model::{Sequence, Task};
+use fol_world::begins::blank;
 use std::alloc::{AllocError, Global};
 use std::mem;
 
-/// Boxes whose ticks are over. Each tick that is offered goes into one of them, so memory is taken only where more ticks are out at once
-/// than boxes were made so far.
+/// Boxes whose ticks are over. Each tick that is offered is made in one of them, with the lists of the tick that ended there. So memory is
+/// taken only where more ticks are out at once than boxes were made so far, or where such a list is too short.
 #[derive(Drop)]
 pub(crate) struct Boxes {
     spare: Vec<Box<Tick>>,
@@ -35,6 +34,14 @@ impl Boxes {
         }
     }
 
+    /// The list for due tasks of the box that comes next, where there is one, or else a list without memory.
+    pub(crate) fn take_list(&mut self) -> Vec<Task> {
+        match self.spare.last_mut() {
+            Some(boxed) => mem::replace(&mut boxed.due, Sequence::new(self.alloc)).into_vec(),
+            None => Vec::new(self.alloc),
+        }
+    }
+
     /// Makes a box, where none is there, with room to keep it.
     fn make(&mut self) -> Result<Box<Tick>, AllocError> {
         let made = self.made.saturating_add(1);
@@ -49,42 +56,5 @@ impl Boxes {
         if self.spare.len() < self.spare.capacity() {
             self.spare.push_reserved(boxed);
         }
-    }
-
-    /// Gives the tick of a box, which is kept. Takes no memory.
-    pub(crate) fn unbox(&mut self, boxed: Box<Tick>) -> Tick
-        ensures { result ≡ boxed.value }
-    {
-        let mut boxed = boxed;
-        let tick = mem::replace(&mut *boxed, blank(self.alloc));
-        self.put(boxed);
-        tick
-    }
-}
-
-/// Puts a tick into a box, in the place of the one there.
-pub(crate) fn fill(boxed: Box<Tick>, tick: Tick) -> Box<Tick>
-    ensures { result.value ≡ tick }
-{
-    let mut boxed = boxed;
-    drop(mem::replace(&mut *boxed, tick));
-    boxed
-}
-
-/// A tick that has nothing. Takes no memory.
-fn blank(alloc: Global) -> Tick {
-    Tick {
-        worker: 0,
-        region: 0,
-        begun: 0,
-        chunks: Sequence::new(alloc),
-        due: Sequence::new(alloc),
-        body: RegionData::new(alloc),
-        log: TickLog {
-            ran: Sequence::new(alloc),
-            wishes: Sequence::new(alloc),
-        },
-        next: 0,
-        moved: false,
     }
 }

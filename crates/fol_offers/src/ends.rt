@@ -18,7 +18,7 @@ ghost use Rattle.fol_offers.specs.Shown.{NoneFree};
 use crate::offer::Offer;
 use crate::offers::Offers;
 use fol_data::Tick;
-use fol_model::Wish;
+use fol_model::{ChunkPos, Wish};
 use fol_slots::{Slots, WorkerSeat};
 use std::alloc::{AllocError, Global};
 
@@ -108,7 +108,8 @@ impl Offers {
         }
     }
 
-    /// Calls back what these wishes may touch. Fails only when out of memory; then what the first of them may touch was called back.
+    /// Calls back what these wishes may touch. A wish for the chunk of the one before it is passed over: what that chunk may touch came back, and
+    /// nothing was offered since. Fails only when out of memory; then what the first of them may touch was called back.
     fn clear_wishes(
         &mut self,
         slots: &Slots<Offer>,
@@ -119,8 +120,13 @@ impl Offers {
         requires in_range { All (λ x. IsTrue (is_chunk x.chunk)) wishes.now }
         ensures { ClearsWishes self.old self.new by wishes.now result }
     {
+        let mut cleared: Option<ChunkPos> = None;
         for wish in wishes {
+            if cleared == Some(wish.chunk) {
+                continue;
+            }
             self.clear(slots, by, wish.chunk)?;
+            cleared = Some(wish.chunk);
         }
         Ok(())
     }

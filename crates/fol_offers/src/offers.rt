@@ -14,7 +14,7 @@ ghost use Rattle.fol_offers.specs.Offered.{nothing};
 ghost use Rattle.fol_offers.specs.Shown.{NoneFree, OffersMore, OffersNext};
 ghost use Rattle.fol_offers.specs.Starts.{AreNewSlots, NoneTicks};
 
-use crate::boxes::{Boxes, fill};
+use crate::boxes::Boxes;
 use crate::offer::Offer;
 use crate::places::Places;
 use fol_core::Core;
@@ -207,12 +207,13 @@ impl Offers {
         ensures refused { OnErr result (Stays self.old.core self.new.core) }
     {
         let _entries = self.core.history();
-        self.core.reserve(alloc, region)?;
-        let boxed = self.boxes.take()?;
+        let list = self.boxes.take_list();
+        self.core.reserve_with(alloc, region, list)?;
+        let mut boxed = self.boxes.take()?;
         match self.places.put(region) {
             Ok(i) => {
-                let tick = self.core.prepare(region);
-                let offer = Offer::of(fill(boxed, tick));
+                self.core.prepare_in(region, &mut *boxed);
+                let offer = Offer::of(boxed);
                 let _nothing = slots.body(&mut self.keeper, i, offer);
                 slots.offer(&mut self.keeper, i);
                 Ok(())

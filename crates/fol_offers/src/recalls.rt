@@ -33,10 +33,11 @@ impl Offers {
         };
         match slots.try_keep(&mut self.keeper, i) {
             Keep::Kept => {
-                let boxed = slots
+                let mut boxed = slots
                     .body(&mut self.keeper, i, Offer::nothing())
                     .into_tick();
-                let _is_ready = self.core.withdraw(self.boxes.unbox(boxed));
+                let _is_ready = self.core.withdraw_in(&mut *boxed);
+                self.boxes.put(boxed);
                 self.places.clear(i);
             }
             Keep::Busy(worker) => self.core.learn(by, worker, region),

@@ -21,63 +21,36 @@ use crate::agenda::{owes, tidy_without};
 use crate::bags::list_chunks;
 use crate::tables::Tables;
 use fol_data::{RegionData, Tick};
-use fol_model::{ChunkPos, Sequence, Task, TickLog, Wish};
+use fol_model::{Sequence, Task, TickLog};
 use fol_regions::Regions;
 use fol_store::{Store, Taken};
 use std::alloc::{AllocError, Global};
 
-/// What a Begin takes out of the store: the recorded chunks, the due tasks and the rest.
-#[derive(Drop)]
-pub struct Begun {
-    pub chunks: Vec<ChunkPos>,
-    pub due: Vec<Task>,
-    pub body: RegionData,
-}
-
-/// The tick of a Begin that took this out of the store. Its wishes go into a list that is empty.
-pub fn tick_of(
-    alloc: Global,
-    worker: u32,
-    region: u64,
-    begun: u64,
-    taken: Begun,
-    wishes: Vec<Wish>,
-) -> Tick
-    requires { wishes.items ≡ [] }
-    ensures worker { result.worker ≡ worker }
-    ensures region { result.region ≡ region }
-    ensures begun { result.begun ≡ begun }
-    ensures chunks { result.chunks ≡ taken.chunks.items }
-    ensures due { result.due ≡ taken.due.items }
-    ensures body { result.body ≡ taken.body }
-    ensures ran { result.log.ran ≡ [] }
-    ensures wishes { result.log.wishes ≡ [] }
-    ensures next { result.next ≡ 0 }
-    ensures moved { result.moved ≡ false }
-{
-    let Begun { chunks, due, body } = taken;
+/// A tick that has nothing. Takes no memory.
+pub fn blank(alloc: Global) -> Tick {
     Tick {
-        worker,
-        region,
-        begun,
-        chunks: Sequence::of(chunks),
-        due: Sequence::of(due),
-        body,
+        worker: 0,
+        region: 0,
+        begun: 0,
+        chunks: Sequence::new(alloc),
+        due: Sequence::new(alloc),
+        body: RegionData::new(alloc),
         log: TickLog {
             ran: Sequence::new(alloc),
-            wishes: Sequence::of(wishes),
+            wishes: Sequence::new(alloc),
         },
         next: 0,
         moved: false,
     }
 }
 
-/// An empty list with room for the tasks that are due in the next tick of a region, where it owes one. Its bag is whole then.
+/// The list, emptied, with room for the tasks that are due in the next tick of a region, where it owes one. Its bag is whole then.
 pub fn due_list(
     alloc: Global,
     regions: &Regions,
     store: &mut Store,
     id: u64,
+    list: Vec<Task>,
 ) -> Result<Vec<Task>, AllocError>
     requires given { IsGivenIn (grid_state regions.now) id }
     requires bags { HaveBags (grid_state regions.now) (bag_of store.old) }
@@ -93,9 +66,11 @@ pub fn due_list(
         DueRoom due store.new (owes_tick (grid_state regions.now) (bag_of store.old) id) id) }
 {
     if owes(regions, store, id) {
-        owed_list(alloc, regions, store, id, Vec::new(alloc))
+        owed_list(alloc, regions, store, id, list)
     } else {
-        Ok(Vec::new(alloc))
+        let mut due = list;
+        due.clear();
+        Ok(due)
     }
 }
 
@@ -167,8 +142,9 @@ fn settle(alloc: Global, regions: &Regions, store: &mut Store, id: u64) -> Resul
     store.gather(id, &chunks)
 }
 
-/// Takes a Ready region that owes a tick out of the store, and begins its tick. `room` has room for the due tasks.
-pub fn hand_out(tables: &mut Tables, id: u64, room: Vec<Task>) -> Begun
+/// Takes a Ready region that owes a tick out of the store, and makes its tick in the place of this one, whatever was in it. The caller says
+/// who runs it and where its Begin stands. `room` has room for the due tasks. Takes no memory.
+pub fn hand_out(alloc: Global, tables: &mut Tables, id: u64, room: Vec<Task>, tick: &mut Tick)
     requires given { IsGivenIn (grid_state tables.old.regions) id }
     requires owing { owes_tick (grid_state tables.old.regions) (bag_of tables.old.store) id ≡ true }
     requires here { (bag_of tables.old.store id).here ≡ true }
@@ -179,17 +155,22 @@ pub fn hand_out(tables: &mut Tables, id: u64, room: Vec<Task>) -> Begun
         (at_id (bag_of tables.old.store) id (taken_out (bag_of tables.old.store id))) }
     requires covers { Covers tables.old.agenda.items (begin (grid_state tables.old.regions) id)
         (at_id (bag_of tables.old.store) id (taken_out (bag_of tables.old.store id))) }
-    ensures chunks { result.chunks.items ≡ (bag_of tables.old.store id).chunks }
-    ensures counter { result.body.tick ≡ (bag_of tables.old.store id).tick }
-    ensures owed { result.body.owed ≡ (bag_of tables.old.store id).owed - 1 }
-    ensures contents { contents_of result.body.chunks
+    ensures region { tick.new.region ≡ id }
+    ensures chunks { tick.new.chunks ≡ (bag_of tables.old.store id).chunks }
+    ensures counter { tick.new.body.tick ≡ (bag_of tables.old.store id).tick }
+    ensures owed { tick.new.body.owed ≡ (bag_of tables.old.store id).owed - 1 }
+    ensures contents { contents_of tick.new.body.chunks
         ≡ within (is_recorded (bag_of tables.old.store id).chunks) (flat_of tables.old.store) }
-    ensures left { queued_of result.body.queues (result.body.tick + 1) ≡ λ n.
+    ensures left { queued_of tick.new.body.queues (tick.new.body.tick + 1) ≡ λ n.
         left_job (is_recorded (bag_of tables.old.store id).chunks) (jobs_of tables.old.store n) }
-    ensures due { task_in result.due.items ≡ λ n.
+    ensures due { task_in tick.new.due ≡ λ n.
         due_task (is_recorded (bag_of tables.old.store id).chunks) n (jobs_of tables.old.store n) }
-    ensures order { Rising result.due.items }
-    ensures spare { length result.due.items ≤ result.body.queues.spare }
+    ensures order { Rising tick.new.due }
+    ensures spare { length tick.new.due ≤ tick.new.body.queues.spare }
+    ensures ran { tick.new.log.ran ≡ [] }
+    ensures wishes { tick.new.log.wishes ≡ [] }
+    ensures next_task { tick.new.next ≡ 0 }
+    ensures moved { tick.new.moved ≡ false }
     ensures flat { flat_of tables.new.store
         ≡ outside (is_recorded (bag_of tables.old.store id).chunks) (flat_of tables.old.store) }
     ensures jobs { jobs_of tables.new.store ≡ λ n.
@@ -209,11 +190,30 @@ pub fn hand_out(tables: &mut Tables, id: u64, room: Vec<Task>) -> Begun
         × (tables.new.tickets.entries ≡ tables.old.tickets.entries)
         × (tables.new.course ≡ tables.old.course) }
 {
-    let Taken { chunks, mut body } = tables.store.take(id);
+    let Taken { chunks, body } = tables.store.take(id);
     tables.regions.begin(id);
     tidy_without(&mut tables.agenda, &tables.regions, &tables.store, id);
     let mut due = room;
-    body.owed -= 1;
-    body.queues.take_due(body.tick + 1, &mut due);
-    Begun { chunks, due, body }
+    tick.region = id;
+    tick.chunks = Sequence::of(chunks);
+    tick.body = body;
+    tick.body.owed -= 1;
+    tick.body.queues.take_due(tick.body.tick + 1, &mut due);
+    tick.due = Sequence::of(due);
+    empty_log(alloc, &mut tick.log);
+    tick.next = 0;
+    tick.moved = false;
+}
+
+/// Empties a log. A list that is empty keeps its memory.
+fn empty_log(alloc: Global, log: &mut TickLog)
+    ensures ran { log.new.ran ≡ [] }
+    ensures wishes { log.new.wishes ≡ [] }
+{
+    if !log.ran.is_empty() {
+        log.ran = Sequence::new(alloc);
+    }
+    if !log.wishes.is_empty() {
+        log.wishes = Sequence::new(alloc);
+    }
 }

@@ -18,6 +18,7 @@ returns c =
     let is : c.owner.result ≡ Some (owner g c.args.c) = c.owner.ensures ∙ (ap (λ (s : SectionPos). some_id (g.owner s)) c.requires.home ∙ is_some (owner g c.args.c) (some_owner g c.args.c c.keeps_rules.ensures held)) in
     rw is (record {
       held = (λ some. held, λ more. refl);
+      owner = refl;
       given = owner_below g c.args.c c.keeps_rules.ensures held;
       alone = alone g c.args.c c.keeps_rules.ensures held;
     })

@@ -4,6 +4,7 @@ use Rattle.fol_model.specs.Begin.{begin}
 use Rattle.fol_model.specs.GridState.{GridState, is_ready}
 use Rattle.fol_laws.proofs.GridFields.{begin_here}
 use Rattle.fol_regions.specs.Table.{grid_state}
+use Rattle.fol_queues.specs.Waiting.{task_in}
 use Rattle.fol_chunks.specs.Contents.{is_recorded}
 use Rattle.fol_store.specs.Stock.{bag_of, jobs_of}
 use Rattle.fol_world.proofs.TakenJobs.{due_tasks, left_jobs}
@@ -14,7 +15,7 @@ returns-clause-left c = left_jobs (is_recorded (bag_of c.args.tables.now.store c
     c.take-chunks.ensures.in_time c.take-chunks.ensures.moved_tasks c.take_due.ensures.left
 
 pub returns-clause-due : goal.returns-clause-due
-returns-clause-due c = due_tasks (is_recorded (bag_of c.args.tables.now.store c.args.id).chunks) c.take-chunks.result.body.tick c.take-chunks.result.body.queues.tasks c.take_due.new.self.tasks (jobs_of c.args.tables.now.store)
+returns-clause-due c = ap task_in c.of-2.ensures ∙ due_tasks (is_recorded (bag_of c.args.tables.now.store c.args.id).chunks) c.take-chunks.result.body.tick c.take-chunks.result.body.queues.tasks c.take_due.new.self.tasks (jobs_of c.args.tables.now.store)
     c.take-chunks.ensures.in_time c.take-chunks.ensures.moved_tasks _ c.take_due.ensures.taken
 
 pub tidy_without-requires-clause-state : goal.tidy_without-requires-clause-state

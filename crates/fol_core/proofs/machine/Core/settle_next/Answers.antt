@@ -1,4 +1,3 @@
-use Rattle.std.proofs.Common.{arith}
 use Rattle.fol_core.proofs.Ahead.{gathered_ahead}
 use Rattle.fol_world.proofs.GatheredBags.{owing_given, ready_free, ready_home}
 use Rattle.fol_core.proofs.machine.Core.settle_next.Goals as goal

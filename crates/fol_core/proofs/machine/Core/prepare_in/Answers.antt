@@ -1,7 +1,4 @@
 use Rattle.std.proofs.Common.{sym, ◌∙◌, ap, refl, arith, length}
-use Rattle.fol_data.specs.declared.region_data.RegionData.{RegionData}
-use Rattle.fol_chunks.specs.Contents.{flat_of as contents_of}
-use Rattle.fol_queues.specs.Waiting.{task_in}
 use Rattle.fol_core.proofs.Ahead.{over_is, prepare_ahead}
 use Rattle.fol_core.proofs.AheadAnswers.{owing_tables}
 use Rattle.fol_core.proofs.AheadBegins.{not_prepared, owing_now, tick_now}
@@ -9,35 +6,35 @@ use Rattle.fol_core.proofs.BeginKept.{room_due, room_for, room_whole, tidy_bags,
 use Rattle.fol_core.proofs.BeginTick.{begin_stands, tick_is}
 use Rattle.fol_world.proofs.GatheredBags.{ready_here}
 use Rattle.fol_core.proofs.Rooms.{place_taken}
-use Rattle.fol_core.proofs.machine.Core.prepare.Goals as goal
+use Rattle.fol_core.proofs.machine.Core.prepare_in.Goals as goal
 
 pub due_room-room-requires : goal.due_room-room-requires
 due_room-room-requires c = (c.args.id, rw c.take.ensures.value (rw (← c.self.view_is) at c.requires.ready))
 
-pub hand_out-taken-requires-clause-owing : goal.hand_out-taken-requires-clause-owing
-hand_out-taken-requires-clause-owing c = owing_tables _ _ _ _ c.self.invariant.0 c.args.id (rw (← c.self.view_is) at c.requires.free)
+pub hand_out-requires-clause-owing : goal.hand_out-requires-clause-owing
+hand_out-requires-clause-owing c = owing_tables _ _ _ _ c.self.invariant.0 c.args.id (rw (← c.self.view_is) at c.requires.free)
 
-pub hand_out-taken-requires-clause-here : goal.hand_out-taken-requires-clause-here
-hand_out-taken-requires-clause-here c =
+pub hand_out-requires-clause-here : goal.hand_out-requires-clause-here
+hand_out-requires-clause-here c =
     ready_here _ _ _ c.self.invariant.0.stands c.args.id (owing_tables _ _ _ _ c.self.invariant.0 c.args.id (rw (← c.self.view_is) at c.requires.free))
 
-pub hand_out-taken-requires-clause-whole : goal.hand_out-taken-requires-clause-whole
-hand_out-taken-requires-clause-whole c =
+pub hand_out-requires-clause-whole : goal.hand_out-requires-clause-whole
+hand_out-requires-clause-whole c =
     room_whole c.self.inside.room c.self.inside.tables c.self.inside.history c.args.id _ _ c.self.invariant.1 (rw (← c.self.view_is) at c.requires.ready)
     (owing_tables _ _ _ _ c.self.invariant.0 c.args.id (rw (← c.self.view_is) at c.requires.free))
 
-pub hand_out-taken-requires-clause-room : goal.hand_out-taken-requires-clause-room
-hand_out-taken-requires-clause-room c =
+pub hand_out-requires-clause-room : goal.hand_out-requires-clause-room
+hand_out-requires-clause-room c =
     room_due c.self.inside.room c.self.inside.tables c.self.inside.history c.args.id _ _ c.due_room-room.result c.self.invariant.1 (rw (← c.self.view_is) at c.requires.ready)
     (rw c.take.ensures.value at c.due_room-room.ensures) (owing_tables _ _ _ _ c.self.invariant.0 c.args.id (rw (← c.self.view_is) at c.requires.free))
 
-pub hand_out-taken-requires-clause-bags : goal.hand_out-taken-requires-clause-bags
-hand_out-taken-requires-clause-bags c =
+pub hand_out-requires-clause-bags : goal.hand_out-requires-clause-bags
+hand_out-requires-clause-bags c =
     let owing = owing_tables _ _ _ _ c.self.invariant.0 c.args.id (rw (← c.self.view_is) at c.requires.free) in
     tidy_bags _ _ _ c.self.invariant.0.stands c.args.id owing
 
-pub hand_out-taken-requires-clause-covers : goal.hand_out-taken-requires-clause-covers
-hand_out-taken-requires-clause-covers c =
+pub hand_out-requires-clause-covers : goal.hand_out-requires-clause-covers
+hand_out-requires-clause-covers c =
     let owing = owing_tables _ _ _ _ c.self.invariant.0 c.args.id (rw (← c.self.view_is) at c.requires.free) in
     tidy_covers _ _ _ c.self.invariant.0.stands c.args.id owing
 
@@ -52,14 +49,14 @@ invariant_of-self c =
     let s = c.self.invariant.0 in
     let owing = owing_tables _ _ _ _ s c.args.id (rw (← c.self.view_is) at c.requires.free) in
     let room = room_for c.self.inside.room c.self.inside.tables c.self.inside.history c.args.id _ _ c.self.invariant.1 (rw (← c.self.view_is) at c.requires.ready) in
-    let out = c.hand_out-taken.ensures in
+    let out = c.hand_out.ensures in
     let on = rw (← c.self.view_is) at c.requires.on in (
       prepare_ahead _ _ _ s.runs c.args.id (not_prepared _ _ _ _ s c.args.id owing) on (owing_now _ _ _ _ s c.args.id owing) _ _ (sym c.add.ensures.marks)
-          (begin_stands _ _ _ s.stands c.args.id owing (room.settled owing) 0 0 c.hand_out-taken.new.tables _ (over_is _ _ _ _ s ∙ on) room.size out.regions out.flat out.jobs out.taken out.next out.agenda
+          (begin_stands _ _ _ s.stands c.args.id owing (room.settled owing) 0 0 c.hand_out.new.tables _ (over_is _ _ _ _ s ∙ on) room.size out.regions out.flat out.jobs out.taken out.next out.agenda
           out.others.0 out.others.1 out.others.2 refl),
       rw c.take.ensures.after tt,
       λ x. omega (arith, room.history, c.add.ensures.count),
-      place_taken c.self.inside.tables.agenda c.hand_out-taken.new.tables.agenda c.args.id _ _ c.self.invariant.3 room.place out.len out.capacity out.top c.add.ensures.count,
+      place_taken c.self.inside.tables.agenda c.hand_out.new.tables.agenda c.args.id _ _ c.self.invariant.3 room.place out.len out.capacity out.top c.add.ensures.count,
     )
 
 pub returns-clause-tick : goal.returns-clause-tick
@@ -67,9 +64,6 @@ returns-clause-tick c =
     let s = c.self.invariant.0 in
     let owing = owing_tables _ _ _ _ s c.args.id (rw (← c.self.view_is) at c.requires.free) in
     let room = room_for c.self.inside.room c.self.inside.tables c.self.inside.history c.args.id _ _ c.self.invariant.1 (rw (← c.self.view_is) at c.requires.ready) in
-    let out = c.hand_out-taken.ensures in
-    let made = c.tick_of.ensures in
-    let body = made.body in
-    rw (← c.self.view_is) (tick_now _ _ _ _ s c.args.id owing _ _ c.tick_of.result (tick_is _ _ _ s.stands c.args.id owing (room.settled owing) 0 _ c.tick_of.result made.worker made.region (made.begun ∙ ap length c.as_slice.ensures.value) (made.chunks ∙ out.chunks)
-    (ap (λ (x : RegionData). x.tick) body ∙ out.counter) (ap (λ (x : RegionData). x.owed) body ∙ out.owed) (ap (λ (x : RegionData). contents_of x.chunks) body ∙ out.contents) (rw body out.left)
-    (rw made.due out.order) (ap task_in made.due ∙ out.due) made.ran made.wishes made.next made.moved))
+    let out = c.hand_out.ensures in
+    rw (← c.self.view_is) (tick_now _ _ _ _ s c.args.id owing _ _ _ (tick_is _ _ _ s.stands c.args.id owing (room.settled owing) 0 _ _ refl out.region (ap length c.as_slice.ensures.value) out.chunks
+    out.counter out.owed out.contents out.left out.order out.due out.ran out.wishes out.next_task out.moved))

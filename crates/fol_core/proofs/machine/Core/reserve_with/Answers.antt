@@ -2,7 +2,7 @@ use Rattle.std.proofs.Common.{arith, inl}
 use Rattle.fol_core.proofs.Ahead.{gathered_ahead, given_ahead, places_ahead}
 use Rattle.fol_world.proofs.GatheredBags.{owes_as_before, ready_free}
 use Rattle.fol_core.proofs.Rooms.{not_grown}
-use Rattle.fol_core.proofs.machine.Core.reserve.Goals as goal
+use Rattle.fol_core.proofs.machine.Core.reserve_with.Goals as goal
 
 pub invariant_of-self : goal.invariant_of-self
 invariant_of-self c =
