@@ -1,8 +1,11 @@
 -- Which prepared regions an event on a chunk may touch.
-use Rattle.std.specs.Prelude.{ℕ, ◌≡◌, Bool, true, ◌||◌, nat_eq, List, filter}
+use Rattle.std.specs.Prelude.{ℕ, ◌≡◌, ◌<◌, Bool, true, ◌||◌, nat_eq, if◌then◌else◌, List, [], ◌∷◌, filter}
 use Rattle.std.specs.List.{list_any}
 use Rattle.fol_model.specs.declared.places.ChunkPos.{ChunkPos}
+use Rattle.fol_model.specs.Geometry.{section_of}
+use Rattle.fol_model.specs.GridNumbers.{IsGrid}
 use Rattle.fol_model.specs.GridState.{is_ready}
+use Rattle.fol_model.specs.Run.{Run}
 use Rattle.fol_model.specs.Universe.{numbers_below}
 use Rattle.fol_model.specs.World.{World}
 use Rattle.fol_laws.specs.LateBegin.{load_touches, post_touches, unload_touches}
@@ -38,3 +41,11 @@ WhatIsTouchedMayBe = (w : World) (c : ChunkPos) (r : ℕ) → is_ready (w.grid.s
 abbrev pub UnlistedIsSpared : Type 0
 UnlistedIsSpared = (m : Meaning) (c : ChunkPos) (ids : List ℕ) → PreparedAreReady m
     → ids ≡ filter (may_touch (world_of m) c) (numbers_below (world_of m).grid.next) → Spares m (lists ids) → IsSpared m c
+
+-- in a run, where a hold is on the chunk, the list of those that an event on it may touch is the owner of its section, if that is Ready, and is
+-- empty otherwise
+abbrev pub OwnerIsListedAlone : Type 0
+OwnerIsListedAlone = (m : Meaning) (c : ChunkPos) (id : ℕ) (ids : List ℕ) → IsGrid m.opening.grid → Run m.opening m.history
+    → 0 < (world_of m).grid.holds c → id ≡ (world_of m).grid.owner (section_of (world_of m).grid.grid c)
+    → ids ≡ filter (may_touch (world_of m) c) (numbers_below (world_of m).grid.next)
+    → ids ≡ (if is_ready ((world_of m).grid.state id) then id ∷ [] else [])

@@ -31,6 +31,12 @@ fn touches(rt: &impl Abort, core: &Core, chunk: ChunkPos, regions: &[u64]) {
     }
 }
 
+/// An event on the chunk of region 1 may touch that region alone, which is told whether it is Ready or not. Nothing is told of a chunk with no hold.
+fn touches_alone(rt: &impl Abort, core: &Core) {
+    assert_eq!(rt; core.touched_alone(ORIGIN), Some(1));
+    assert_eq!(rt; core.touched_alone(BETWEEN), None);
+}
+
 /// The tick that region 1 has first, when one task is due in it.
 fn is_first(rt: &impl Abort, tick: &Tick) {
     assert_eq!(rt; (tick.worker, tick.region, tick.begun), (0, 1, 4));
@@ -96,8 +102,11 @@ fn a_tick_is_made_before_its_begin_is_recorded(rt: HostRuntime) {
     touches(&rt, &busy.core, BETWEEN, &[1, 2]);
     touches(&rt, &busy.core, ORIGIN, &[1]);
     touches(&rt, &busy.core, FAR, &[]);
+    touches_alone(&rt, &busy.core);
     let tick = begins_late(&rt, alloc, &mut busy.core);
     touches(&rt, &busy.core, BETWEEN, &[2]);
+    touches(&rt, &busy.core, ORIGIN, &[]);
+    touches_alone(&rt, &busy.core);
     busy.end(&rt, alloc, tick);
     assert_eq!(&rt; busy.core.history().len(), 6);
     busy.states_are(&rt, [Some(State::Ready), Some(State::Ready), None]);

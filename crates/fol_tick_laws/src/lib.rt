@@ -8,7 +8,7 @@
 #![tactic(auto)]
 
 ghost use Rattle.fol_tick_laws.specs.OpenTicks.{BegunTickIsOpen, FinishedTickIsOut, LearntTickIsOpen, OnlyATouchIsOne, OnlyItsEndClosesATick, OpenTickMayRun};
-ghost use Rattle.fol_tick_laws.specs.Touching.{UnlistedIsSpared, WhatIsTouchedMayBe};
+ghost use Rattle.fol_tick_laws.specs.Touching.{OwnerIsListedAlone, UnlistedIsSpared, WhatIsTouchedMayBe};
 
 #[cfg(test)]
 mod early;
@@ -53,4 +53,10 @@ pub fn what_is_touched_may_be()
 /// So where it names no prepared region, neither of the three touches one.
 pub fn unlisted_is_spared()
     ensures { UnlistedIsSpared }
+{}
+
+/// Where a hold is on a chunk, the region that `Core::touched_alone` names is the one that `Core::touched` lists, if it is Ready; else nothing
+/// is listed.
+pub fn owner_is_listed_alone()
+    ensures { OwnerIsListedAlone }
 {}
