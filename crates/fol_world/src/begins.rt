@@ -9,7 +9,7 @@ ghost use Rattle.fol_model.specs.Outputs.{is_chunk_of};
 ghost use Rattle.fol_regions.specs.Table.{grid_state};
 ghost use Rattle.fol_regions.specs.Answers.{IsGiven as IsGivenIn};
 ghost use Rattle.fol_queues.specs.Waiting.{jobs_of as queued_of, task_in, option_filter};
-ghost use Rattle.fol_chunks.specs.Contents.{flat_of as contents_of, is_recorded, outside, within};
+ghost use Rattle.fol_chunks.specs.Contents.{flat_of as contents_of, is_recorded, nothing, outside, within};
 ghost use Rattle.fol_store.specs.Bag.{is_whole, taken_out};
 ghost use Rattle.fol_store.specs.Gathered.{AreFree};
 ghost use Rattle.fol_store.specs.Stock.{bag_of, due_of, flat_of, jobs_of, next_of};
@@ -26,8 +26,16 @@ use fol_regions::Regions;
 use fol_store::{Store, Taken};
 use std::alloc::{AllocError, Global};
 
-/// A tick that has nothing. Takes no memory.
-pub fn blank(alloc: Global) -> Tick {
+/// A tick that has nothing, of no region. Takes no memory.
+pub fn blank(alloc: Global) -> Tick
+    ensures numbers { (result.worker ≡ 0) × (result.region ≡ 0) × (result.begun ≡ 0) }
+    ensures lists { (result.chunks ≡ []) × (result.due ≡ []) }
+    ensures counters { (result.body.tick ≡ 0) × (result.body.owed ≡ 0) }
+    ensures tasks { result.body.queues.tasks ≡ [] }
+    ensures contents { contents_of result.body.chunks ≡ nothing }
+    ensures log { (result.log.ran ≡ []) × (result.log.wishes ≡ []) }
+    ensures start { (result.next ≡ 0) × (result.moved ≡ false) }
+{
     Tick {
         worker: 0,
         region: 0,
