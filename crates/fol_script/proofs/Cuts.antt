@@ -1,5 +1,5 @@
 -- The first line and the first word.
-use Rattle.std.proofs.Common.{◌≡◌, ℕ, suc, ◌+◌, ◌-◌, ◌<◌, ◌≤◌, inl, inr, Bool, true, false, eqb, List, [], ◌∷◌, length, take, drop, refl, sym, ◌∙◌, arith, add-one, get_or}
+use Rattle.std.proofs.Common.{◌≡◌, ℕ, suc, ◌+◌, ◌-◌, ◌<◌, ◌≤◌, inl, inr, Bool, true, false, eqb, List, [], ◌∷◌, length, take, drop, Some, None, refl, sym, ◌∙◌, arith, add-one, get_or}
 use Rattle.std.specs.List.{position_or_len}
 use Rattle.std.proofs.lemmas.Bool.{cases_Bool}
 use Rattle.std.proofs.lemmas.List.Splits.{slice_split_first}
@@ -7,6 +7,7 @@ use Rattle.std.proofs.lemmas.List.{take_all, length-drop}
 use Rattle.std.proofs.Math.ListN.{drop_of_length-le}
 use Rattle.std.proofs.lemmas.List.Sums.{position_or_len_is}
 use Rattle.std.proofs.lemmas.Bool.Decides.{nat_tests}
+use Rattle.memchr.specs.Find.{IsFirstByte, is_byte}
 use Rattle.fol_model.specs.TextLines.{lines, words}
 
 abbrev pub feed : ℕ → Bool
@@ -53,3 +54,17 @@ is_same a b e = grind (arith, nat_tests)
 
 pub up_to_end : (text : List ℕ) (n b : ℕ) → n ≤ length text → ((k : ℕ) → k < n → eqb (get_or text k 0) b ≡ false) → (n < length text → get_or text n 0 ≡ b) → n ≡ position_or_len (λ x. eqb x b) text
 up_to_end text n b h before here = sym (position_or_len_is (λ x. eqb x b) text n 0 h before (λ lt. is_same _ b (here lt)))
+
+-- ---- a line feed that was searched for
+
+untrue : (b : Bool) → (b ≡ true → ⊥) → b ≡ false
+untrue true h = absurd (h refl)
+untrue false h = refl
+
+pub feed_at : (text : List ℕ) (n : ℕ) → IsFirstByte (is_byte 10) text (Some n) → n ≡ position_or_len feed text
+feed_at text n h =
+    let first = h.0 in
+    sym (position_or_len_is feed text n 0 (omega (arith, first.high)) (λ k lt. untrue _ (first.before k (omega arith) lt)) (λ _. h.1))
+
+pub no_feed : (text : List ℕ) → IsFirstByte (is_byte 10) text None → length text ≡ position_or_len feed text
+no_feed text h = sym (position_or_len_is feed text (length text) 0 (omega arith) (λ k lt. untrue _ (h k (omega arith) lt)) (λ lt. absurd (omega (arith, lt))))

@@ -5,7 +5,7 @@ use Rattle.std.specs.Str.Parse.{AllDigits, digits_value}
 use Rattle.std.proofs.lemmas.Str.Parse.{numerals_by_value}
 use Rattle.fol_script.specs.Letters.{is_no_digit}
 use Rattle.std.specs.List.{position_or_len}
-use Rattle.std.proofs.lemmas.List.Sums.{position_or_len_is}
+use Rattle.std.proofs.lemmas.List.Sums.{position_or_len_is, fails_before_first}
 use Rattle.std.proofs.lemmas.List.{take_all}
 use Rattle.std.proofs.lemmas.Int.Digits.{digits_value_more}
 use Rattle.std.proofs.lemmas.Bool.Decides.{nat_tests}
@@ -16,7 +16,9 @@ use Rattle.std.specs.Char.{is_ascii_digit}
 use Rattle.std.specs.List.{list_all}
 use Rattle.std.proofs.lemmas.Bool.{and_parts, cases_Bool, eqb-true}
 use Rattle.fol_model.specs.declared.words.Reading.TheVariants.{NoNumber, Outside}
-use Rattle.fol_model.specs.TextNumbers.{Near, is_natural, natural, within, negated, positive}
+use Rattle.fol_model.specs.TextNumbers.{Near, is_natural, natural, within, negated, positive, reading}
+use Rattle.fol_model.specs.TextLines.{words}
+use Rattle.fol_script.proofs.Cuts.{one_word, up_to_end}
 
 pub digit_is : (c : ℕ) → 48 ≤ c → c ≤ 57 → digit_value c ≡ c - 48
 digit_is c low high = grind (arith, nat_tests)
@@ -157,3 +159,52 @@ no_negative low high m w h none near =
 pub taken_from_0 : (n : ℕ) → pos 0 -ℤ pos n ≡ neg_ℤ (pos n)
 taken_from_0 zero = refl
 taken_from_0 (suc n) = grind (arith, nat_tests)
+
+-- ---- digits in front of a text, up to a space or the end
+
+no_space : (b : ℕ) → is_no_digit b ≡ false → eqb b 32 ≡ false
+no_space b h = grind (arith, nat_tests)
+
+no_sign : (b : ℕ) → is_no_digit b ≡ false → eqb b 45 ≡ false
+no_sign b h = grind (arith, nat_tests)
+
+digits_before : (text : List ℕ) → position_or_len is_no_digit text ≤ position_or_len (λ b. eqb b 32) text
+digits_before [] = omega arith
+digits_before (b ∷ bs) = elim (cases_Bool (is_no_digit b)) [
+  | inl e ↦ rw e (omega arith)
+  | inr e ↦ let s = no_space b e in let rest = digits_before bs in rw (e, s) (omega (arith, rest))
+]
+
+pub one_number : (text : List ℕ) (n : ℕ) → n ≡ position_or_len is_no_digit text → n ≡ length text → words text ≡ text ∷ []
+one_number text n e whole = one_word text (let below = digits_before text in omega (arith, below, e, whole))
+
+pub space_behind : (text : List ℕ) (n : ℕ) → n ≡ position_or_len is_no_digit text → n ≤ length text → get_or text n 0 ≡ 32 → n ≡ position_or_len (λ b. eqb b 32) text
+space_behind text n e within here =
+    up_to_end text n 32 within (λ k lt. no_space (get_or text k 0) (fails_before_first is_no_digit text k 0 (omega (arith, lt, e)))) (λ _. here)
+
+pub front_is_digits : (text : List ℕ) (n : ℕ) → n ≡ position_or_len is_no_digit text → length (take n text) ≡ position_or_len is_no_digit (take n text)
+front_is_digits text n e = rw e (all_of_front text)
+  where
+    all_of_front : (text : List ℕ) → length (take (position_or_len is_no_digit text) text) ≡ position_or_len is_no_digit (take (position_or_len is_no_digit text) text)
+    all_of_front [] = refl
+    all_of_front (b ∷ bs) = elim (cases_Bool (is_no_digit b)) [
+      | inl e ↦ rw e refl
+      | inr e ↦
+          let more : 1 + position_or_len is_no_digit bs ≡ suc (position_or_len is_no_digit bs) = omega arith in
+          rw (e, more, e) (let rest = all_of_front bs in omega (arith, rest))
+    ]
+
+-- a word of digits has no sign, whatever the range
+pub digits_reading : (low high : ℤ) (w : List ℕ) → length w ≡ position_or_len is_no_digit w → within low high (positive (natural w)) ≡ reading low high w
+digits_reading low high [] all = refl
+digits_reading low high (b ∷ bs) all = elim (cases_Bool (is_no_digit b)) [
+  | inl e ↦ absurd (let h = rw e at all in omega (arith, h))
+  | inr e ↦ let s = no_sign b e in rw (s, no_and (int_lt low (pos 0))) refl
+]
+  where
+    no_and : (c : Bool) → (c && false) ≡ false
+    no_and true = refl
+    no_and false = refl
+
+pub no_digits_reading : (low high : ℤ) (w : List ℕ) → length w ≡ position_or_len is_no_digit w → is_natural w ≡ false → NoNumber ≡ reading low high w
+no_digits_reading low high w all none = ap (λ n. within low high (positive n)) (sym (natural_none w none)) ∙ digits_reading low high w all

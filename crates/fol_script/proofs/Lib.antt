@@ -8,6 +8,7 @@ pub mod CommandLimits
 pub mod ScriptBefore
 pub mod ReadScript
 pub mod RowText
+pub mod Keeping
 pub mod WorldMaps
 pub mod WorldBefore
 pub mod ReadWorld

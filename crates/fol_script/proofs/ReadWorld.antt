@@ -4,7 +4,7 @@ use borrow.Author.Differences.{ints}
 use Rattle.std.specs.Prelude.{is_none, is_some, nat_abs}
 use Rattle.std.specs.List.{AllByRecursion}
 use Rattle.std.specs.Ordering.{nat_cmp}
-use Rattle.std.specs.BTreeMap.{BTreeMap, get, is_at, insert_entry, Updates}
+use Rattle.std.specs.BTreeMap.{is_at}
 use Rattle.std.specs.Map.{lookup, keys_of}
 use Rattle.std.specs.List.Sorted.{IsPermutation, IsStrictlySortedBy}
 use Rattle.std.proofs.lemmas.List.Sorted.{IsPermutation-refl}
@@ -24,12 +24,15 @@ use Rattle.fol_model.specs.TextCauses.{Row, is_key, is_twice, is_out_of_order, c
 use Rattle.fol_model.specs.TextRows.{IsRow, Spells}
 use Rattle.fol_model.specs.Texts.{IsWorldText, world_rows, item_row, grid_row}
 use Rattle.fol_text_laws.specs.RowValues.{natural_in, block_in_cells, entity_of, grid_of, z_at}
+use Rattle.fol_text_laws.proofs.Sorting.{sorted_none}
 use Rattle.fol_text_laws.proofs.OneLine.{clean, line_is_row, line_word_of}
 use Rattle.fol_text_laws.proofs.Valid.{valid_is_spelled, spelled_is_valid}
 use Rattle.fol_text_laws.proofs.Worlds.{row, within_entity}
 use Rattle.fol_script.specs.declared.world_lines.Spot.{Spot}
 use Rattle.fol_script.specs.declared.world_lines.WorldBefore.{WorldBefore}
 use Rattle.fol_script.specs.WorldRows.{version_row}
+use Rattle.fol_script.specs.declared.kept.Kept.{Kept}
+use Rattle.fol_script.specs.Kept.{entries_in, Keeps}
 use Rattle.fol_script.specs.WorldMaps.{spot_of, stored_blocks, values_of}
 use Rattle.fol_script.specs.WorldBefore.{spot_cmp, misplaced_in, Holds, StandsFor, Stands, TakesRow, Goes, IsRead}
 use Rattle.fol_script.proofs.WorldMaps.{stored_in_order, ids_are_keys}
@@ -50,8 +53,8 @@ pub version_arm : (key : Keyword) (cs : List Cell) (old : WorldBefore) (n : ℕ)
 version_arm key cs old n e m is ne = subst (λ (k : Keyword). TakesRow (row k cs) old (record { version = Some n; grid = old.grid; blocks = old.blocks; entities = old.entities }) false) (sym e)
     (λ rows s. (
       refl,
-      λ _. subst (λ (v : ℕ). StandsFor (rows ++ row keys.World cs ∷ []) (Some v) old.grid old.blocks old.entities) (sym ne)
-          (version_taken old.version old.grid old.blocks old.entities cs rows (in_place old.version old.grid key keys.World e m) (with_key key keys.World cs e is) s),
+      λ _. subst (λ (v : ℕ). StandsFor (rows ++ row keys.World cs ∷ []) (Some v) old.grid (entries_in old.blocks) (entries_in old.entities)) (sym ne)
+          (version_taken old.version old.grid (entries_in old.blocks) (entries_in old.entities) cs rows (in_place old.version old.grid key keys.World e m) (with_key key keys.World cs e is) s),
     ))
 
 pub grid_arm : (key : Keyword) (cs : List Cell) (old : WorldBefore) (g : Option Grid) → key ≡ keys.Grid → misplaced_in old.version old.grid key ≡ false → IsRow kinds.World (row key cs) → g ≡ Some (grid_of cs)
@@ -59,21 +62,21 @@ pub grid_arm : (key : Keyword) (cs : List Cell) (old : WorldBefore) (g : Option 
 grid_arm key cs old g e m is ge = subst (λ (k : Keyword). TakesRow (row k cs) old (record { version = old.version; grid = g; blocks = old.blocks; entities = old.entities }) false) (sym e)
     (λ rows s. (
       refl,
-      λ _. subst (λ (x : Option Grid). StandsFor (rows ++ row keys.Grid cs ∷ []) old.version x old.blocks old.entities) (sym ge)
-          (grid_taken old.version old.grid old.blocks old.entities cs rows (in_place old.version old.grid key keys.Grid e m) (with_key key keys.Grid cs e is) s),
+      λ _. subst (λ (x : Option Grid). StandsFor (rows ++ row keys.Grid cs ∷ []) old.version x (entries_in old.blocks) (entries_in old.entities)) (sym ge)
+          (grid_taken old.version old.grid (entries_in old.blocks) (entries_in old.entities) cs rows (in_place old.version old.grid key keys.Grid e m) (with_key key keys.Grid cs e is) s),
     ))
 
-pub block_arm : (key : Keyword) (cs : List Cell) (old : WorldBefore) (ds : BTreeMap Spot ℕ) (twice : Bool) → key ≡ keys.Block → misplaced_in old.version old.grid key ≡ false → IsRow kinds.World (row key cs)
-    → twice ≡ is_some (get spot_cmp old.blocks (spot_of (block_in_cells 0 cs))) → ds.entries ≡ insert_entry spot_cmp old.blocks.entries (spot_of (block_in_cells 0 cs)) (natural_in 3 cs) → Updates spot_cmp old.blocks ds (spot_of (block_in_cells 0 cs)) (Some (natural_in 3 cs)) → IsStrictlySortedBy spot_cmp (keys_of ds.entries)
+pub block_arm : (key : Keyword) (cs : List Cell) (old : WorldBefore) (ds : Kept Spot ℕ) (twice : Bool) → key ≡ keys.Block → misplaced_in old.version old.grid key ≡ false → IsRow kinds.World (row key cs)
+    → (IsStrictlySortedBy spot_cmp (keys_of (entries_in old.blocks)) → Keeps spot_cmp (entries_in old.blocks) (entries_in ds) (spot_of (block_in_cells 0 cs)) (natural_in 3 cs) twice)
     → TakesRow (row key cs) old (record { version = old.version; grid = old.grid; blocks = ds; entities = old.entities }) twice
-block_arm key cs old ds twice e m is t entries updates up = subst (λ (k : Keyword). TakesRow (row k cs) old (record { version = old.version; grid = old.grid; blocks = ds; entities = old.entities }) twice) (sym e)
-    (λ rows s. block_taken old.version old.grid old.blocks ds old.entities cs twice rows (in_place old.version old.grid key keys.Block e m) (with_key key keys.Block cs e is) t entries updates up s)
+block_arm key cs old ds twice e m is kept = subst (λ (k : Keyword). TakesRow (row k cs) old (record { version = old.version; grid = old.grid; blocks = ds; entities = old.entities }) twice) (sym e)
+    (λ rows s. block_taken old.version old.grid (entries_in old.blocks) (entries_in ds) (entries_in old.entities) cs twice rows (in_place old.version old.grid key keys.Block e m) (with_key key keys.Block cs e is) kept s)
 
-pub entity_arm : (key : Keyword) (cs : List Cell) (old : WorldBefore) (fs : BTreeMap ℕ Entity) (twice : Bool) → key ≡ keys.Entity → misplaced_in old.version old.grid key ≡ false → IsRow kinds.World (row key cs)
-    → twice ≡ is_some (get nat_cmp old.entities (natural_in 0 cs)) → fs.entries ≡ insert_entry nat_cmp old.entities.entries (natural_in 0 cs) (entity_of cs) → Updates nat_cmp old.entities fs (natural_in 0 cs) (Some (entity_of cs)) → IsStrictlySortedBy nat_cmp (keys_of fs.entries)
+pub entity_arm : (key : Keyword) (cs : List Cell) (old : WorldBefore) (fs : Kept ℕ Entity) (twice : Bool) → key ≡ keys.Entity → misplaced_in old.version old.grid key ≡ false → IsRow kinds.World (row key cs)
+    → (IsStrictlySortedBy nat_cmp (keys_of (entries_in old.entities)) → Keeps nat_cmp (entries_in old.entities) (entries_in fs) (natural_in 0 cs) (entity_of cs) twice)
     → TakesRow (row key cs) old (record { version = old.version; grid = old.grid; blocks = old.blocks; entities = fs }) twice
-entity_arm key cs old fs twice e m is t entries updates up = subst (λ (k : Keyword). TakesRow (row k cs) old (record { version = old.version; grid = old.grid; blocks = old.blocks; entities = fs }) twice) (sym e)
-    (λ rows s. entity_taken old.version old.grid old.blocks old.entities fs cs twice rows (in_place old.version old.grid key keys.Entity e m) (with_key key keys.Entity cs e is) t entries updates up s)
+entity_arm key cs old fs twice e m is kept = subst (λ (k : Keyword). TakesRow (row k cs) old (record { version = old.version; grid = old.grid; blocks = old.blocks; entities = fs }) twice) (sym e)
+    (λ rows s. entity_taken old.version old.grid (entries_in old.blocks) (entries_in old.entities) (entries_in fs) cs twice rows (in_place old.version old.grid key keys.Entity e m) (with_key key keys.Entity cs e is) kept s)
 
 -- ---- the limits of an entity's numbers
 
@@ -100,14 +103,14 @@ entity_near cs h =
 
 -- ---- the cause of a line
 
-order_at : (version : Option ℕ) (grid : Option Grid) (bs : BTreeMap Spot ℕ) (es : BTreeMap ℕ Entity) (rows : List Row) (r : Row) → StandsFor rows version grid bs es → is_out_of_order kinds.World rows r ≡ misplaced_in version grid r.key
+order_at : (version : Option ℕ) (grid : Option Grid) (bs : List (Spot × ℕ)) (es : List (ℕ × Entity)) (rows : List Row) (r : Row) → StandsFor rows version grid bs es → is_out_of_order kinds.World rows r ≡ misplaced_in version grid r.key
 order_at None None bs es rows r s = ap (λ (rs : List Row). is_out_of_order kinds.World rs r) s.0
 order_at None (Some g) bs es rows r s = absurd s
 order_at (Some v) None bs es rows r s = ap (λ (rs : List Row). is_out_of_order kinds.World rs r) s.0
 order_at (Some v) (Some g) bs es rows r s = ap (λ (rs : List Row). is_out_of_order kinds.World rs r) s.1
 
 order_is : (rows : List Row) (l : List ℕ) (b : WorldBefore) (key : Keyword) (t : Bool) → Stands rows b → key ≡ (row_of kinds.World l).key → misplaced_in b.version b.grid key ≡ t → is_out_of_order kinds.World rows (row_of kinds.World l) ≡ t
-order_is rows l b key t s e m = order_at b.version b.grid b.blocks b.entities rows (row_of kinds.World l) s ∙ ap (misplaced_in b.version b.grid) (sym e) ∙ m
+order_is rows l b key t s e m = order_at b.version b.grid (entries_in b.blocks) (entries_in b.entities) rows (row_of kinds.World l) s ∙ ap (misplaced_in b.version b.grid) (sym e) ∙ m
 
 pub spelled_badly : (rows : List Row) (l : List ℕ) (c : Cause) → spelling_cause kinds.World l ≡ Some c → cause_of kinds.World rows l ≡ Some c
 spelled_badly rows l c e = causes_are kinds.World rows l ∙ ap (λ (o : Option Cause). or_else o (or_else (order_cause kinds.World rows (row_of kinds.World l)) (or_else (form_cause kinds.World l) (sum_cause rows (row_of kinds.World l))))) e
@@ -190,20 +193,20 @@ skips l rows b e s = record {
 
 -- ---- before the first line
 
-pub nothing_held : (bs : BTreeMap Spot ℕ) (es : BTreeMap ℕ Entity) → bs.entries ≡ [] → es.entries ≡ [] → IsStrictlySortedBy spot_cmp (keys_of bs.entries) → IsStrictlySortedBy nat_cmp (keys_of es.entries) → Holds [] bs es
-nothing_held bs es e f up vp = record {
+pub nothing_held : (bs : List (Spot × ℕ)) (es : List (ℕ × Entity)) → bs ≡ [] → es ≡ [] → Holds [] bs es
+nothing_held bs es e f = record {
   from_blocks = subst (λ (l : List (Spot × ℕ)). IsPermutation [] (stored_blocks l)) (sym e) (IsPermutation-refl []);
   from_entities = subst (λ (l : List (ℕ × Entity)). IsPermutation [] (values_of l)) (sym f) (IsPermutation-refl []);
   block_stood = λ b. sym (ap (λ (l : List (Spot × ℕ)). is_some (lookup (is_at (spot_cmp (spot_of b.at))) l)) e);
   entity_stood = λ b. sym (ap (λ (l : List (ℕ × Entity)). is_some (lookup (is_at (nat_cmp b.id)) l)) f);
   own_ids = subst (AllByRecursion (λ (x : ℕ × Entity). x.0 ≡ x.1.id)) (sym f) tt;
-  spots = up;
-  ids = vp;
+  spots = subst (λ (l : List (Spot × ℕ)). IsStrictlySortedBy spot_cmp (keys_of l)) (sym e) (sorted_none spot_cmp);
+  ids = subst (λ (l : List (ℕ × Entity)). IsStrictlySortedBy nat_cmp (keys_of l)) (sym f) (sorted_none nat_cmp);
 }
 
 -- ---- behind the last line
 
-ends_early : (rows : List Row) (line : ℕ) (grid : Option Grid) (bs : BTreeMap Spot ℕ) (es : BTreeMap ℕ Entity) → StandsFor rows None grid bs es → bad_from kinds.World rows line [] ≡ Some (line, causes.Missing)
+ends_early : (rows : List Row) (line : ℕ) (grid : Option Grid) (bs : List (Spot × ℕ)) (es : List (ℕ × Entity)) → StandsFor rows None grid bs es → bad_from kinds.World rows line [] ≡ Some (line, causes.Missing)
 unfolding bad_from
 ends_early rows line None bs es s = ap (λ (rs : List Row). bad_from kinds.World rs line []) s.0
 ends_early rows line (Some g) bs es s = absurd s
@@ -217,16 +220,16 @@ unfolding bad_from
 whole v g rs line = refl
 
 pub no_version : (bytes : List ℕ) (b : WorldBefore) (line : ℕ) → IsRead bytes b line → b.version ≡ None → first_bad kinds.World bytes ≡ Some (line, causes.Missing)
-no_version bytes b line r e = sym r.bad ∙ ends_early r.rows line b.grid b.blocks b.entities (subst (λ (v : Option ℕ). StandsFor r.rows v b.grid b.blocks b.entities) e r.stands)
+no_version bytes b line r e = sym r.bad ∙ ends_early r.rows line b.grid (entries_in b.blocks) (entries_in b.entities) (subst (λ (v : Option ℕ). StandsFor r.rows v b.grid (entries_in b.blocks) (entries_in b.entities)) e r.stands)
 
 pub no_grid : (bytes : List ℕ) (b : WorldBefore) (line v : ℕ) → IsRead bytes b line → b.version ≡ Some v → b.grid ≡ None → first_bad kinds.World bytes ≡ Some (line, causes.Missing)
 no_grid bytes b line v r e f =
-    let s = subst (λ (g : Option Grid). StandsFor r.rows (Some v) g b.blocks b.entities) f (subst (λ (x : Option ℕ). StandsFor r.rows x b.grid b.blocks b.entities) e r.stands) in
+    let s = subst (λ (g : Option Grid). StandsFor r.rows (Some v) g (entries_in b.blocks) (entries_in b.entities)) f (subst (λ (x : Option ℕ). StandsFor r.rows x b.grid (entries_in b.blocks) (entries_in b.entities)) e r.stands) in
     sym r.bad ∙ ap (λ (rs : List Row). bad_from kinds.World rs line []) s.0 ∙ one_row_bad v line
 
-pub opened : (bytes : List ℕ) (b : WorldBefore) (line v : ℕ) (g : Grid) → IsRead bytes b line → b.version ≡ Some v → b.grid ≡ Some g → IsWorldText bytes (record { version = v; grid = g; blocks = stored_blocks b.blocks.entries; entities = values_of b.entities.entries })
+pub opened : (bytes : List ℕ) (b : WorldBefore) (line v : ℕ) (g : Grid) → IsRead bytes b line → b.version ≡ Some v → b.grid ≡ Some g → IsWorldText bytes (record { version = v; grid = g; blocks = stored_blocks (entries_in b.blocks); entities = values_of (entries_in b.entities) })
 opened bytes b line v g r e f =
-    let s = subst (λ (x : Option Grid). StandsFor r.rows (Some v) x b.blocks b.entities) f (subst (λ (x : Option ℕ). StandsFor r.rows x b.grid b.blocks b.entities) e r.stands) in
+    let s = subst (λ (x : Option Grid). StandsFor r.rows (Some v) x (entries_in b.blocks) (entries_in b.entities)) f (subst (λ (x : Option ℕ). StandsFor r.rows x b.grid (entries_in b.blocks) (entries_in b.entities)) e r.stands) in
     let good : first_bad kinds.World bytes ≡ None = sym r.bad ∙ ap (λ (rs : List Row). bad_from kinds.World rs line []) s.1 ∙ whole v g (map item_row s.0) line in
     let spelled = valid_is_spelled kinds.World bytes good in
     let all : spelled.0 ≡ world_rows v g s.0 = sym (spelled_is_valid kinds.World bytes spelled.0 spelled.1).1 ∙ sym r.all ∙ s.1 in
@@ -235,6 +238,6 @@ opened bytes b line v g r e f =
       lines = subst (Spells kinds.World bytes) all spelled.1;
       blocks = s.2.from_blocks;
       entities = s.2.from_entities;
-      blocks_in_order = stored_in_order b.blocks.entries s.2.spots;
-      entities_in_order = subst (IsStrictlySortedBy nat_cmp) (sym (ids_are_keys b.entities.entries s.2.own_ids)) s.2.ids;
+      blocks_in_order = stored_in_order (entries_in b.blocks) s.2.spots;
+      entities_in_order = subst (IsStrictlySortedBy nat_cmp) (sym (ids_are_keys (entries_in b.entities) s.2.own_ids)) s.2.ids;
     }

@@ -4,7 +4,7 @@ use Rattle.std.specs.Prelude.{is_none, is_some, nat_le}
 use Rattle.std.specs.List.{AllByRecursion, list_any, flat_map}
 use Rattle.std.specs.Ordering.{nat_cmp, int_cmp, int_eq, is_eq}
 use Rattle.std.proofs.lemmas.Bool.Decides.{nat_tests}
-use Rattle.std.specs.BTreeMap.{BTreeMap, get, is_at, insert_entry, Updates}
+use Rattle.std.specs.BTreeMap.{is_at, insert_entry}
 use Rattle.std.specs.Map.{lookup, keys_of}
 use Rattle.std.specs.List.Sorted.{IsPermutation, IsStrictlySortedBy}
 use Rattle.std.proofs.lemmas.Bool.{and_parts, leb-true}
@@ -31,13 +31,14 @@ use Rattle.fol_text_laws.proofs.Items.{twice_is, at_end, still}
 use Rattle.fol_text_laws.proofs.Worlds.{row, item_tells, version_tells, grid_tells}
 use Rattle.fol_script.specs.declared.world_lines.Spot.{Spot}
 use Rattle.fol_script.specs.WorldRows.{version_row, behind}
+use Rattle.fol_script.specs.Kept.{Keeps}
 use Rattle.fol_script.specs.WorldMaps.{spot_of, stored_blocks, values_of}
 use Rattle.fol_script.specs.WorldBefore.{spot_cmp, misplaced_in, Holds, StandsFor}
 use Rattle.fol_script.proofs.WorldMaps.{stored_more, values_more, all_more, same_spot}
 
 -- ---- the first two rows
 
-pub version_taken : (version : Option ℕ) (grid : Option Grid) (bs : BTreeMap Spot ℕ) (es : BTreeMap ℕ Entity) (cs : List Cell) (rows : List Row) → misplaced_in version grid keys.World ≡ false → IsRow kinds.World (row keys.World cs) → StandsFor rows version grid bs es
+pub version_taken : (version : Option ℕ) (grid : Option Grid) (bs : List (Spot × ℕ)) (es : List (ℕ × Entity)) (cs : List Cell) (rows : List Row) → misplaced_in version grid keys.World ≡ false → IsRow kinds.World (row keys.World cs) → StandsFor rows version grid bs es
     → StandsFor (rows ++ row keys.World cs ∷ []) (Some (natural_in 0 cs)) grid bs es
 version_taken None None bs es cs rows m is s =
     (ap (λ (rs : List Row). rs ++ row keys.World cs ∷ []) s.0 ∙ ap (λ (r : Row). r ∷ []) (sym (version_tells (row keys.World cs) is refl).0), s.1)
@@ -45,7 +46,7 @@ version_taken None (Some g) bs es cs rows m is s = absurd s
 version_taken (Some v) None bs es cs rows m is s = absurd (let k = m in cc)
 version_taken (Some v) (Some g) bs es cs rows m is s = absurd (let k = m in cc)
 
-pub grid_taken : (version : Option ℕ) (grid : Option Grid) (bs : BTreeMap Spot ℕ) (es : BTreeMap ℕ Entity) (cs : List Cell) (rows : List Row) → misplaced_in version grid keys.Grid ≡ false → IsRow kinds.World (row keys.Grid cs) → StandsFor rows version grid bs es
+pub grid_taken : (version : Option ℕ) (grid : Option Grid) (bs : List (Spot × ℕ)) (es : List (ℕ × Entity)) (cs : List Cell) (rows : List Row) → misplaced_in version grid keys.Grid ≡ false → IsRow kinds.World (row keys.Grid cs) → StandsFor rows version grid bs es
     → StandsFor (rows ++ row keys.Grid cs ∷ []) version (Some (grid_of cs)) bs es
 grid_taken None None bs es cs rows m is s = absurd (let k = m in cc)
 grid_taken None (Some g) bs es cs rows m is s = absurd s
@@ -74,24 +75,24 @@ is_absent (Some x) e = absurd cc
 block_end : (f : Item → Bool) (items : List Item) (t : Item) → f t ≡ false → list_any f (items ++ t ∷ []) ≡ list_any f items
 block_end f items t e = list_any-append f items (t ∷ []) ∙ ap (λ (b : Bool). list_any f items || (b || false)) e ∙ or_false (list_any f items)
 
-pub block_held : (items : List Item) (bs cs : BTreeMap Spot ℕ) (es : BTreeMap ℕ Entity) (b : BlockAt) → Holds items bs es → is_some (get spot_cmp bs (spot_of b.at)) ≡ false → cs.entries ≡ insert_entry spot_cmp bs.entries (spot_of b.at) b.id
-    → Updates spot_cmp bs cs (spot_of b.at) (Some b.id) → IsStrictlySortedBy spot_cmp (keys_of cs.entries) → Holds (items ++ block b ∷ []) cs es
-block_held items bs cs es b h absent entries updates up =
-    let none : lookup (is_at (spot_cmp (spot_of b.at))) bs.entries ≡ None = is_absent (get spot_cmp bs (spot_of b.at)) absent in
+pub block_held : (items : List Item) (bs cs : List (Spot × ℕ)) (es : List (ℕ × Entity)) (b : BlockAt) (stood : Bool) → Holds items bs es → is_some (lookup (is_at (spot_cmp (spot_of b.at))) bs) ≡ false
+    → Keeps spot_cmp bs cs (spot_of b.at) b.id stood → Holds (items ++ block b ∷ []) cs es
+block_held items bs cs es b stood h absent keeps =
+    let none : lookup (is_at (spot_cmp (spot_of b.at))) bs ≡ None = is_absent (lookup (is_at (spot_cmp (spot_of b.at))) bs) absent in
     record {
       from_blocks =
           let all : flat_map blocks_in (items ++ block b ∷ []) ≡ flat_map blocks_in items ++ stored b.id b = at_end blocks_in items (block b) (stored b.id b) refl in
-          let p = IsPermutation-trans (flat_map blocks_in items ++ stored b.id b) (stored b.id b ++ flat_map blocks_in items) (stored_blocks (insert_entry spot_cmp bs.entries (spot_of b.at) b.id))
+          let p = IsPermutation-trans (flat_map blocks_in items ++ stored b.id b) (stored b.id b ++ flat_map blocks_in items) (stored_blocks (insert_entry spot_cmp bs (spot_of b.at) b.id))
           (IsPermutation-append_comm (flat_map blocks_in items) (stored b.id b))
-          (IsPermutation-trans (stored b.id b ++ flat_map blocks_in items) (stored b.id b ++ stored_blocks bs.entries) (stored_blocks (insert_entry spot_cmp bs.entries (spot_of b.at) b.id))
-          (IsPermutation-append_right (stored b.id b) (flat_map blocks_in items) (stored_blocks bs.entries) h.from_blocks) (stored_more (spot_of b.at) b.id bs.entries none)) in
-          subst (λ (l : List BlockAt). IsPermutation l (stored_blocks cs.entries)) (sym all) (subst (λ (l : List (Spot × ℕ)). IsPermutation (flat_map blocks_in items ++ stored b.id b) (stored_blocks l)) (sym entries) p);
-      from_entities = subst (λ (l : List Entity). IsPermutation l (values_of es.entries)) (sym (still entities_in items (block b) refl)) h.from_entities;
+          (IsPermutation-trans (stored b.id b ++ flat_map blocks_in items) (stored b.id b ++ stored_blocks bs) (stored_blocks (insert_entry spot_cmp bs (spot_of b.at) b.id))
+          (IsPermutation-append_right (stored b.id b) (flat_map blocks_in items) (stored_blocks bs) h.from_blocks) (stored_more (spot_of b.at) b.id bs none)) in
+          subst (λ (l : List BlockAt). IsPermutation l (stored_blocks cs)) (sym all) (subst (λ (l : List (Spot × ℕ)). IsPermutation (flat_map blocks_in items ++ stored b.id b) (stored_blocks l)) (sym keeps.entries) p);
+      from_entities = subst (λ (l : List Entity). IsPermutation l (values_of es)) (sym (still entities_in items (block b) refl)) h.from_entities;
       block_stood = λ c. list_any-append (λ s. is_same_item s (block c)) items (block b ∷ []) ∙ ap (λ (x : Bool). list_any (λ s. is_same_item s (block c)) items || (x || false)) (same_spot b c)
-          ∙ found_more (list_any (λ s. is_same_item s (block c)) items) (is_eq (spot_cmp (spot_of b.at) (spot_of c.at))) (get spot_cmp bs (spot_of c.at)) (get spot_cmp cs (spot_of c.at)) b.id (h.block_stood c) (updates.0 (spot_of c.at));
+          ∙ found_more (list_any (λ s. is_same_item s (block c)) items) (is_eq (spot_cmp (spot_of b.at) (spot_of c.at))) (lookup (is_at (spot_cmp (spot_of c.at))) bs) (lookup (is_at (spot_cmp (spot_of c.at))) cs) b.id (h.block_stood c) (keeps.updates (spot_of c.at));
       entity_stood = λ e. block_end (λ s. is_same_item s (entity e)) items (block b) refl ∙ h.entity_stood e;
       own_ids = h.own_ids;
-      spots = up;
+      spots = keeps.ordered;
       ids = h.ids;
     }
 
@@ -105,22 +106,22 @@ and_true false = refl
 same_id : (a b : Entity) → is_same_item (entity a) (entity b) ≡ is_eq (nat_cmp a.id b.id)
 same_id a b = and_true (int_eq (pos a.id) (pos b.id)) ∙ ap is_eq (nat_int a.id b.id)
 
-pub entity_held : (items : List Item) (bs : BTreeMap Spot ℕ) (es fs : BTreeMap ℕ Entity) (e : Entity) → Holds items bs es → is_some (get nat_cmp es e.id) ≡ false → fs.entries ≡ insert_entry nat_cmp es.entries e.id e
-    → Updates nat_cmp es fs e.id (Some e) → IsStrictlySortedBy nat_cmp (keys_of fs.entries) → Holds (items ++ entity e ∷ []) bs fs
-entity_held items bs es fs e h absent entries updates up =
-    let none : lookup (is_at (nat_cmp e.id)) es.entries ≡ None = is_absent (get nat_cmp es e.id) absent in
+pub entity_held : (items : List Item) (bs : List (Spot × ℕ)) (es fs : List (ℕ × Entity)) (e : Entity) (stood : Bool) → Holds items bs es → is_some (lookup (is_at (nat_cmp e.id)) es) ≡ false
+    → Keeps nat_cmp es fs e.id e stood → Holds (items ++ entity e ∷ []) bs fs
+entity_held items bs es fs e stood h absent keeps =
+    let none : lookup (is_at (nat_cmp e.id)) es ≡ None = is_absent (lookup (is_at (nat_cmp e.id)) es) absent in
     record {
-      from_blocks = subst (λ (l : List BlockAt). IsPermutation l (stored_blocks bs.entries)) (sym (still blocks_in items (entity e) refl)) h.from_blocks;
+      from_blocks = subst (λ (l : List BlockAt). IsPermutation l (stored_blocks bs)) (sym (still blocks_in items (entity e) refl)) h.from_blocks;
       from_entities =
           let all : flat_map entities_in (items ++ entity e ∷ []) ≡ flat_map entities_in items ++ e ∷ [] = at_end entities_in items (entity e) (e ∷ []) refl in
-          let p = IsPermutation-push_more (flat_map entities_in items) (values_of es.entries) (values_of (insert_entry nat_cmp es.entries e.id e)) e h.from_entities (values_more nat_cmp e.id e es.entries none) in
-          subst (λ (l : List Entity). IsPermutation l (values_of fs.entries)) (sym all) (subst (λ (l : List (ℕ × Entity)). IsPermutation (flat_map entities_in items ++ e ∷ []) (values_of l)) (sym entries) p);
+          let p = IsPermutation-push_more (flat_map entities_in items) (values_of es) (values_of (insert_entry nat_cmp es e.id e)) e h.from_entities (values_more nat_cmp e.id e es none) in
+          subst (λ (l : List Entity). IsPermutation l (values_of fs)) (sym all) (subst (λ (l : List (ℕ × Entity)). IsPermutation (flat_map entities_in items ++ e ∷ []) (values_of l)) (sym keeps.entries) p);
       block_stood = λ c. block_end (λ s. is_same_item s (block c)) items (entity e) refl ∙ h.block_stood c;
       entity_stood = λ c. list_any-append (λ s. is_same_item s (entity c)) items (entity e ∷ []) ∙ ap (λ (x : Bool). list_any (λ s. is_same_item s (entity c)) items || (x || false)) (same_id e c)
-          ∙ found_more (list_any (λ s. is_same_item s (entity c)) items) (is_eq (nat_cmp e.id c.id)) (get nat_cmp es c.id) (get nat_cmp fs c.id) e (h.entity_stood c) (updates.0 c.id);
-      own_ids = subst (AllByRecursion (λ (x : ℕ × Entity). x.0 ≡ x.1.id)) (sym entries) (all_more (λ x. x.0 ≡ x.1.id) nat_cmp e.id e es.entries none refl h.own_ids);
+          ∙ found_more (list_any (λ s. is_same_item s (entity c)) items) (is_eq (nat_cmp e.id c.id)) (lookup (is_at (nat_cmp c.id)) es) (lookup (is_at (nat_cmp c.id)) fs) e (h.entity_stood c) (keeps.updates c.id);
+      own_ids = subst (AllByRecursion (λ (x : ℕ × Entity). x.0 ≡ x.1.id)) (sym keeps.entries) (all_more (λ x. x.0 ≡ x.1.id) nat_cmp e.id e es none refl h.own_ids);
       spots = h.spots;
-      ids = up;
+      ids = keeps.ordered;
     }
 
 -- ---- a row of a block or an entity
@@ -132,26 +133,28 @@ one_more version grid done t r rows e f =
 twice_at : (version : ℕ) (grid : Grid) (done : List Item) (t : Item) (r : Row) (rows : List Row) → rows ≡ behind version grid done → item_row t ≡ r → is_twice rows r ≡ list_any (λ s. is_same_item s t) done
 twice_at version grid done t r rows e f = (λ i. is_twice (e i) (sym f i)) ∙ twice_is (version_row version) (grid_row grid) done t refl refl
 
-pub block_taken : (version : Option ℕ) (grid : Option Grid) (bs ds : BTreeMap Spot ℕ) (es : BTreeMap ℕ Entity) (cs : List Cell) (twice : Bool) (rows : List Row) → misplaced_in version grid keys.Block ≡ false → IsRow kinds.World (row keys.Block cs)
-    → twice ≡ is_some (get spot_cmp bs (spot_of (block_in_cells 0 cs))) → ds.entries ≡ insert_entry spot_cmp bs.entries (spot_of (block_in_cells 0 cs)) (natural_in 3 cs) → Updates spot_cmp bs ds (spot_of (block_in_cells 0 cs)) (Some (natural_in 3 cs)) → IsStrictlySortedBy spot_cmp (keys_of ds.entries)
+pub block_taken : (version : Option ℕ) (grid : Option Grid) (bs ds : List (Spot × ℕ)) (es : List (ℕ × Entity)) (cs : List Cell) (twice : Bool) (rows : List Row) → misplaced_in version grid keys.Block ≡ false → IsRow kinds.World (row keys.Block cs)
+    → (IsStrictlySortedBy spot_cmp (keys_of bs) → Keeps spot_cmp bs ds (spot_of (block_in_cells 0 cs)) (natural_in 3 cs) twice)
     → StandsFor rows version grid bs es → (twice ≡ is_twice rows (row keys.Block cs)) × (twice ≡ false → StandsFor (rows ++ row keys.Block cs ∷ []) version grid ds es)
-block_taken None grid bs ds es cs twice rows m is t entries updates up s = absurd (let k = m in cc)
-block_taken (Some v) None bs ds es cs twice rows m is t entries updates up s = absurd (let k = m in cc)
-block_taken (Some v) (Some g) bs ds es cs twice rows m is t entries updates up s =
-    let tells : item_row (block (block_of cs)) ≡ row keys.Block cs = (item_tells (row keys.Block cs) is refl).0 in (
-      t ∙ sym (s.2.block_stood (block_of cs)) ∙ sym (twice_at v g s.0 (block (block_of cs)) (row keys.Block cs) rows s.1 tells),
-      λ no. (s.0 ++ block (block_of cs) ∷ [], one_more v g s.0 (block (block_of cs)) (row keys.Block cs) rows s.1 tells, block_held s.0 bs ds es (block_of cs) s.2 (sym t ∙ no) entries updates up),
+block_taken None grid bs ds es cs twice rows m is kept s = absurd (let k = m in cc)
+block_taken (Some v) None bs ds es cs twice rows m is kept s = absurd (let k = m in cc)
+block_taken (Some v) (Some g) bs ds es cs twice rows m is kept s =
+    let tells : item_row (block (block_of cs)) ≡ row keys.Block cs = (item_tells (row keys.Block cs) is refl).0 in
+    let keeps = kept s.2.spots in (
+      keeps.stood ∙ sym (s.2.block_stood (block_of cs)) ∙ sym (twice_at v g s.0 (block (block_of cs)) (row keys.Block cs) rows s.1 tells),
+      λ no. (s.0 ++ block (block_of cs) ∷ [], one_more v g s.0 (block (block_of cs)) (row keys.Block cs) rows s.1 tells, block_held s.0 bs ds es (block_of cs) twice s.2 (sym keeps.stood ∙ no) keeps),
     )
 
-pub entity_taken : (version : Option ℕ) (grid : Option Grid) (bs : BTreeMap Spot ℕ) (es fs : BTreeMap ℕ Entity) (cs : List Cell) (twice : Bool) (rows : List Row) → misplaced_in version grid keys.Entity ≡ false → IsRow kinds.World (row keys.Entity cs)
-    → twice ≡ is_some (get nat_cmp es (natural_in 0 cs)) → fs.entries ≡ insert_entry nat_cmp es.entries (natural_in 0 cs) (entity_of cs) → Updates nat_cmp es fs (natural_in 0 cs) (Some (entity_of cs)) → IsStrictlySortedBy nat_cmp (keys_of fs.entries)
+pub entity_taken : (version : Option ℕ) (grid : Option Grid) (bs : List (Spot × ℕ)) (es fs : List (ℕ × Entity)) (cs : List Cell) (twice : Bool) (rows : List Row) → misplaced_in version grid keys.Entity ≡ false → IsRow kinds.World (row keys.Entity cs)
+    → (IsStrictlySortedBy nat_cmp (keys_of es) → Keeps nat_cmp es fs (natural_in 0 cs) (entity_of cs) twice)
     → StandsFor rows version grid bs es → (twice ≡ is_twice rows (row keys.Entity cs)) × (twice ≡ false → StandsFor (rows ++ row keys.Entity cs ∷ []) version grid bs fs)
-entity_taken None grid bs es fs cs twice rows m is t entries updates up s = absurd (let k = m in cc)
-entity_taken (Some v) None bs es fs cs twice rows m is t entries updates up s = absurd (let k = m in cc)
-entity_taken (Some v) (Some g) bs es fs cs twice rows m is t entries updates up s =
-    let tells : item_row (entity (entity_of cs)) ≡ row keys.Entity cs = (item_tells (row keys.Entity cs) is refl).0 in (
-      t ∙ sym (s.2.entity_stood (entity_of cs)) ∙ sym (twice_at v g s.0 (entity (entity_of cs)) (row keys.Entity cs) rows s.1 tells),
-      λ no. (s.0 ++ entity (entity_of cs) ∷ [], one_more v g s.0 (entity (entity_of cs)) (row keys.Entity cs) rows s.1 tells, entity_held s.0 bs es fs (entity_of cs) s.2 (sym t ∙ no) entries updates up),
+entity_taken None grid bs es fs cs twice rows m is kept s = absurd (let k = m in cc)
+entity_taken (Some v) None bs es fs cs twice rows m is kept s = absurd (let k = m in cc)
+entity_taken (Some v) (Some g) bs es fs cs twice rows m is kept s =
+    let tells : item_row (entity (entity_of cs)) ≡ row keys.Entity cs = (item_tells (row keys.Entity cs) is refl).0 in
+    let keeps = kept s.2.ids in (
+      keeps.stood ∙ sym (s.2.entity_stood (entity_of cs)) ∙ sym (twice_at v g s.0 (entity (entity_of cs)) (row keys.Entity cs) rows s.1 tells),
+      λ no. (s.0 ++ entity (entity_of cs) ∷ [], one_more v g s.0 (entity (entity_of cs)) (row keys.Entity cs) rows s.1 tells, entity_held s.0 bs es fs (entity_of cs) twice s.2 (sym keeps.stood ∙ no) keeps),
     )
 
 -- ---- limits

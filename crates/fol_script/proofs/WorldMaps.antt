@@ -38,10 +38,10 @@ found_at R k x es e h = let s : Some x.1 ≡ None = rw e at h in cc
 not_at : {K X : Type 0} (R : K → K → Ordering) (k : K) (x : K × X) (es : List (K × X)) → R k x.0 ≡ Greater → lookup (is_at (R k)) (x ∷ es) ≡ None → lookup (is_at (R k)) es ≡ None
 not_at R k x es e h = rw e at h
 
-insert_before : {K X : Type 0} (R : K → K → Ordering) (k : K) (v : X) (x : K × X) (es : List (K × X)) → R k x.0 ≡ Less → insert_entry R (x ∷ es) k v ≡ (k, v) ∷ x ∷ es
+pub insert_before : {K X : Type 0} (R : K → K → Ordering) (k : K) (v : X) (x : K × X) (es : List (K × X)) → R k x.0 ≡ Less → insert_entry R (x ∷ es) k v ≡ (k, v) ∷ x ∷ es
 insert_before R k v x es e = rw e refl
 
-insert_behind : {K X : Type 0} (R : K → K → Ordering) (k : K) (v : X) (x : K × X) (es : List (K × X)) → R k x.0 ≡ Greater → insert_entry R (x ∷ es) k v ≡ x ∷ insert_entry R es k v
+pub insert_behind : {K X : Type 0} (R : K → K → Ordering) (k : K) (v : X) (x : K × X) (es : List (K × X)) → R k x.0 ≡ Greater → insert_entry R (x ∷ es) k v ≡ x ∷ insert_entry R es k v
 insert_behind R k v x es e = rw e refl
 
 past : (a x s : List BlockAt) (t : List BlockAt) → IsPermutation (a ++ s) t → IsPermutation (a ++ (x ++ s)) (x ++ t)

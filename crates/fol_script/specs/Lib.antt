@@ -5,6 +5,7 @@ pub mod ScriptBefore
 pub mod ReadText
 pub mod CellText
 pub mod WorldRows
+pub mod Kept
 pub mod WorldMaps
 pub mod WorldBefore
 pub mod Letters

@@ -44,8 +44,16 @@ pub record Going (m : Marks) (ps : List Field) (ws : List (List ℕ)) (now : Lis
 abbrev pub GoesOn : List Field → List ℕ → Marks → Marks → List Cell → List Cell → List Field → Type 0
 GoesOn ps w m n now new next = (ws : List (List ℕ)) (qs : List Field) (us : List (List ℕ)) (old : List Cell) → Going m ps (w ∷ ws) now qs us old → Going n next ws new qs us old
 
+-- one more word of this text, behind which these words are left
+abbrev pub Reads : List Field → List ℕ → Marks → Marks → List Cell → List Cell → List Field → List (List ℕ) → Type 0
+Reads ps text m n now new next rest = (w : List ℕ) × (words text ≡ w ∷ rest) × GoesOn ps w m n now new next
+
 -- the word stands in the place of an action word, and is none
 abbrev pub IsStopped : List Field → List ℕ → Type 0
 IsStopped [] w = ⊥
 IsStopped (fields.Action ∷ ps) w = form_of action_form (key_of w) ≡ None
 IsStopped (fields.Number low high ∷ ps) w = ⊥
+
+-- so does the first word of this text
+abbrev pub IsHalted : List Field → List ℕ → Type 0
+IsHalted ps text = (w : List ℕ) × (rest : List (List ℕ)) × (words text ≡ w ∷ rest) × IsStopped ps w

@@ -4,7 +4,8 @@ use Rattle.std.specs.List.{AllByRecursion, list_any, flat_map}
 use Rattle.std.specs.Ordering.{int_cmp, nat_cmp, ordering_then}
 use Rattle.std.specs.declared.cmp.Ordering.{Ordering}
 use Rattle.std.specs.List.Sorted.{IsPermutation, IsStrictlySortedBy}
-use Rattle.std.specs.BTreeMap.{BTreeMap, get, keys}
+use Rattle.std.specs.BTreeMap.{is_at}
+use Rattle.std.specs.Map.{lookup, keys_of}
 use Rattle.fol_model.specs.declared.openings.BlockAt.{BlockAt}
 use Rattle.fol_model.specs.declared.entities.Entity.{Entity}
 use Rattle.fol_model.specs.declared.grids.Grid.{Grid}
@@ -19,6 +20,7 @@ use Rattle.fol_text_laws.specs.SameItem.{is_same_item}
 use Rattle.fol_script.specs.declared.world_lines.Spot.{Spot}
 use Rattle.fol_script.specs.declared.world_lines.WorldBefore.{WorldBefore}
 use Rattle.fol_script.specs.WorldRows.{version_row, behind}
+use Rattle.fol_script.specs.Kept.{entries_in}
 use Rattle.fol_script.specs.WorldMaps.{spot_of, stored_blocks, values_of}
 use Rattle.fol_script.specs.ReadText.{all_rows}
 
@@ -32,17 +34,17 @@ misplaced_in None grid key = not (is_key keys_of_lines.World key)
 misplaced_in (Some version) None key = not (is_key keys_of_lines.Grid key)
 misplaced_in (Some version) (Some grid) key = is_key keys_of_lines.World key || is_key keys_of_lines.Grid key
 
--- the maps hold what these block and entity lines gave
-pub record Holds (items : List Item) (blocks : BTreeMap Spot ℕ) (entities : BTreeMap ℕ Entity) : Type 0 where
-  pub from_blocks : IsPermutation (flat_map blocks_in items) (stored_blocks blocks.entries)
-  pub from_entities : IsPermutation (flat_map entities_in items) (values_of entities.entries)
-  pub block_stood : (b : BlockAt) → list_any (λ s. is_same_item s (block b)) items ≡ is_some (get spot_cmp blocks (spot_of b.at))
-  pub entity_stood : (e : Entity) → list_any (λ s. is_same_item s (entity e)) items ≡ is_some (get nat_cmp entities e.id)
-  pub own_ids : AllByRecursion (λ e. e.0 ≡ e.1.id) entities.entries
-  pub spots : IsStrictlySortedBy spot_cmp (keys blocks)
-  pub ids : IsStrictlySortedBy nat_cmp (keys entities)
+-- the entries hold what these block and entity lines gave
+pub record Holds (items : List Item) (blocks : List (Spot × ℕ)) (entities : List (ℕ × Entity)) : Type 0 where
+  pub from_blocks : IsPermutation (flat_map blocks_in items) (stored_blocks blocks)
+  pub from_entities : IsPermutation (flat_map entities_in items) (values_of entities)
+  pub block_stood : (b : BlockAt) → list_any (λ s. is_same_item s (block b)) items ≡ is_some (lookup (is_at (spot_cmp (spot_of b.at))) blocks)
+  pub entity_stood : (e : Entity) → list_any (λ s. is_same_item s (entity e)) items ≡ is_some (lookup (is_at (nat_cmp e.id)) entities)
+  pub own_ids : AllByRecursion (λ e. e.0 ≡ e.1.id) entities
+  pub spots : IsStrictlySortedBy spot_cmp (keys_of blocks)
+  pub ids : IsStrictlySortedBy nat_cmp (keys_of entities)
 
-abbrev pub StandsFor : List Row → Option ℕ → Option Grid → BTreeMap Spot ℕ → BTreeMap ℕ Entity → Type 0
+abbrev pub StandsFor : List Row → Option ℕ → Option Grid → List (Spot × ℕ) → List (ℕ × Entity) → Type 0
 StandsFor rows None None blocks entities = (rows ≡ []) × Holds [] blocks entities
 StandsFor rows None (Some grid) blocks entities = ⊥
 StandsFor rows (Some version) None blocks entities = (rows ≡ version_row version ∷ []) × Holds [] blocks entities
@@ -50,7 +52,7 @@ StandsFor rows (Some version) (Some grid) blocks entities = (items : List Item) 
 
 -- what is kept stands for these rows
 abbrev pub Stands : List Row → WorldBefore → Type 0
-Stands rows b = StandsFor rows b.version b.grid b.blocks b.entities
+Stands rows b = StandsFor rows b.version b.grid (entries_in b.blocks) (entries_in b.entities)
 
 -- one more row, behind any rows that the reader stands for: whether it stood before, and what is kept if not
 abbrev pub TakesRow : Row → WorldBefore → WorldBefore → Bool → Type 0

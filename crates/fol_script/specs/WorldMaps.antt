@@ -1,4 +1,4 @@
--- The maps of a world's reader as lists.
+-- The blocks and entities that a world's reader kept, as lists.
 use Rattle.std.specs.Prelude.{ℕ, Bool, nat_lt, List, map, filter}
 use Rattle.fol_model.specs.declared.places.BlockPos.{BlockPos}
 use Rattle.fol_model.specs.declared.openings.BlockAt.{BlockAt}

@@ -1,17 +1,16 @@
 //! The words behind a line word, each in its place.
 
-ghost use Rattle.std.specs.Prelude.{◌≡◌, ◌==◌, ◌||◌, ◌<◌, ◌≤◌, ◌≤ℤ◌, pos, negsuc, cond, ◌++◌, List, [], ◌∷◌, length, true, false, not, map, if◌then◌else◌, IfOk, OnOk, Some, None, IfSome, IfNone};
+ghost use Rattle.std.specs.Prelude.{◌≡◌, ◌==◌, ◌||◌, ◌<◌, ◌≤◌, cond, ◌++◌, List, [], ◌∷◌, length, true, false, not, map, if◌then◌else◌, IfOk, OnOk, Some, None, IfSome, IfNone};
 ghost use Rattle.std.specs.List.{list_any, count_by};
 ghost use Rattle.fol_model.specs.TextLines.{words};
 ghost use Rattle.fol_model.specs.TextForms as form;
 ghost use Rattle.fol_model.specs.TextCauses as spec;
 ghost use Rattle.fol_text_laws.specs.FieldLimits.{InLimits};
-ghost use Rattle.fol_script.specs.Marks.{Tells, GoesOn, IsStopped, left, noted};
-ghost use Rattle.fol_model.specs.TextNumbers.{reading};
+ghost use Rattle.fol_script.specs.Marks.{Tells, Reads, IsHalted, left, noted};
 
 use crate::forms::action_of;
 use crate::lines::next_word;
-use crate::numbers::read_number;
+use crate::numbers::next_number;
 use fol_model::{Cell, Field, Keyword, Reading};
 use std::alloc::AllocError;
 
@@ -41,14 +40,12 @@ fn posts(key: Keyword) -> u64
     }
 }
 
-/// The cell of a word in the place of a number.
-fn number_cell(marks: &mut Marks, word: &[u8], low: i64, high: i64) -> Cell
-    requires low { negsuc 9999999998 ≤ℤ low }
-    requires high { high ≤ℤ pos 9999999999 }
-    ensures cell { result ≡ Cell.Number (spec.number_or (reading low high word.now)) }
-    ensures marks { marks.new ≡ noted marks.old (reading low high word.now) }
+/// The cell of a word that was read in the place of a number.
+fn number_cell(marks: &mut Marks, number: Reading) -> Cell
+    ensures cell { result ≡ Cell.Number (spec.number_or number) }
+    ensures marks { marks.new ≡ noted marks.old number }
 {
-    match read_number(word, low, high) {
+    match number {
         Reading::NoNumber => {
             marks.no_number = true;
             Cell::Number(0)
@@ -61,35 +58,40 @@ fn number_cell(marks: &mut Marks, word: &[u8], low: i64, high: i64) -> Cell
     }
 }
 
-/// Reads a word in the first of these places, and gives the places after it; none where no action word stands.
-fn read_cell<'p>(
+/// Reads the first word of a text in the first of these places. Gives the places after it, the text behind it and whether there
+/// is one; none where no action word stands.
+fn read_cell<'p, 't>(
     places: &'p [Field],
-    word: &[u8],
+    text: &'t [u8],
     marks: &mut Marks,
     cells: &mut Vec<Cell>,
-) -> Result<Option<&'p [Field]>, AllocError>
+) -> Result<Option<(&'p [Field], &'t [u8], bool)>, AllocError>
     requires some { 0 < length places.now }
     requires near { InLimits places.now }
     requires few { marks.old.nested ≤ length cells.old.items }
     ensures on { IfOk result (λ r.
-        IfSome r (λ next. GoesOn places.now word.now marks.old marks.new cells.old.items
-        cells.new.items next.now)) }
-    ensures stopped { IfOk result (λ r. IfNone r (IsStopped places.now word.now
+        IfSome r (λ next. Reads places.now text.now marks.old marks.new cells.old.items
+        cells.new.items next.0.now (left next.2 next.1.now))) }
+    ensures shorter { IfOk result (λ r.
+        IfSome r (λ next. next.2 ≡ true → length next.1.now < length text.now)) }
+    ensures stopped { IfOk result (λ r. IfNone r (IsHalted places.now text.now
         × (marks.new ≡ marks.old))) }
 {
     match places[0] {
         Field::Action => {
+            let (word, rest, more) = next_word(text);
             let Some((key, next)) = action_of(word) else {
                 return Ok(None);
             };
             cells.push(Cell::Word(key))?;
             marks.nested += posts(key);
-            Ok(Some(next))
+            Ok(Some((next, rest, more)))
         }
         Field::Number { low, high } => {
-            let cell = number_cell(marks, word, low, high);
+            let (number, rest, more) = next_number(text, low, high);
+            let cell = number_cell(marks, number);
             cells.push(cell)?;
-            Ok(Some(&places[1..]))
+            Ok(Some((&places[1..], rest, more)))
         }
     }
 }
@@ -123,14 +125,11 @@ pub fn read_cells(
     let mut rest = text;
     let mut more = some;
     while more && !places.is_empty() {
-        let (word, after, goes_on) = next_word(rest);
-        match read_cell(places, word, &mut marks, cells)? {
-            None => {
-                marks.no_action = true;
-                return Ok(marks);
-            }
-            Some(next) => places = next,
-        }
+        let Some((next, after, goes_on)) = read_cell(places, rest, &mut marks, cells)? else {
+            marks.no_action = true;
+            return Ok(marks);
+        };
+        places = next;
         rest = after;
         more = goes_on;
     }

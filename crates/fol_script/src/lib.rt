@@ -7,7 +7,7 @@
 //!
 //! From the bottom up: `lines` cuts, `numbers` reads numbers of any length, `forms` says what stands behind a word, `cells`
 //! and `judge` read a line by itself; `script_lines` and `world_lines` see it among the lines before it; `scripts` and `worlds`
-//! read whole texts, over `commands` and `actions`, and `world_blocks`. The printers stand over `value_cells` and `printing`.
+//! read whole texts, over `commands` and `actions`, and `kept` and `world_blocks`. The printers stand over `value_cells` and `printing`.
 //! The laws behind them are those of `fol_text_laws`. The crate serves the program's top call.
 #![tactic(auto)]
 
@@ -17,6 +17,7 @@ mod commands;
 mod errors;
 mod forms;
 mod judge;
+mod kept;
 mod lines;
 mod numbers;
 mod printing;

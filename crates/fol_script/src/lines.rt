@@ -4,16 +4,29 @@ ghost use Rattle.std.specs.Prelude.{◌≡◌, ◌<◌, ◌≤◌, ◌+◌, ◌=
 ghost use Rattle.std.specs.List.{position_or_len};
 ghost use Rattle.fol_model.specs.TextLines.{lines, words, is_text, is_skipped};
 
-/// How many bytes come before the first of this kind.
-fn up_to(text: &[u8], end: u8) -> usize
-    ensures place { result ≡ position_or_len (λ b. b == end) text.now }
+use memchr::memchr;
+
+/// How many bytes come before the first space.
+fn word_len(text: &[u8]) -> usize
+    ensures place { result ≡ position_or_len (λ b. b == 32) text.now }
     ensures within { result ≤ length text.now }
 {
     let mut n = 0;
-    while n < text.len() && text[n] != end {
+    while n < text.len() && text[n] != b' ' {
         n += 1;
     }
     n
+}
+
+/// How many bytes come before the first line feed.
+fn line_len(text: &[u8]) -> usize
+    ensures place { result ≡ position_or_len (λ b. b == 10) text.now }
+    ensures within { result ≤ length text.now }
+{
+    match memchr(b'\n', text) {
+        Some(n) => n,
+        None => text.len(),
+    }
 }
 
 /// The front up to the first space, what comes after it, and whether there is one.
@@ -21,7 +34,7 @@ pub fn next_word(text: &[u8]) -> (&[u8], &[u8], bool)
     ensures words { words text.now ≡ result.0.now ∷ (if result.2 then words result.1.now else []) }
     ensures shorter { result.2 ≡ true → length result.1.now < length text.now }
 {
-    let n = up_to(text, b' ');
+    let n = word_len(text);
     if n < text.len() {
         (&text[..n], &text[n + 1..], true)
     } else {
@@ -35,7 +48,7 @@ pub fn next_line(text: &[u8]) -> (&[u8], &[u8])
     ensures lines { lines text.now ≡ result.0.now ∷ lines result.1.now }
     ensures shorter { length result.1.now < length text.now }
 {
-    let n = up_to(text, b'\n');
+    let n = line_len(text);
     if n < text.len() {
         (&text[..n], &text[n + 1..])
     } else {

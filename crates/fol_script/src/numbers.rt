@@ -1,11 +1,13 @@
 //! Words in the place of numbers.
 
-ghost use Rattle.std.specs.Prelude.{◌≡◌, ◌≤ℤ◌, ◌<ℤ◌, pos, negsuc, neg_ℤ, ◌+◌, ◌*◌, ◌-◌, ◌<◌, ◌≤◌, ℕ, length, take, Option, Some, None, MatchOption, true, false};
+ghost use Rattle.std.specs.Prelude.{◌≡◌, ◌≤ℤ◌, ◌<ℤ◌, pos, negsuc, neg_ℤ, ◌+◌, ◌*◌, ◌-◌, ◌<◌, ◌≤◌, ℕ, List, [], ◌∷◌, if◌then◌else◌, length, take, Option, Some, None, MatchOption, true, false};
 ghost use Rattle.std.specs.List.{position_or_len};
 ghost use Rattle.std.specs.Str.Parse.{digits_value};
 ghost use Rattle.fol_script.specs.Letters.{is_no_digit};
+ghost use Rattle.fol_model.specs.TextLines.{words};
 ghost use Rattle.fol_model.specs.TextNumbers as spec;
 
+use crate::lines::next_word;
 use fol_model::Reading;
 
 /// No range of a text has a number so far from 0.
@@ -86,6 +88,42 @@ pub fn read_number(word: &[u8], low: i64, high: i64) -> Reading
                 read_positive(word, low, high)
             }
         }
+    }
+}
+
+/// The first word of a text in the place of a number of this range, what comes after the space behind it, and whether there is
+/// one. Digits alone are read as they are looked through for their end; any other word is cut first.
+pub fn next_number(text: &[u8], low: i64, high: i64) -> (Reading, &[u8], bool)
+    requires low { negsuc 9999999998 ≤ℤ low }
+    requires high { high ≤ℤ pos 9999999999 }
+    ensures number { (w : List ℕ) × (words text.now
+        ≡ w ∷ (if result.2 then words result.1.now else []))
+        × (result.0 ≡ spec.reading low high w) }
+    ensures shorter { result.2 ≡ true → length result.1.now < length text.now }
+{
+    let (digits, value) = front_digits(text);
+    if digits == text.len() {
+        return (read_digits(text, value, low, high), text, false);
+    }
+    if text[digits] == b' ' {
+        let number = read_digits(&text[..digits], value, low, high);
+        return (number, &text[digits + 1..], true);
+    }
+    let (word, rest, more) = next_word(text);
+    (read_number(word, low, high), rest, more)
+}
+
+/// A word of digits alone, which write this number, or a far one in place of a far one. There may be none.
+fn read_digits(word: &[u8], value: u64, low: i64, high: i64) -> Reading
+    requires high { high ≤ℤ pos 9999999999 }
+    requires digits { length word.now ≡ position_or_len is_no_digit word.now }
+    requires value { spec.Near value (digits_value 10 word.now) }
+    ensures { result ≡ spec.reading low high word.now }
+{
+    if is_spelled(word, word.len()) {
+        bounded(value as i64, low, high)
+    } else {
+        Reading::NoNumber
     }
 }
 

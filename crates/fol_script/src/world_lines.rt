@@ -1,8 +1,9 @@
 //! One line of a world, among the lines before it.
 
-ghost use Rattle.std.specs.Prelude.{◌≡◌, ◌<◌, ◌≤◌, ◌^◌, List, [], true, false, Option, Some, None, IfOk, IsSome, is_some};
+ghost use Rattle.std.specs.Prelude.{◌≡◌, ◌<◌, ◌≤◌, ◌^◌, List, [], true, false, Option, Some, None, IfOk};
 ghost use Rattle.std.specs.Ordering.{nat_cmp};
-ghost use Rattle.std.specs.BTreeMap.{get, insert_entry, Updates, IsOrdered};
+ghost use Rattle.std.specs.List.Sorted.{IsStrictlySortedBy};
+ghost use Rattle.std.specs.Map.{keys_of};
 ghost use Rattle.fol_model.specs.declared.words.TextKind.TheVariants as kinds;
 ghost use Rattle.fol_model.specs.Geometry.{is_block};
 ghost use Rattle.fol_model.specs.GridNumbers.{IsGrid};
@@ -10,14 +11,15 @@ ghost use Rattle.fol_model.specs.Limits.{is_entity};
 ghost use Rattle.fol_model.specs.TextRows.{IsRow};
 ghost use Rattle.fol_text_laws.specs.RowValues as tells;
 ghost use Rattle.fol_script.specs.WorldBefore.{TakesRow, TakesLine, misplaced_in, spot_cmp};
+ghost use Rattle.fol_script.specs.Kept.{entries_in, Keeps};
 ghost use Rattle.fol_script.specs.WorldMaps.{spot_of};
 
 use crate::actions::{block_at, coordinate_at, natural_at};
 use crate::judge::{Judged, read_line};
+use crate::kept::Kept;
 use crate::lines::is_skipped_line;
 use fol_model::{BlockPos, Cause, Cell, Entity, Grid, Keyword, TextKind};
 use std::alloc::AllocError;
-use std::collections::BTreeMap;
 
 /// The place of a block, in the order of x, then of y, then of z.
 #[derive(Clone, Copy, PartialEq, Eq, PartialOrd, Ord)]
@@ -33,8 +35,8 @@ pub struct Spot {
 pub struct WorldBefore {
     pub version: Option<u8>,
     pub grid: Option<Grid>,
-    pub blocks: BTreeMap<Spot, u16>,
-    pub entities: BTreeMap<u32, Entity>,
+    pub blocks: Kept<Spot, u16>,
+    pub entities: Kept<u32, Entity>,
 }
 
 /// The place of a block as a key.
@@ -96,38 +98,28 @@ fn entity_at(cells: &[Cell]) -> Entity
 }
 
 /// Keeps the block of a line, and tells whether an earlier line was of the same place.
-fn keep_block(cells: &[Cell], blocks: &mut BTreeMap<Spot, u16>) -> Result<bool, AllocError>
+fn keep_block(cells: &[Cell], blocks: &mut Kept<Spot, u16>) -> Result<bool, AllocError>
     requires within { is_block (tells.block_in_cells 0 cells.now) ≡ true }
     requires id { tells.natural_in 3 cells.now < 2 ^ 16 }
-    ensures stood { IfOk result (λ b.
-        b ≡ is_some (get spot_cmp blocks.old (spot_of (tells.block_in_cells 0 cells.now)))) }
-    ensures entries { IfOk result (λ b. blocks.new.entries
-        ≡ insert_entry spot_cmp blocks.old.entries (spot_of (tells.block_in_cells 0 cells.now))
-        (tells.natural_in 3 cells.now)) }
-    ensures updates { IfOk result (λ b. Updates spot_cmp blocks.old blocks.new
-        (spot_of (tells.block_in_cells 0 cells.now)) (Some (tells.natural_in 3 cells.now))) }
-    ensures ordered { IsOrdered spot_cmp blocks.new }
+    ensures { IfOk result (λ stood. IsStrictlySortedBy spot_cmp (keys_of (entries_in blocks.old))
+        → Keeps spot_cmp (entries_in blocks.old) (entries_in blocks.new)
+        (spot_of (tells.block_in_cells 0 cells.now)) (tells.natural_in 3 cells.now) stood) }
 {
     let id = natural_at(cells, 3) as u16;
-    let earlier = blocks.insert(spot_at(block_at(cells, 0)), id)?;
-    Ok(earlier.is_some())
+    let stood = blocks.keep(spot_at(block_at(cells, 0)), id)?;
+    Ok(stood)
 }
 
 /// Keeps the entity of a line, and tells whether an earlier line was of the same id.
-fn keep_entity(cells: &[Cell], entities: &mut BTreeMap<u32, Entity>) -> Result<bool, AllocError>
+fn keep_entity(cells: &[Cell], entities: &mut Kept<u32, Entity>) -> Result<bool, AllocError>
     requires { is_entity (tells.entity_of cells.now) ≡ true }
-    ensures stood { IfOk result (λ b.
-        b ≡ is_some (get nat_cmp entities.old (tells.natural_in 0 cells.now))) }
-    ensures entries { IfOk result (λ b. entities.new.entries
-        ≡ insert_entry nat_cmp entities.old.entries (tells.natural_in 0 cells.now)
-        (tells.entity_of cells.now)) }
-    ensures updates { IfOk result (λ b. Updates nat_cmp entities.old entities.new
-        (tells.natural_in 0 cells.now) (Some (tells.entity_of cells.now))) }
-    ensures ordered { IsOrdered nat_cmp entities.new }
+    ensures { IfOk result (λ stood. IsStrictlySortedBy nat_cmp (keys_of (entries_in entities.old))
+        → Keeps nat_cmp (entries_in entities.old) (entries_in entities.new)
+        (tells.natural_in 0 cells.now) (tells.entity_of cells.now) stood) }
 {
     let entity = entity_at(cells);
-    let earlier = entities.insert(entity.id, entity)?;
-    Ok(earlier.is_some())
+    let stood = entities.keep(entity.id, entity)?;
+    Ok(stood)
 }
 
 /// Keeps what a line tells that is good so far, and tells whether it stood before.

@@ -7,15 +7,16 @@ ghost use Rattle.fol_model.specs.Texts.{IsWorldText};
 ghost use Rattle.fol_script.specs.ReadText.{IsErrorAt};
 ghost use Rattle.fol_model.specs.OpeningParts.{IsOpening};
 ghost use Rattle.fol_script.specs.WorldBefore.{IsRead};
+ghost use Rattle.fol_script.specs.Kept.{entries_in};
 ghost use Rattle.fol_script.specs.WorldMaps.{stored_blocks, values_of};
 
 use crate::errors::ReadError;
+use crate::kept::Kept;
 use crate::lines::next_line;
 use crate::world_blocks::{blocks_of, entities_of};
 use crate::world_lines::{Spot, WorldBefore, take_line};
 use fol_model::{Cause, Entity, Grid, Opening, Sequence};
 use std::alloc::{AllocError, Global};
-use std::collections::BTreeMap;
 
 /// What all lines of a world text tell, or its first bad line but for a missing one.
 fn read_lines(alloc: Global, bytes: &[u8]) -> Result<(WorldBefore, u64), ReadError>
@@ -25,8 +26,8 @@ fn read_lines(alloc: Global, bytes: &[u8]) -> Result<(WorldBefore, u64), ReadErr
     let mut before = WorldBefore {
         version: None,
         grid: None,
-        blocks: BTreeMap::new(alloc),
-        entities: BTreeMap::new(alloc),
+        blocks: Kept::new(alloc),
+        entities: Kept::new(alloc),
     };
     let mut cells = Vec::new(alloc);
     let mut rest = bytes;
@@ -49,20 +50,20 @@ fn make_opening(
     alloc: Global,
     version: u8,
     grid: Grid,
-    blocks: BTreeMap<Spot, u16>,
-    entities: BTreeMap<u32, Entity>,
+    blocks: Kept<Spot, u16>,
+    entities: Kept<u32, Entity>,
 ) -> Result<Opening, AllocError>
     requires { IsOpening (record {
       version = version;
       grid = grid;
-      blocks = stored_blocks blocks.entries;
-      entities = values_of entities.entries;
+      blocks = stored_blocks (entries_in blocks);
+      entities = values_of (entries_in entities);
     }) }
     ensures { IfOk result (λ o. o ≡ record {
       version = version;
       grid = grid;
-      blocks = stored_blocks blocks.entries;
-      entities = values_of entities.entries;
+      blocks = stored_blocks (entries_in blocks);
+      entities = values_of (entries_in entities);
     }) }
 {
     let blocks = blocks_of(alloc, blocks)?;
@@ -78,8 +79,9 @@ fn make_opening(
 /// The opening that this text is of.
 ///
 /// Gives an opening exactly where the text is that of one, and then that one; else the first bad line and its cause. Returns
-/// `NoMemory` where memory runs out, whatever the text. The time is linear in the length of the text, but for the look-up
-/// of each block and entity among the earlier ones, which is logarithmic in their number.
+/// `NoMemory` where memory runs out, whatever the text. The time is linear in the length of the text where blocks and entities
+/// come in order. From the first block that is out of order each is looked up among the earlier ones, in a time that is
+/// logarithmic in their number; likewise entities.
 pub fn read_world(alloc: Global, bytes: &[u8]) -> Result<Opening, ReadError>
     ensures { MatchResult result (λ o. IsWorldText bytes.now o) (λ e.
         IsErrorAt (first_bad kinds.World bytes.now) e) }

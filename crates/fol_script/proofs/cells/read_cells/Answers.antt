@@ -6,9 +6,10 @@ use Rattle.fol_script.proofs.cells.read_cells.Goals.{then-loop-more-test+else-no
 
 pub loop-more-preserved : goal.loop-more-preserved
 loop-more-preserved c =
-    let on = rw c.in-Some.is at c.in_ok-read_cell.ensures.on in
-    let e : left c.loop-more.more c.loop-more.rest.now ≡ c.next_word-goes_on.result.0.now ∷ left c.next_word-goes_on.result.2 c.next_word-goes_on.result.1.now = rw c.loop-more-test.true c.next_word-goes_on.ensures.words in
-    on (left c.next_word-goes_on.result.2 c.next_word-goes_on.result.1.now) c.args.form.now (left c.args.some c.args.text.now) c.args.cells.now.items
+    let on = rw c.in-Some.is at c.in_ok-next.ensures.on in
+    let after = left c.in-Some.goes_on c.in-Some.after.now in
+    let e : left c.loop-more.more c.loop-more.rest.now ≡ on.0 ∷ after = rw c.loop-more-test.true on.1 in
+    on.2 after c.args.form.now (left c.args.some c.args.text.now) c.args.cells.now.items
     (subst (λ (ws : List (List ℕ)). Going c.loop-more.marks c.loop-more.places.now ws c.loop-more.cells.items c.args.form.now (left c.args.some c.args.text.now) c.args.cells.now.items) e c.loop-more.invariant)
 
 pub returns : goal.returns

@@ -4,7 +4,7 @@ use Rattle.fol_script.proofs.Cuts.{first_word, one_word}
 use Rattle.fol_script.proofs.lines.next_word.Goals as goal
 
 pub returns-then-n-text-clause-words : goal.returns-then-n-text-clause-words
-returns-then-n-text-clause-words c = let e = first_word c.args.text.now c.up_to-n.result c.if-n-text.true c.up_to-n.ensures.place in grind (arith, common_steps, e)
+returns-then-n-text-clause-words c = let e = first_word c.args.text.now c.word_len-n.result c.if-n-text.true c.word_len-n.ensures.place in grind (arith, common_steps, e)
 
 pub returns-else-n-text-clause-words : goal.returns-else-n-text-clause-words
-returns-else-n-text-clause-words c = one_word c.args.text.now (omega (arith, c.up_to-n.ensures.place, c.if-n-text.false))
+returns-else-n-text-clause-words c = one_word c.args.text.now (omega (arith, c.word_len-n.ensures.place, c.if-n-text.false))

@@ -17,10 +17,10 @@ returns-in-Grid c = grid_arm c.args.key c.args.cells.now c.args.before.now c.gri
 pub returns-in_ok-twice-in-Block : goal.returns-in_ok-twice-in-Block
 returns-in_ok-twice-in-Block c =
     let e = c.in_ok-twice-in-Block.ensures in
-    block_arm c.args.key c.args.cells.now c.args.before.now c.keep_block.new.blocks c.in_ok-twice-in-Block.twice c.in-Block.is c.requires.order c.requires.row e.stood e.entries e.updates e.ordered
+    block_arm c.args.key c.args.cells.now c.args.before.now c.keep_block.new.blocks c.in_ok-twice-in-Block.twice c.in-Block.is c.requires.order c.requires.row e
 
 pub returns-in_ok-twice-in_default : goal.returns-in_ok-twice-in_default
 returns-in_ok-twice-in_default c =
     let e = c.in_ok-twice-in_default.ensures in
     let k = entity_key c.args.key c.requires.row.is_line_word c.in_default.not-World c.in_default.not-Grid c.in_default.not-Block in
-    entity_arm c.args.key c.args.cells.now c.args.before.now c.keep_entity.new.entities c.in_ok-twice-in_default.twice k c.requires.order c.requires.row e.stood e.entries e.updates e.ordered
+    entity_arm c.args.key c.args.cells.now c.args.before.now c.keep_entity.new.entities c.in_ok-twice-in_default.twice k c.requires.order c.requires.row e
