@@ -17,7 +17,7 @@ use Rattle.fol_data.specs.Rests.{rests_of}
 use Rattle.fol_data.specs.declared.region_data.RegionData.{RegionData}
 use Rattle.fol_bags.specs.Things.{Key, of_block, of_entity, of_task, Thing, things, some_number, chunk_at}
 use Rattle.fol_bags.specs.Clear.{HasNoTask, IsClearOf}
-use Rattle.fol_bags.proofs.Recorded.{single-self, same_chunk-swap}
+use Rattle.fol_keyed.proofs.Recorded.{single-self, same_chunk-swap}
 
 -- the first is not counted, and none of the others is
 none_counted : {X : Type 0} (p : X → Bool) (x : X) (xs : List X) → count_by p (x ∷ xs) ≡ 0 → (p x ≡ false) × (count_by p xs ≡ 0)

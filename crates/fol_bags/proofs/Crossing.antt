@@ -18,10 +18,10 @@ use Rattle.std.specs.declared.hash.BuildHasher as builder
 use Rattle.std.specs.declared.hash.Hash as hash
 use Rattle.std.specs.declared.hash.Hasher as hasher
 use Rattle.fol_data.proofs.Crossing.{RegionData-send}
+use Rattle.fol_keyed.proofs.Crossing.{ChunkSet-send}
 use Rattle.fol_model.proofs.Crossing.{ChunkPos-send, Sequence-send}
 use Rattle.fol_bags.specs.contracts.bags.Bags as bags
 use Rattle.fol_bags.specs.contracts.kept.Kept as kept
-use Rattle.fol_bags.specs.contracts.members.Members as members
 use Rattle.fol_bags.specs.contracts.places.Place as place
 use Rattle.fol_bags.specs.contracts.places.Places as places
 use Rattle.fol_bags.specs.contracts.places.Places.TheInside as inside
@@ -31,11 +31,8 @@ use Rattle.fol_bags.specs.contracts.slot.Slot as slot
 Recalled-send : IsSend (recalled.the_field).row
 Recalled-send = search crosses depth 14
 
-Members-send : IsSend (members.the_field).row
-Members-send = search (sendable, Vec-send, ChunkPos-send) depth 14
-
 Slot-send : IsSend (slot.the_field).row
-Slot-send = search (sendable, RegionData-send, Recalled-send, Members-send, Sequence-send, ChunkPos-send) depth 14
+Slot-send = search (sendable, RegionData-send, Recalled-send, ChunkSet-send, Sequence-send, ChunkPos-send) depth 14
 
 Kept-send : IsSend (kept.the_field).row
 Kept-send = search (sendable, Box-send, Slot-send) depth 14

@@ -1,5 +1,3 @@
-pub mod Answers
-pub mod Recorded
 pub mod PlaceSteps
 pub mod Homes
 pub mod ThingSteps
@@ -8,6 +6,4 @@ pub mod NoTask
 pub mod Counting
 pub mod OpenBags
 pub mod Ordered
-pub mod OneMore
 pub mod Crossing
-pub mod Pending

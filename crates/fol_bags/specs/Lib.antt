@@ -5,4 +5,4 @@ pub mod Places
 pub mod Slots
 pub mod KeptLends
 pub mod BagLends
-pub mod Members
+pub mod Unions

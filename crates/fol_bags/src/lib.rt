@@ -2,7 +2,7 @@
 //!
 //! A bag has the data of a region, with the chunks for which it was gathered; `Bags` holds them by the ids of the regions, each behind a
 //! pointer. A spot has what lies on one chunk and in no bag. `Places` names the spot and the bag of each chunk. `slots` has what is done
-//! to one bag or to two, `spots` what is done to a spot, and `members` what becomes of a list of chunks.
+//! to one bag or to two, `spots` what is done to a spot, and `union` the chunks of two lists.
 //!
 //! Each call promises what it does to its bag or spot, and that all others stay as they are. What moves from one to another is exactly
 //! what lies on the chunks, with its rests; if memory runs out, nothing has moved. A bag with nothing in it that no region has any more
@@ -11,7 +11,6 @@
 
 mod bags;
 mod kept;
-pub mod members;
 mod places;
 mod recalled;
 mod shift;
@@ -19,6 +18,7 @@ mod slot;
 pub mod slots;
 pub mod spots;
 mod taken;
+pub mod union;
 mod waiting;
 
 pub use bags::Bags;

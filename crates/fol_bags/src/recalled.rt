@@ -2,14 +2,14 @@
 
 ghost use Rattle.std.specs.Prelude.{◌≡◌};
 
-use crate::members::Members;
+use fol_keyed::ChunkSet;
 use std::marker::Model;
 use std::snapshot::Snapshot;
 
 /// The chunks of a list as they were once, for contracts alone: it takes no memory, and no chunk is copied for it.
 #[derive(Drop)]
 pub struct Recalled {
-    list: Snapshot<Members>,
+    list: Snapshot<ChunkSet>,
 }
 
 impl Model for Recalled {
@@ -23,7 +23,7 @@ impl Model for Recalled {
 
 impl Recalled {
     /// The chunks that the list has now.
-    pub fn of(list: &Members) -> Recalled
+    pub fn of(list: &ChunkSet) -> Recalled
         ensures { result ≡ list.now }
     {
         Recalled {

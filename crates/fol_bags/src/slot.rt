@@ -10,9 +10,9 @@ ghost use Rattle.fol_bags.specs.Slots.{no_slot};
 ghost use Rattle.fol_bags.specs.Moves.{SameThings};
 ghost use Rattle.fol_bags.specs.Things.{Key, no_data, things, IsTimely};
 
-use crate::members::Members;
 use crate::recalled::Recalled;
 use fol_data::RegionData;
+use fol_keyed::ChunkSet;
 use fol_model::{ChunkPos, Sequence};
 use std::alloc::{AllocError, Global};
 
@@ -32,7 +32,7 @@ pub struct Slot {
     /// The chunks for which it was gathered, as contracts see them while a worker has the bag too.
     pub chunks: Recalled,
     /// These chunks, in order, unless a worker has the bag and them.
-    pub list: Members,
+    pub list: ChunkSet,
     /// Chunks in whose spots something may lie; of a listed bag, all such ones.
     pub touched: Sequence<ChunkPos>,
     /// Chunks that may have come or left while a worker had the bag.
@@ -51,7 +51,7 @@ impl Slot {
           calm = true;
         } }
     {
-        let list = Members::new(alloc);
+        let list = ChunkSet::new(alloc);
         Slot {
             body: new_data(alloc, tick, owed),
             here: true,

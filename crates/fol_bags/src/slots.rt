@@ -21,6 +21,7 @@ use crate::shift::{shift, shift_contents};
 use crate::slot::{Slot, new_data};
 use crate::{Taken, waiting};
 use fol_data::RegionData;
+use fol_keyed::ChunkSet;
 use fol_model::{ChunkPos, Sequence};
 use fol_queues::Dated;
 use std::alloc::{AllocError, Global};
@@ -388,7 +389,7 @@ pub fn dismiss(bags: &mut Bags, id: usize, c: ChunkPos)
 pub fn take_out(alloc: Global, bags: &mut Bags, id: usize) -> Taken
     requires { is_open (slot_in bags.old.items id) ≡ true }
     ensures body { result.body ≡ (slot_in bags.old.items id).body }
-    ensures list { result.chunks.items ≡ (slot_in bags.old.items id).list }
+    ensures list { result.chunks ≡ (slot_in bags.old.items id).list }
     ensures left { SameThings no_data (slot_in bags.new.items id).body }
     ensures tasks { (slot_in bags.new.items id).body.queues.tasks ≡ [] }
     ensures sets { SetsSlot id (record (slot_in bags.old.items id) {
@@ -401,25 +402,26 @@ pub fn take_out(alloc: Global, bags: &mut Bags, id: usize) -> Taken
     let slot = bags.slot_mut(id);
     slot.here = false;
     slot.taken = true;
-    let chunks = slot.list.take(alloc);
+    slot.list.settle_many();
+    let chunks = mem::replace(&mut slot.list, ChunkSet::new(alloc));
     let body = mem::replace(&mut slot.body, new_data(alloc, 0, 0));
     Taken { chunks, body }
 }
 
 /// Puts back what was taken out.
-pub fn put_in(bags: &mut Bags, id: usize, chunks: Vec<ChunkPos>, body: RegionData)
+pub fn put_in(bags: &mut Bags, id: usize, chunks: ChunkSet, body: RegionData)
     requires { is_open (slot_in bags.old.items id) ≡ true }
     ensures sets { SetsSlot id (record (slot_in bags.old.items id) {
       body = body;
       here = true;
       taken = false;
-      list = chunks.items;
+      list = chunks;
     }) bags.old bags.new }
 {
     let slot = bags.slot_mut(id);
     slot.here = true;
     slot.taken = false;
-    slot.list.put(chunks);
+    slot.list = chunks;
     slot.body = body;
 }
 
@@ -600,7 +602,7 @@ fn dissolve(alloc: Global, bags: &mut Bags, id: usize) -> Vec<ChunkPos>
         bags.old bags.new }
 {
     let slot = bags.slot_mut(id);
-    let chunks = slot.list.take(alloc);
+    let chunks = mem::replace(&mut slot.list, ChunkSet::new(alloc)).into_vec();
     shut(alloc, bags, id);
     chunks
 }

@@ -14,3 +14,4 @@ pub mod Wholes
 pub mod Laid
 pub mod Parts
 pub mod Areas
+pub mod Walkers

@@ -1,6 +1,6 @@
 //! The blocks and entities of a region.
 
-ghost use Rattle.std.specs.Prelude.{◌≡◌, ◌+◌, ◌<◌, ◌≤◌, ℕ, ◌++◌, ◌↔◌, nat_eq, IsTrue, IsNone, IfOk, OnOk, All};
+ghost use Rattle.std.specs.Prelude.{◌≡◌, ◌+◌, ◌<◌, ◌≤◌, ℕ, ◌++◌, ◌↔◌, nat_eq, count_by, IsTrue, IsNone, IfOk, OnOk, All};
 ghost use Rattle.std.specs.Option.{option_map, option_len};
 ghost use Rattle.std.specs.List.{IsDistinct};
 ghost use Rattle.std.specs.List.Sorted.{IsStrictlySortedBy};
@@ -9,9 +9,11 @@ ghost use Rattle.fol_model.specs.ActionStep.{Flat, Recorded, at_block, at_id, st
 ghost use Rattle.fol_model.specs.FlatTick.{moved};
 ghost use Rattle.fol_model.specs.World.{standing_in};
 ghost use Rattle.fol_keyed.specs.Order.{chunk_cmp};
+ghost use Rattle.fol_chunks.specs.Crowds.{walks};
 ghost use Rattle.fol_chunks.specs.Rows.{by_id};
 
 use crate::held::Held;
+use fol_keyed::ChunkSet;
 use fol_model::{BlockAt, BlockPos, ChunkPos, Entity};
 use std::alloc::{AllocError, Global};
 use std::marker::Model;
@@ -63,6 +65,16 @@ impl Chunks {
         match &self.held {
             Some(held) => held.is_still(),
             None => true,
+        }
+    }
+
+    /// How many entities have a speed.
+    pub fn walkers(&self) -> usize
+        ensures { result ≡ count_by (λ (e : Entity). walks (standing_of e)) self.now.entities }
+    {
+        match &self.held {
+            Some(held) => held.walkers(),
+            None => 0,
         }
     }
 
@@ -210,7 +222,7 @@ impl Chunks {
     }
 
     /// Moves the entities that stand in recorded chunks by their speeds, where they stay in recorded chunks. Takes no memory.
-    pub fn step_entities(&mut self, chunks: &[ChunkPos])
+    pub fn step_entities(&mut self, chunks: &ChunkSet)
         requires order { IsStrictlySortedBy chunk_cmp chunks.now }
         requires places { All (λ c. IsTrue (is_chunk c)) chunks.now }
         ensures moved { flat_of self.new ≡ moved (is_recorded chunks.now) (flat_of self.old) }

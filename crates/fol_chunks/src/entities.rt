@@ -14,11 +14,11 @@ ghost use Rattle.fol_keyed.specs.Members.{is_listed};
 ghost use Rattle.fol_keyed.specs.Options.{option_filter};
 ghost use Rattle.fol_chunks.specs.Contents.{entity_of, is_recorded};
 ghost use Rattle.fol_chunks.specs.Rows.{by_id};
-ghost use Rattle.fol_chunks.specs.Crowds.{is_still};
+ghost use Rattle.fol_chunks.specs.Crowds.{is_still, walks};
 
 use crate::counted::Counted;
 use crate::{entity_list, steps};
-use fol_keyed::{ChunkList, count_listed, join};
+use fol_keyed::{ChunkList, ChunkSet, count_listed, join};
 use fol_model::{BlockPos, ChunkPos, Entity};
 use std::alloc::{AllocError, Global};
 use std::marker::Model;
@@ -71,6 +71,13 @@ impl Entities {
             → walked rec (standing_in self.now.members id) ≡ standing_in self.now.members id }
     {
         self.walking.is_empty()
+    }
+
+    /// How many entities have a speed.
+    pub fn walkers(&self) -> usize
+        ensures { result ≡ count_by (λ (e : Entity). walks (standing_of e)) self.now.members }
+    {
+        self.walking.len()
     }
 
     /// How many more entities there is room for.
@@ -133,7 +140,7 @@ impl Entities {
 
     /// Moves the entities that stand in recorded chunks by their speeds, where they stay in recorded chunks. Costs only those that have a
     /// speed. Takes no memory.
-    pub fn step(&mut self, chunks: &[ChunkPos])
+    pub fn step(&mut self, chunks: &ChunkSet)
         requires order { IsStrictlySortedBy chunk_cmp chunks.now }
         requires places { All (λ c. IsTrue (is_chunk c)) chunks.now }
         ensures moved { standing_in self.new.members

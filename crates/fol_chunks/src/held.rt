@@ -1,6 +1,6 @@
 //! Blocks and entities that a region holds.
 
-ghost use Rattle.std.specs.Prelude.{◌≡◌, ◌+◌, ◌≤◌, ◌<◌, ℕ, ◌++◌, ◌↔◌, nat_eq, IsTrue, IsNone, IfOk, OnOk, All};
+ghost use Rattle.std.specs.Prelude.{◌≡◌, ◌+◌, ◌≤◌, ◌<◌, ℕ, ◌++◌, ◌↔◌, nat_eq, count_by, IsTrue, IsNone, IfOk, OnOk, All};
 ghost use Rattle.std.specs.Option.{option_map, option_len};
 ghost use Rattle.std.specs.List.{IsDistinct};
 ghost use Rattle.std.specs.List.Sorted.{IsStrictlySortedBy};
@@ -9,10 +9,12 @@ ghost use Rattle.fol_model.specs.ActionStep.{Flat, Recorded, at_block, at_id, st
 ghost use Rattle.fol_model.specs.FlatTick.{moved};
 ghost use Rattle.fol_model.specs.World.{standing_in};
 ghost use Rattle.fol_keyed.specs.Order.{chunk_cmp};
+ghost use Rattle.fol_chunks.specs.Crowds.{walks};
 ghost use Rattle.fol_chunks.specs.Rows.{by_id};
 
 use crate::blocks::Blocks;
 use crate::entities::Entities;
+use fol_keyed::ChunkSet;
 use fol_model::{BlockAt, BlockPos, ChunkPos, Entity};
 use std::alloc::{AllocError, Global};
 use std::marker::Model;
@@ -68,6 +70,13 @@ impl Held {
             → moved rec (flat_of self.now) ≡ flat_of self.now }
     {
         self.entities.is_still()
+    }
+
+    /// How many entities have a speed.
+    pub fn walkers(&self) -> usize
+        ensures { result ≡ count_by (λ (e : Entity). walks (standing_of e)) self.now.entities }
+    {
+        self.entities.walkers()
     }
 
     /// How many more blocks or entities there is room for.
@@ -169,7 +178,7 @@ impl Held {
     }
 
     /// Moves the entities that stand in recorded chunks by their speeds, where they stay in recorded chunks. Takes no memory.
-    pub fn step_entities(&mut self, chunks: &[ChunkPos])
+    pub fn step_entities(&mut self, chunks: &ChunkSet)
         requires order { IsStrictlySortedBy chunk_cmp chunks.now }
         requires places { All (λ c. IsTrue (is_chunk c)) chunks.now }
         ensures moved { flat_of self.new ≡ moved (is_recorded chunks.now) (flat_of self.old) }

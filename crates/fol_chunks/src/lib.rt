@@ -19,6 +19,7 @@ mod entities;
 mod entity_list;
 mod ground;
 mod held;
+mod lookup;
 mod moves;
 mod pages;
 mod steps;

@@ -6,6 +6,7 @@ ghost use Rattle.fol_queues.specs.Waiting.{dated};
 ghost use Rattle.fol_core.specs.Undone.{MayBeUndone, Undoes};
 
 use fol_data::{RegionData, Tick};
+use fol_keyed::ChunkSet;
 use fol_model::{Sequence, State, Task};
 use fol_queues::Queues;
 use fol_world::agenda::add;
@@ -22,12 +23,12 @@ pub(crate) fn undo(alloc: Global, tables: &mut Tables, tick: &mut Tick) -> Vec<T
     ensures empty { result.items ≡ [] }
 {
     let region = tick.region;
-    let chunks = mem::replace(&mut tick.chunks, Sequence::new(alloc));
+    let chunks = mem::replace(&mut tick.chunks, ChunkSet::new(alloc));
     let due = mem::replace(&mut tick.due, Sequence::new(alloc));
     let mut body = mem::replace(&mut tick.body, RegionData::new(alloc));
     body.owed += 1;
     let due = body.queues.give_back(due.into_vec(), body.tick);
-    bring_back(tables, region, chunks.into_vec(), body);
+    bring_back(tables, region, chunks, body);
     tables.regions.unbegin(region);
     add(
         &mut tables.agenda,

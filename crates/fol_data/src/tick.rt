@@ -1,7 +1,8 @@
 //! A tick in the hands of a worker.
 
 use crate::RegionData;
-use fol_model::{ChunkPos, Sequence, Task, TickLog};
+use fol_keyed::ChunkSet;
+use fol_model::{Sequence, Task, TickLog};
 
 /// One tick of one region, from its begin to its release: what it may touch, what it has to do, and what it did so far.
 #[derive(Drop)]
@@ -12,8 +13,8 @@ pub struct Tick {
     pub region: u64,
     /// The place of its Begin in the history, counted from 0.
     pub begun: u64,
-    /// The recorded chunks: those that were loaded at the Begin, by z and then by x.
-    pub chunks: Sequence<ChunkPos>,
+    /// The recorded chunks: those that were loaded at the Begin, by z and then by x. Changes of a long list may still wait in it.
+    pub chunks: ChunkSet,
     /// The due tasks, in order of number.
     pub due: Sequence<Task>,
     /// The data of the region.

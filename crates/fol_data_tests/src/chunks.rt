@@ -5,6 +5,7 @@ ghost use Rattle.fol_model.specs.ActionStep.{at_block};
 ghost use Rattle.fol_chunks.specs.Contents.{flat_of, size_of};
 
 use fol_chunks::Chunks;
+use fol_keyed::ChunkSet;
 use fol_model::{BlockAt, BlockPos, ChunkPos, Entity};
 use std::alloc::{AllocError, Global};
 use std::test::Fail;
@@ -28,8 +29,11 @@ fn walker(id: u32, x: i32, vx: i32) -> Entity
     }
 }
 
-fn step(chunks: &mut Chunks) {
-    chunks.step_entities(&CHUNKS);
+/// Moves the entities on these two chunks.
+fn step(chunks: &mut Chunks, alloc: Global) -> Result<(), AllocError> {
+    let recorded = vec![in alloc; ChunkPos { x: 0, z: 0 }, ChunkPos { x: 1, z: 0 }]?;
+    chunks.step_entities(&ChunkSet::of(alloc, recorded));
+    Ok(())
 }
 
 /// Makes room and puts an entity in; whether none with its id was there.
@@ -43,9 +47,9 @@ fn put(chunks: &mut Chunks, entity: Entity) -> Result<bool, AllocError> {
 /// Whether entity 1 is put in, walks to the border in one step, stays there in the next, and is gone once it is taken out.
 fn walks(chunks: &mut Chunks, alloc: Global) -> Result<bool, AllocError> {
     let is_first = put(chunks, walker(1, 15, 16))?;
-    step(chunks);
+    step(chunks, alloc)?;
     let crossed = chunks.find(1);
-    step(chunks);
+    step(chunks, alloc)?;
     let stayed = chunks.find(1);
     let taken = chunks.take_entity(1);
     let again = chunks.take_entity(1);
@@ -72,7 +76,7 @@ fn entities_walk_within_recorded_chunks(rt: HostRuntime) -> Result<(), Fail> {
 fn walks_beside(chunks: &mut Chunks, alloc: Global) -> Result<bool, AllocError> {
     let is_first = put(chunks, walker(2, 15, 16))?;
     let is_second = put(chunks, walker(1, 5, 0))?;
-    step(chunks);
+    step(chunks, alloc)?;
     let list = chunks.entities_by_id(alloc)?;
     let wanted = [walker(1, 5, 0), walker(2, 31, 16)];
     Ok(is_first && is_second && list.as_slice() == wanted.as_slice())
@@ -87,30 +91,31 @@ fn entities_without_a_speed_stay(rt: HostRuntime) -> Result<(), Fail> {
     Ok(())
 }
 
-/// Three chunks that are no rectangle.
-const CORNER: [ChunkPos; 3] = [
-    ChunkPos { x: 0, z: 0 },
-    ChunkPos { x: 1, z: 0 },
-    ChunkPos { x: 0, z: 1 },
-];
-
-fn step_in_corner(chunks: &mut Chunks) {
-    chunks.step_entities(&CORNER);
+/// Moves the entities on three chunks that are no rectangle.
+fn step_in_corner(chunks: &mut Chunks, alloc: Global) -> Result<(), AllocError> {
+    let recorded = vec![in alloc;
+        ChunkPos { x: 0, z: 0 },
+        ChunkPos { x: 1, z: 0 },
+        ChunkPos { x: 0, z: 1 },
+    ]?;
+    chunks.step_entities(&ChunkSet::of(alloc, recorded));
+    Ok(())
 }
 
 /// Whether entity 1 walks to the border of the three chunks in one step and stays there in the next.
-fn walks_in_corner(chunks: &mut Chunks) -> bool {
-    step_in_corner(chunks);
+fn walks_in_corner(chunks: &mut Chunks, alloc: Global) -> Result<bool, AllocError> {
+    step_in_corner(chunks, alloc)?;
     let crossed = chunks.find(1);
-    step_in_corner(chunks);
-    crossed == Some(block(31, 0)) && chunks.find(1) == Some(block(31, 0))
+    step_in_corner(chunks, alloc)?;
+    Ok(crossed == Some(block(31, 0)) && chunks.find(1) == Some(block(31, 0)))
 }
 
 /// An entity walks within chunks that are no rectangle too.
 #[test]
 fn entities_walk_within_any_chunks(rt: HostRuntime) -> Result<(), Fail> {
     let mut chunks = with_walker(rt.alloc())?;
-    assert!(rt; walks_in_corner(&mut chunks));
+    let is_right = walks_in_corner(&mut chunks, rt.alloc())?;
+    assert!(rt; is_right);
     Ok(())
 }
 

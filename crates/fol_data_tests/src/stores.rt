@@ -111,7 +111,10 @@ fn takes(store: &mut Store, id: u64, chunks: &[ChunkPos], block: BlockAt) -> boo
         return false;
     }
     let taken = store.take(id);
-    taken.chunks.as_slice() == chunks && taken.body.chunks.get(block.at) == block.id
+    match taken.chunks.as_slice() {
+        Some(list) => list == chunks && taken.body.chunks.get(block.at) == block.id,
+        None => false,
+    }
 }
 
 /// Settles a bag if it is listed, and takes it out; whether it was, with these chunks and this block.

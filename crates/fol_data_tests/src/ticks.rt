@@ -12,6 +12,7 @@ ghost use Rattle.fol_tick.specs.Runs.{MayRun, arrivals};
 
 use fol_chunks::Chunks;
 use fol_data::{RegionData, Size, Tick};
+use fol_keyed::ChunkSet;
 use fol_model::{
     Action, BlockPos, ChunkPos, Entity, Nested, Outcome, Ran, Sequence, Task, TickLog, Unloaded,
     Wish,
@@ -74,11 +75,12 @@ fn region(alloc: Global) -> Result<RegionData, AllocError>
 }
 
 /// The recorded chunks.
-fn chunks(alloc: Global) -> Result<Vec<ChunkPos>, AllocError>
-    ensures order { IfOk result (λ chunks. IsStrictlySortedBy chunk_cmp chunks.items) }
-    ensures places { IfOk result (λ chunks. All (λ c. IsTrue (is_chunk c)) chunks.items) }
+fn chunks(alloc: Global) -> Result<ChunkSet, AllocError>
+    ensures order { IfOk result (IsStrictlySortedBy chunk_cmp) }
+    ensures places { IfOk result (All (λ c. IsTrue (is_chunk c))) }
 {
-    Ok(vec![in alloc; ChunkPos { x: 0, z: 0 }, ChunkPos { x: 1, z: 0 }]?)
+    let chunks = vec![in alloc; ChunkPos { x: 0, z: 0 }, ChunkPos { x: 1, z: 0 }]?;
+    Ok(ChunkSet::of(alloc, chunks))
 }
 
 /// A tick of a region with the chunks 0 and 1 and one entity, in which these tasks are due. No entity but the one with id 2 arrives.
@@ -89,12 +91,24 @@ fn tick_of(alloc: Global, due: Vec<Task>) -> Result<Tick, AllocError>
     ensures { IfOk result MayRun }
 {
     let chunks = chunks(alloc)?;
+    tick_on(alloc, chunks, due)
+}
+
+/// A tick of a region with these chunks and one entity, in which these tasks are due. No entity but the one with id 2 arrives.
+fn tick_on(alloc: Global, chunks: ChunkSet, due: Vec<Task>) -> Result<Tick, AllocError>
+    requires chunks_order { IsStrictlySortedBy chunk_cmp chunks }
+    requires chunks_places { All (λ c. IsTrue (is_chunk c)) chunks }
+    requires order { Rising due.items }
+    requires limits { All (λ t. IsTrue (is_action t.action)) due.items }
+    requires arrivals { (arrivals due.items ≡ []) ⊎ (arrivals due.items ≡ 2 ∷ []) }
+    ensures { IfOk result MayRun }
+{
     let body = region(alloc)?;
     Ok(Tick {
         worker: 1,
         region: 1,
         begun: 0,
-        chunks: Sequence::of(chunks),
+        chunks,
         due: Sequence::of(due),
         body,
         log: TickLog {
@@ -332,6 +346,82 @@ fn acts_again(alloc: Global) -> Result<bool, AllocError> {
 #[test]
 fn actions_that_repeat(rt: HostRuntime) -> Result<(), AllocError> {
     let is_right = acts_again(rt.alloc())?;
+    assert!(rt; is_right);
+    Ok(())
+}
+
+/// In the last chunk of the row, which came late.
+const LATE: BlockPos = BlockPos {
+    x: 16 * 299,
+    y: 64,
+    z: 0,
+};
+
+/// In the chunk that left the row.
+const GONE: BlockPos = BlockPos { x: 20, y: 64, z: 0 };
+
+/// A row of 299 chunks from chunk 0 on, of which the last ones wait to come, and one that waits to leave: chunk 1.
+fn long_row(alloc: Global) -> Result<ChunkSet, AllocError>
+    ensures { IfOk result (IsStrictlySortedBy chunk_cmp) }
+{
+    let mut row = ChunkSet::new(alloc);
+    for x in 0..300 {
+        row.widen(ChunkPos { x, z: 0 })?;
+    }
+    row.narrow(ChunkPos { x: 1, z: 0 });
+    Ok(row)
+}
+
+/// Whether all of the chunks are within the limits.
+fn are_chunks(alloc: Global, chunks: &ChunkSet) -> Result<bool, AllocError>
+    ensures { IfOk result (λ all. IsTrue all → All (λ c. IsTrue (is_chunk c)) chunks.now) }
+{
+    let copy = chunks.copy(alloc)?;
+    Ok(copy.iter().all(|c| c.in_range()))
+}
+
+/// A number is set in the last chunk of the row, and in the one that left it.
+fn late_and_gone(alloc: Global) -> Result<Vec<Task>, AllocError>
+    ensures order { IfOk result (λ tasks. Rising tasks.items) }
+    ensures limits { IfOk result (λ tasks. All (λ t. IsTrue (is_action t.action)) tasks.items) }
+    ensures arrivals { IfOk result (λ tasks. arrivals tasks.items ≡ []) }
+{
+    Ok(vec![in alloc;
+        task(1, Action::Set { at: LATE, id: 7 }),
+        task(2, Action::Set { at: GONE, id: 7 }),
+    ]?)
+}
+
+/// Whether the tick sets the first number alone, and the entity stays, which would walk into the chunk that left.
+fn runs_on_the_row(alloc: Global, tick: &mut Tick) -> Result<bool, AllocError>
+    requires { MayRun tick.old }
+{
+    let is_waiting = tick.chunks.as_slice().is_none();
+    run_tick(alloc, tick, &mut ListHost::of(Vec::new(alloc)))?;
+    let outcomes = tick.log.ran.as_slice().iter().map(|entry| entry.outcome);
+    Ok(
+        is_waiting
+            && outcomes.eq([Outcome::Done, Outcome::Foreign].iter().copied())
+            && tick.body.chunks.get(LATE) == 7
+            && tick.body.chunks.get(GONE) == 0
+            && tick.body.chunks.find(1) == Some(walker(1).at),
+    )
+}
+
+/// Whether a tick with that row does.
+fn acts_on_the_row(alloc: Global) -> Result<bool, AllocError> {
+    let row = long_row(alloc)?;
+    if !are_chunks(alloc, &row)? {
+        return Ok(false);
+    }
+    let mut tick = tick_on(alloc, row, late_and_gone(alloc)?)?;
+    runs_on_the_row(alloc, &mut tick)
+}
+
+/// Chunks that wait to come are recorded, and those that wait to leave are not.
+#[test]
+fn changes_of_the_chunks_wait(rt: HostRuntime) -> Result<(), AllocError> {
+    let is_right = acts_on_the_row(rt.alloc())?;
     assert!(rt; is_right);
     Ok(())
 }

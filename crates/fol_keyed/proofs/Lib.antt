@@ -8,3 +8,8 @@ pub mod Rooms
 pub mod Behind
 pub mod Filtered
 pub mod Rectangles
+pub mod Pending
+pub mod Recorded
+pub mod OneMore
+pub mod Answers
+pub mod Crossing

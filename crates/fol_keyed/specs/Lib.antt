@@ -4,3 +4,4 @@ pub mod Order
 pub mod Members
 pub mod Apart
 pub mod Rectangles
+pub mod ChunkSets

@@ -6,7 +6,8 @@ use Rattle.fol_core.proofs.Crossing.{Core-send}
 use Rattle.fol_core.specs.contracts.machine.Core as core
 use Rattle.fol_data.proofs.Crossing.{RegionData-send}
 use Rattle.fol_data.specs.contracts.tick.Tick as tick
-use Rattle.fol_model.proofs.Crossing.{ChunkPos-send, Sequence-send, Task-send, TickLog-send}
+use Rattle.fol_keyed.proofs.Crossing.{ChunkSet-send}
+use Rattle.fol_model.proofs.Crossing.{Sequence-send, Task-send, TickLog-send}
 use Rattle.fol_slots.proofs.seat.KeeperSeat.TheSendSync as keepers
 use Rattle.fol_offers.specs.contracts.boxes.Boxes as boxes
 use Rattle.fol_offers.specs.contracts.offer.Offer as offer
@@ -16,7 +17,7 @@ use Rattle.fol_offers.specs.contracts.offers.Offers.TheInside as inside
 use Rattle.fol_offers.specs.contracts.places.Places as places
 
 pub Tick-send : IsSend (tick.the_field).row
-Tick-send = search (sendable, ChunkPos-send, Sequence-send, Task-send, RegionData-send, TickLog-send) depth 20
+Tick-send = search (sendable, ChunkSet-send, Sequence-send, Task-send, RegionData-send, TickLog-send) depth 20
 
 body_send : IsSend body.the_row
 body_send = declared_send body.the_type (search (sendable, as_row_send, Tick-send, Box-send) depth 14, tt)

@@ -20,7 +20,7 @@ use Rattle.fol_store.specs.Steps.{SameMeaning}
 use Rattle.fol_store.proofs.Resound.{SameColumns, same_unique, same_found, same_bag, kept_self}
 use Rattle.fol_store.proofs.BagSteps.{slot_here, slot_other, one_columns}
 use Rattle.fol_store.proofs.Drawing.{with_parts}
-use Rattle.fol_bags.proofs.Recorded.{recorded_front, recorded_last}
+use Rattle.fol_keyed.proofs.Recorded.{recorded_front, recorded_last}
 use Rattle.fol_store.proofs.Spotting.{none_arrives}
 use Rattle.fol_store.proofs.Stepping.{here_not_taken}
 

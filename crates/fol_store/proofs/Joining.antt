@@ -8,7 +8,7 @@ use Rattle.fol_bags.specs.declared.slot.Slot.{Slot}
 use Rattle.fol_store.specs.Bag.{Bag, is_whole}
 use Rattle.fol_bags.specs.Places.{PlaceRows}
 use Rattle.fol_store.specs.Relisted.{Relisted, Joined, Stays}
-use Rattle.fol_bags.specs.Members.{IsUnion}
+use Rattle.fol_bags.specs.Unions.{IsUnion}
 use Rattle.fol_bags.specs.Things.{Key, Thing, chunk_at}
 use Rattle.fol_store.specs.Stock.{Stock, Where, in_bag, slot, place, column, found, next_of, bag_of, shown}
 use Rattle.fol_bags.specs.Slots.{no_slot}

@@ -20,7 +20,7 @@ use Rattle.fol_store.specs.Sound.{Near, IsBag, IsSound}
 use Rattle.fol_store.proofs.Columns.{Moves, moves_back}
 use Rattle.fol_store.proofs.Totals.{where_cases}
 use Rattle.fol_store.proofs.Resound.{kept_self, moved_unique, moved_found, moved_lies, moved_bag}
-use Rattle.fol_bags.proofs.Recorded.{single-is}
+use Rattle.fol_keyed.proofs.Recorded.{single-is}
 use Rattle.fol_store.proofs.Drawing.{with_parts}
 use Rattle.fol_store.proofs.Outward.{Outward, apart_out, moves_out, home_spot, home_bag, home_before, home_gone, comes_out, stays_out}
 use Rattle.fol_store.proofs.Stepping.{here_not_taken}

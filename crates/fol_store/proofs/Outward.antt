@@ -14,7 +14,7 @@ use Rattle.fol_store.specs.Stock.{Stock, Where, arriving, in_spot, in_bag, slot,
 use Rattle.fol_store.specs.Sound.{Allows, IsSound}
 use Rattle.fol_store.proofs.Columns.{Moves}
 use Rattle.fol_store.proofs.Totals.{where_cases}
-use Rattle.fol_bags.proofs.Recorded.{single-is, single-self}
+use Rattle.fol_keyed.proofs.Recorded.{single-is, single-self}
 
 -- a chunk is no longer one of the bag
 pub record Unnamed (s t : Stock) (id : ℕ) (c : ChunkPos) : Type 0 where

@@ -12,7 +12,7 @@ use Rattle.fol_store.specs.Relisted.{Relisted, IsInOrder}
 use Rattle.fol_store.specs.Stock.{Stock, slot, place}
 use Rattle.fol_store.specs.Sound.{IsSound}
 use Rattle.fol_bags.proofs.PlaceSteps.{is_bag-some, bag-from_is}
-use Rattle.fol_bags.proofs.Recorded.{recorded_front, recorded_last}
+use Rattle.fol_keyed.proofs.Recorded.{recorded_front, recorded_last}
 
 no : {P : Type 0} → false ≡ true → P
 no e = absurd (let z : ⊥ = cc in z)

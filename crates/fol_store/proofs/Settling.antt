@@ -13,7 +13,7 @@ use Rattle.fol_store.specs.Sound.{Near, IsBag, IsSound}
 use Rattle.fol_store.specs.Steps.{SameMeaning, IsGathered}
 use Rattle.fol_store.proofs.Resound.{SameColumns}
 use Rattle.fol_store.proofs.BagSteps.{with_bags, one_step, one_found, bag_slot}
-use Rattle.fol_bags.proofs.Recorded.{recorded_index}
+use Rattle.fol_keyed.proofs.Recorded.{recorded_index}
 use Rattle.fol_store.proofs.Stepping.{here_not_taken}
 
 pub record Settled (s t : Stock) (id : ℕ) (b : Bag) : Type 0 where

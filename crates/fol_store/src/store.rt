@@ -32,6 +32,7 @@ mod unite;
 use crate::{Rows, rows, sorting};
 use fol_bags::{Bags, Places, Taken, slots};
 use fol_data::RegionData;
+use fol_keyed::ChunkSet;
 use fol_model::{ChunkPos, Opening};
 use fol_queues::Dated;
 use std::alloc::{AllocError, Global};
@@ -204,7 +205,7 @@ impl Store {
     pub fn take(&mut self, id: u64) -> Taken
         requires here { (bag_of self.old id).here ≡ true }
         requires whole { is_whole (bag_of self.old id) ≡ true }
-        ensures chunks { result.chunks.items ≡ (bag_of self.old id).chunks }
+        ensures chunks { result.chunks ≡ (bag_of self.old id).chunks }
         ensures tick { result.body.tick ≡ (bag_of self.old id).tick }
         ensures owed { result.body.owed ≡ (bag_of self.old id).owed }
         ensures bound { result.body.tick ≤ 2 ^ 62 }
@@ -232,15 +233,15 @@ impl Store {
 
     /// Puts back what was taken out, after a worker had it. The bag is listed where it was not unsettled
     /// meanwhile, and calm where no task came on its chunks. Takes no memory.
-    pub fn put(&mut self, id: u64, chunks: Vec<ChunkPos>, body: RegionData)
+    pub fn put(&mut self, id: u64, chunks: ChunkSet, body: RegionData)
         requires taken { (bag_of self.old id).taken ≡ true }
-        requires chunks { chunks.items ≡ (bag_of self.old id).chunks }
+        requires chunks { chunks ≡ (bag_of self.old id).chunks }
         requires bound { body.tick ≤ 2 ^ 62 }
         requires in_time { (n : ℕ) → ForSome (dated body.queues n) (IsInTime body.tick) }
         requires contents_there { contents_of body.chunks
-            ≡ within (is_recorded chunks.items) (contents_of body.chunks) }
+            ≡ within (is_recorded chunks) (contents_of body.chunks) }
         requires tasks_there { (n : ℕ)
-            → ForSome (rests_of body n) (λ j. is_recorded chunks.items j.chunk ≡ true) }
+            → ForSome (rests_of body n) (λ j. is_recorded chunks j.chunk ≡ true) }
         requires contents_apart { Apart (flat_of self.old) (contents_of body.chunks) }
         requires tasks_apart { (n : ℕ)
             → IsTrue (is_none (jobs_of self.old n) || is_none (rests_of body n)) }

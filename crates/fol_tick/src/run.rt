@@ -16,7 +16,6 @@ use crate::log::{OpenLog, open};
 use crate::prepared::{Prepared, prepare, prepared_for};
 use crate::step::run_task;
 use fol_data::Tick;
-use fol_keyed::ChunkList;
 use std::alloc::{AllocError, Global};
 use std::collections::VecDeque;
 
@@ -34,7 +33,8 @@ pub fn run_tick<H: Host>(alloc: Global, tick: &mut Tick, host: &mut H) -> Result
     ensures again { OnErr result (MayRun tick.new) }
 {
     run_due(alloc, tick, host)?;
-    tick.body.chunks.step_entities(tick.chunks.as_slice());
+    tick.chunks.settle_for(tick.body.chunks.walkers());
+    tick.body.chunks.step_entities(&tick.chunks);
     tick.moved = true;
     Ok(())
 }
@@ -157,10 +157,9 @@ fn run_next<H: Host>(
     ensures wishes_capacity { vec_capacity log.new.wishes ≡ vec_capacity log.old.wishes }
 {
     let task = &tick.due.as_slice()[tick.next as usize];
-    let recorded = ChunkList::of(tick.chunks.as_slice());
     run_task(
         alloc,
-        &recorded,
+        &tick.chunks,
         &mut tick.body.chunks,
         task,
         prepared,

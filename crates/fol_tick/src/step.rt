@@ -2,9 +2,11 @@
 
 ghost use Rattle.std.specs.Prelude.{◌≡◌, ◌+◌, ◌≤◌, ◌<◌, List, [], ◌∷◌, All, IsTrue, IsNone, OnErr, IfOk, OnOk, vec_len};
 ghost use Rattle.std.specs.Vec.{vec_capacity};
+ghost use Rattle.std.specs.List.Sorted.{IsStrictlySortedBy};
 ghost use Rattle.fol_model.specs.Limits.{is_action};
 ghost use Rattle.fol_model.specs.Geometry.{is_chunk, chunk_of as chunk_around};
 ghost use Rattle.fol_model.specs.ActionStep.{stands, at_id, standing_of, plain_of as plain_action_of};
+ghost use Rattle.fol_chunks.specs.Order.{chunk_cmp};
 ghost use Rattle.fol_chunks.specs.Contents.{flat_of, is_recorded};
 ghost use Rattle.fol_tick.specs.Calls.{HostCall, is_hosted, outcome_of_load, outcome_of_unload};
 ghost use Rattle.fol_tick.specs.Effects.{Acts, IsCallOf, outcome_given};
@@ -17,7 +19,7 @@ use crate::host::Host;
 use crate::log::OpenLog;
 use crate::prepared::{Prepared, plain_of, posted, repeated};
 use fol_chunks::Chunks;
-use fol_keyed::ChunkList;
+use fol_keyed::ChunkSet;
 use fol_model::{
     Action, BlockPos, ChunkPos, Entity, Loaded, Outcome, Task, Unloaded, Wish, chunk_of,
 };
@@ -61,9 +63,10 @@ fn unload_outcome(answer: Unloaded) -> Outcome
 }
 
 /// Gives a block of a recorded chunk a number.
-fn set(recorded: &ChunkList, chunks: &mut Chunks, at: BlockPos, id: u16) -> Effect
+fn set(recorded: &ChunkSet, chunks: &mut Chunks, at: BlockPos, id: u16) -> Effect
+    requires order { IsStrictlySortedBy chunk_cmp recorded.now }
     requires spare { 1 ≤ chunks.old.spare }
-    ensures acts { Acts (is_recorded recorded.now.chunks.now) Outcome.Done (Action.Set at id)
+    ensures acts { Acts (is_recorded recorded.now) Outcome.Done (Action.Set at id)
         (flat_of chunks.old) (flat_of chunks.new) result }
     ensures spare { chunks.old.spare ≤ chunks.new.spare + 1 }
 {
@@ -75,9 +78,10 @@ fn set(recorded: &ChunkList, chunks: &mut Chunks, at: BlockPos, id: u16) -> Effe
 }
 
 /// Gives a block the number that another has now, where both are in recorded chunks.
-fn copy(recorded: &ChunkList, chunks: &mut Chunks, at: BlockPos, to: BlockPos) -> Effect
+fn copy(recorded: &ChunkSet, chunks: &mut Chunks, at: BlockPos, to: BlockPos) -> Effect
+    requires order { IsStrictlySortedBy chunk_cmp recorded.now }
     requires spare { 1 ≤ chunks.old.spare }
-    ensures acts { Acts (is_recorded recorded.now.chunks.now) Outcome.Done (Action.Copy at to)
+    ensures acts { Acts (is_recorded recorded.now) Outcome.Done (Action.Copy at to)
         (flat_of chunks.old) (flat_of chunks.new) result }
     ensures spare { chunks.old.spare ≤ chunks.new.spare + 1 }
 {
@@ -90,8 +94,9 @@ fn copy(recorded: &ChunkList, chunks: &mut Chunks, at: BlockPos, to: BlockPos) -
 }
 
 /// Whether the entity stands at a block of a recorded chunk.
-fn is_here(recorded: &ChunkList, chunks: &Chunks, id: u32) -> bool
-    ensures { result ≡ stands (is_recorded recorded.now.chunks.now)
+fn is_here(recorded: &ChunkSet, chunks: &Chunks, id: u32) -> bool
+    requires { IsStrictlySortedBy chunk_cmp recorded.now }
+    ensures { result ≡ stands (is_recorded recorded.now)
         ((flat_of chunks.now).standing id) }
 {
     match chunks.find(id) {
@@ -101,8 +106,9 @@ fn is_here(recorded: &ChunkList, chunks: &Chunks, id: u32) -> bool
 }
 
 /// Takes an entity from its block, where that is in a recorded chunk, and asks for its arrival.
-fn send(recorded: &ChunkList, chunks: &mut Chunks, id: u32, to: BlockPos) -> Effect
-    ensures acts { Acts (is_recorded recorded.now.chunks.now) Outcome.Done (Action.Send id to)
+fn send(recorded: &ChunkSet, chunks: &mut Chunks, id: u32, to: BlockPos) -> Effect
+    requires { IsStrictlySortedBy chunk_cmp recorded.now }
+    ensures acts { Acts (is_recorded recorded.now) Outcome.Done (Action.Send id to)
         (flat_of chunks.old) (flat_of chunks.new) result }
     ensures spare { chunks.old.spare ≤ chunks.new.spare }
 {
@@ -185,15 +191,16 @@ fn unload<H: Host>(alloc: Global, c: ChunkPos, host: &mut H) -> Result<Effect, A
 
 /// Acts on the blocks and entities. Loads and unloads, which need a host, change nothing here.
 fn act_here(
-    recorded: &ChunkList,
+    recorded: &ChunkSet,
     chunks: &mut Chunks,
     action: &Action,
     own: Option<Action>,
 ) -> Effect
+    requires order { IsStrictlySortedBy chunk_cmp recorded.now }
     requires spare { 1 ≤ chunks.old.spare }
     requires fresh { All (λ id. IsNone ((flat_of chunks.old).standing id)) (arrival_of action.now) }
     requires own { own ≡ own_in action.now }
-    ensures acts { Acts (is_recorded recorded.now.chunks.now) Outcome.Done action.now
+    ensures acts { Acts (is_recorded recorded.now) Outcome.Done action.now
         (flat_of chunks.old) (flat_of chunks.new) result }
     ensures spare { chunks.old.spare ≤ chunks.new.spare + 1 }
 {
@@ -213,19 +220,20 @@ fn act_here(
 /// Does what a task does.
 fn act<H: Host>(
     alloc: Global,
-    recorded: &ChunkList,
+    recorded: &ChunkSet,
     chunks: &mut Chunks,
     action: &Action,
     own: Option<Action>,
     host: &mut H,
 ) -> Result<Effect, AllocError>
+    requires order { IsStrictlySortedBy chunk_cmp recorded.now }
     requires spare { 1 ≤ chunks.old.spare }
     requires fresh { All (λ id. IsNone ((flat_of chunks.old).standing id)) (arrival_of action.now) }
     requires limits { IsTrue (is_action action.now) }
     requires own { own ≡ own_in action.now }
     ensures ok { IfOk result (λ e. (calls : List HostCall) × H.reaches host.old calls host.new
         × IsCallOf action.now calls
-        × Acts (is_recorded recorded.now.chunks.now) (outcome_given calls) action.now
+        × Acts (is_recorded recorded.now) (outcome_given calls) action.now
         (flat_of chunks.old) (flat_of chunks.new) e) }
     ensures refused { OnErr result (H.reaches host.old [] host.new) }
     ensures hosted { OnErr result (IsTrue (is_hosted action.now)) }
@@ -242,13 +250,14 @@ fn act<H: Host>(
 /// Runs one task: it acts, its outcome goes to the log, and so do the tasks that it asks for.
 pub(crate) fn run_task<H: Host>(
     alloc: Global,
-    recorded: &ChunkList,
+    recorded: &ChunkSet,
     chunks: &mut Chunks,
     task: &Task,
     prepared: Prepared,
     log: &mut OpenLog,
     host: &mut H,
 ) -> Result<(), AllocError>
+    requires order { IsStrictlySortedBy chunk_cmp recorded.now }
     requires spare { 1 ≤ chunks.old.spare }
     requires fresh { All (λ id. IsNone ((flat_of chunks.old).standing id))
         (arrival_of (plain_action_of task.now.action)) }
@@ -258,7 +267,7 @@ pub(crate) fn run_task<H: Host>(
     requires room_for_wishes { vec_len log.old.wishes + most_asked task.now
         ≤ vec_capacity log.old.wishes }
     ensures ok { OnOk result ((calls : List HostCall) × H.reaches host.old calls host.new
-        × TasksRan (is_recorded recorded.now.chunks.now) (task.now ∷ [])
+        × TasksRan (is_recorded recorded.now) (task.now ∷ [])
         (stage_at chunks.old log.old) (stage_at chunks.new log.new) calls) }
     ensures refused { OnErr result (H.reaches host.old [] host.new) }
     ensures hosted { OnErr result (IsTrue (is_hosted (plain_action_of task.now.action))) }

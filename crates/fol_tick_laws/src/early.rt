@@ -40,7 +40,7 @@ fn touches_alone(rt: &impl Abort, core: &Core) {
 /// The tick that region 1 has first, when one task is due in it.
 fn is_first(rt: &impl Abort, tick: &Tick) {
     assert_eq!(rt; (tick.worker, tick.region, tick.begun), (0, 1, 4));
-    assert_eq!(rt; tick.chunks.as_slice(), [ORIGIN].as_slice());
+    assert_eq!(rt; tick.chunks.as_slice(), Some([ORIGIN].as_slice()));
     let [task] = tick.due.as_slice() else {
         panic!(rt; "one task is due");
     };

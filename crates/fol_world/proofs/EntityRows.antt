@@ -6,8 +6,10 @@ use Rattle.std.specs.List.{AllByRecursion, find, list_all, list_any}
 use Rattle.std.specs.List.Sorted.{IsStrictlySortedBy}
 use Rattle.std.specs.BTreeMap.{BTreeMap, IsOrdered}
 use Rattle.std.specs.Ordering.{nat_cmp, eq_by_cmp}
+use Rattle.std.specs.declared.cmp.Ordering.TheVariants.{Less}
 use Rattle.std.proofs.Math.Path.{fun_ext}
 use Rattle.std.proofs.lemmas.Bool.{cases_Bool, and_parts, eqb-true, eq-eqb, leb-true, or_left, or_right, true≢false}
+use Rattle.std.proofs.lemmas.List.{append-nil}
 use Rattle.std.proofs.lemmas.List.Concat.{flat_map-cons}
 use Rattle.std.proofs.lemmas.List.Folds.{list_any-append}
 use Rattle.fol_model.specs.declared.entities.Entity.{Entity}
@@ -35,8 +37,8 @@ use Rattle.fol_laws.proofs.Tests.{same_answer}
 use Rattle.fol_chunks.specs.Rows.{by_id}
 use Rattle.fol_chunks.proofs.EntityLists.{standing_found}
 use Rattle.fol_store.specs.TaskRows.{by_number, job_of_row, rows_of}
-use Rattle.fol_world.specs.Closings.{ArePlaces, IsPlace, PutsAll, arrival_entries, arrival_in, place_row, places_in, row_at, standing_entry}
-use Rattle.fol_world.proofs.EntriesPut.{entries_are, entry_of, puts_more, puts_right}
+use Rattle.fol_world.specs.Closings.{ArePlaces, IsPlace, PutsAll, arrival_entries, arrival_in, place_row, places_in, row_at, standing_entry, standing_row}
+use Rattle.fol_world.proofs.EntriesPut.{LooksUp, entries_are, entry_of, looks_up, puts_more, puts_right}
 use Rattle.fol_world.proofs.KeyedRows.{each, finds_own, found_passes, map_flat}
 use Rattle.fol_world.proofs.LeastFound.{only_kept}
 use Rattle.fol_world.proofs.RowsInOrder.{own_jobs, tells_by, tells_numbers}
@@ -51,6 +53,21 @@ row_of : (id : ℕ) (o : Option Place) → map place_row (entry_of id o) ≡ row
 row_of id None = refl
 row_of id (Some p) = refl
 
+-- the rows of the entries of entities that stand
+standing_rows : (es : List Entity) → map standing_row es ≡ map place_row (map standing_entry es)
+standing_rows [] = refl
+standing_rows (e ∷ es) = ap (λ (rows : List EntityRow). standing_row e ∷ rows) (standing_rows es)
+
+-- the ids of entities in order rise
+keys_rise : (es : List Entity) → IsStrictlySortedBy by_id es → IsStrictlySortedBy nat_cmp (map (λ (e : ℕ × Place). e.0) (map standing_entry es))
+unfolding IsStrictlySortedBy
+keys_rise [] h = tt
+keys_rise (x ∷ xs) h = (below xs h.0, keys_rise xs h.1)
+  where
+    below : (ys : List Entity) → AllByRecursion (λ y. by_id x y ≡ Less) ys → AllByRecursion (λ k. nat_cmp x.id k ≡ Less) (map (λ (e : ℕ × Place). e.0) (map standing_entry ys))
+    below [] h = tt
+    below (y ∷ ys) h = (h.0, below ys h.1)
+
 module _ (f : ℕ → Option Place) (entities : List Entity) (tasks : List TaskRow) (are : ArePlaces f entities tasks) where
   abbrev entries : List (ℕ × Place)
   entries = map standing_entry entities ++ flat_map arrival_entries tasks
@@ -61,16 +78,29 @@ module _ (f : ℕ → Option Place) (entities : List Entity) (tasks : List TaskR
   within : (id : ℕ) (p : Place) → f id ≡ Some p → list_any (eq_by_cmp nat_cmp id) (numbers_below 1000000001) ≡ true
   within id p h = ap (λ (test : ℕ → Bool). list_any test (numbers_below 1000000001)) (fun_ext (λ k. same_number id k)) ∙ in_numbers 1000000001 id (are.few id p h)
 
+  rows_are : (es : List (ℕ × Place)) → IsStrictlySortedBy nat_cmp (map (λ (e : ℕ × Place). e.0) es) → LooksUp nat_cmp (tells_by nat_cmp numbers_tell) f es → map place_row es ≡ places_in f
+  rows_are es ordered right =
+      ap (map place_row) (entries_are nat_cmp (tells_by nat_cmp numbers_tell) f (numbers_below 1000000001) es (numbers_sorted 1000000001) ordered right within)
+      ∙ map_flat place_row (λ k. entry_of k (f k)) (numbers_below 1000000001)
+      ∙ ap (λ (g : ℕ → List EntityRow). flat_map g (numbers_below 1000000001)) (fun_ext (λ k. row_of k (f k)))
+
   pub places_are : (old m n : BTreeMap ℕ Place) → old.entries ≡ [] → IsOrdered nat_cmp n → PutsAll nat_cmp old m (map standing_entry entities) → PutsAll nat_cmp m n (flat_map arrival_entries tasks)
       → map place_row n.entries ≡ places_in f
   places_are old m n none ordered stand arrive =
       let puts = puts_more nat_cmp old m n (map standing_entry entities) (flat_map arrival_entries tasks) stand arrive in
       let tells = tells_by nat_cmp numbers_tell in
       let right = puts_right nat_cmp tells.is f old n entries none puts are.right has_entry in
-      let all : n.entries ≡ flat_map (λ k. entry_of k (f k)) (numbers_below 1000000001) = entries_are nat_cmp tells f (numbers_below 1000000001) n (numbers_sorted 1000000001) ordered right within in
-      ap (map place_row) all
-      ∙ map_flat place_row (λ k. entry_of k (f k)) (numbers_below 1000000001)
-      ∙ ap (λ (g : ℕ → List EntityRow). flat_map g (numbers_below 1000000001)) (fun_ext (λ k. row_of k (f k)))
+      rows_are n.entries ordered right
+
+  -- where no task brings one, those that stand are all
+  pub standing_are : IsStrictlySortedBy by_id entities → flat_map arrival_entries tasks ≡ [] → map standing_row entities ≡ places_in f
+  standing_are rise none =
+      let tells = tells_by nat_cmp numbers_tell in
+      let same : entries ≡ map standing_entry entities = ap (λ (l : List (ℕ × Place)). map standing_entry entities ++ l) none ∙ append-nil _ in
+      let right : AllByRecursion (IsPlace f) (map standing_entry entities) = rw same at are.right in
+      let has : (id : ℕ) (p : Place) → f id ≡ Some p → list_any (λ (e : ℕ × Place). eq_by_cmp nat_cmp e.0 id) (map standing_entry entities) ≡ true = rw same at has_entry in
+      standing_rows entities
+      ∙ rows_are (map standing_entry entities) (keys_rise entities rise) (looks_up nat_cmp tells f (map standing_entry entities) right has)
 
 -- ---- entities that stand, and tasks that bring the others
 mapped_all : {X Y : Type 0} (P : Y → Type 0) (g : X → Y) (xs : List X) → AllByRecursion (λ x. P (g x)) xs → AllByRecursion P (map g xs)

@@ -1,5 +1,5 @@
 -- What a map has after entries were put into it.
-use Rattle.std.proofs.Common.{◌≡◌, ℕ, refl, sym, ◌∙◌, ap, Bool, true, inl, inr, ◌⊎◌, List, [], ◌∷◌, ◌++◌, ◌+◌, ◌<◌, length, take, get_or}
+use Rattle.std.proofs.Common.{◌≡◌, ℕ, refl, sym, ◌∙◌, ap, Bool, true, false, inl, inr, ◌⊎◌, List, [], ◌∷◌, ◌++◌, ◌+◌, ◌<◌, length, take, get_or}
 use Rattle.std.specs.Prelude.{flat_map, map, Option, Some, None}
 use Rattle.std.specs.Option.{option_map}
 use Rattle.std.specs.List.{AllByRecursion, find, list_any}
@@ -74,23 +74,48 @@ entry_of k None = []
 entry_of k (Some x) = (k, x) ∷ []
 
 module _ {K X : Type 0} (c : K → K → Ordering) (t : Tells c (eq_by_cmp c)) where
-  value_is : (f : K → Option X) (m : BTreeMap K X) → ((q : K) → get c m q ≡ f q) → (k : K) (o : Option (K × X)) → find (λ e. eq_by_cmp c e.0 k) m.entries ≡ o → f k ≡ option_map (λ (e : K × X). e.1) o
-  value_is f m h k o e = sym (h k) ∙ lookup_is (λ a. eq_by_cmp c k a) m.entries
-      ∙ ap (λ (p : K × X → Bool). option_map (λ (e : K × X). e.1) (find p m.entries)) (fun_ext (λ (e : K × X). turned c t k e.0))
+  -- entries are looked up as f says
+  abbrev pub LooksUp : (K → Option X) → List (K × X) → Type 0
+  LooksUp f es = (q : K) → lookup (λ k. eq_by_cmp c q k) es ≡ f q
+
+  value_is : (f : K → Option X) (es : List (K × X)) → LooksUp f es → (k : K) (o : Option (K × X)) → find (λ e. eq_by_cmp c e.0 k) es ≡ o → f k ≡ option_map (λ (e : K × X). e.1) o
+  value_is f es h k o e = sym (h k) ∙ lookup_is (λ a. eq_by_cmp c k a) es
+      ∙ ap (λ (p : K × X → Bool). option_map (λ (e : K × X). e.1) (find p es)) (fun_ext (λ (e : K × X). turned c t k e.0))
       ∙ ap (option_map (λ (e : K × X). e.1)) e
 
-  entry_found : (f : K → Option X) (m : BTreeMap K X) → ((q : K) → get c m q ≡ f q) → (k : K) (o : Option (K × X)) → find (λ e. eq_by_cmp c e.0 k) m.entries ≡ o → entry_of k (f k) ≡ listed o
-  entry_found f m h k None e = let z : f k ≡ None = value_is f m h k None e in rw z refl
-  entry_found f m h k (Some x) e =
-      let z : f k ≡ Some x.1 = value_is f m h k (Some x) e in
-      let s : x.0 ≡ k = t.is x.0 k (find_passes (λ (e : K × X). eq_by_cmp c e.0 k) m.entries x e) in
+  entry_found : (f : K → Option X) (es : List (K × X)) → LooksUp f es → (k : K) (o : Option (K × X)) → find (λ e. eq_by_cmp c e.0 k) es ≡ o → entry_of k (f k) ≡ listed o
+  entry_found f es h k None e = let z : f k ≡ None = value_is f es h k None e in rw z refl
+  entry_found f es h k (Some x) e =
+      let z : f k ≡ Some x.1 = value_is f es h k (Some x) e in
+      let s : x.0 ≡ k = t.is x.0 k (find_passes (λ (e : K × X). eq_by_cmp c e.0 k) es x e) in
       rw (z, ← s) refl
 
-  -- a map whose values are those of f has an entry for each key that has a value, in the order of all keys
-  pub entries_are : (f : K → Option X) (ks : List K) (m : BTreeMap K X) → IsStrictlySortedBy c ks → IsOrdered c m → ((q : K) → get c m q ≡ f q)
-      → ((q : K) (x : X) → f q ≡ Some x → list_any (eq_by_cmp c q) ks ≡ true) → m.entries ≡ flat_map (λ k. entry_of k (f k)) ks
-  entries_are f ks m o ordered h within =
-      let up = sorted_by_key c (λ (e : K × X). e.0) m.entries ordered in
-      keyed_rows c (eq_by_cmp c) t (λ (e : K × X). e.0) (λ k. entry_of k (f k)) ks m.entries o up
-      (λ k z. entry_found f m h k (find (λ e. eq_by_cmp c e.0 k) m.entries) refl)
-      (each _ (λ e. list_any (eq_by_cmp c e.0) ks ≡ true) (λ e k. within e.0 e.1 (value_is f m h e.0 (Some e) k)) m.entries (finds_own c (eq_by_cmp c) t (λ (e : K × X). e.0) m.entries up))
+  -- entries that are looked up as f says are one for each key that has a value, in the order of all keys
+  pub entries_are : (f : K → Option X) (ks : List K) (es : List (K × X)) → IsStrictlySortedBy c ks → IsStrictlySortedBy c (map (λ (e : K × X). e.0) es) → LooksUp f es
+      → ((q : K) (x : X) → f q ≡ Some x → list_any (eq_by_cmp c q) ks ≡ true) → es ≡ flat_map (λ k. entry_of k (f k)) ks
+  entries_are f ks es o ordered h within =
+      let up = sorted_by_key c (λ (e : K × X). e.0) es ordered in
+      keyed_rows c (eq_by_cmp c) t (λ (e : K × X). e.0) (λ k. entry_of k (f k)) ks es o up
+      (λ k z. entry_found f es h k (find (λ e. eq_by_cmp c e.0 k) es) refl)
+      (each _ (λ e. list_any (eq_by_cmp c e.0) ks ≡ true) (λ e k. within e.0 e.1 (value_is f es h e.0 (Some e) k)) es (finds_own c (eq_by_cmp c) t (λ (e : K × X). e.0) es up))
+
+  -- entries that are right are looked up as f says, or have none at the key
+  first_right : (f : K → Option X) (es : List (K × X)) (q : K) → AllByRecursion (λ e. f e.0 ≡ Some e.1) es
+      → (lookup (λ k. eq_by_cmp c q k) es ≡ f q) ⊎ ((lookup (λ k. eq_by_cmp c q k) es ≡ None) × (list_any (λ e. eq_by_cmp c e.0 q) es ≡ false))
+  first_right f [] q a = inr (refl, refl)
+  first_right f (e ∷ es) q a = elim (cases_Bool (eq_by_cmp c q e.0)) [
+    | inl k ↦ let s : q ≡ e.0 = t.is q e.0 k in inl (rw k (sym a.0 ∙ ap f (sym s)))
+    | inr k ↦ elim (first_right f es q a.1) [
+      | inl r ↦ inl (rw k r)
+      | inr n ↦ inr (rw k n.0, rw (turned c t e.0 q, k) n.1)
+    ]
+  ]
+
+  -- entries that are right, of which there is one for each key that has a value, are looked up as f says
+  pub looks_up : (f : K → Option X) (es : List (K × X)) → AllByRecursion (λ e. f e.0 ≡ Some e.1) es
+      → ((q : K) (x : X) → f q ≡ Some x → list_any (λ e. eq_by_cmp c e.0 q) es ≡ true) → LooksUp f es
+  looks_up f es right all q = elim (first_right f es q right) [ inl r ↦ r | inr n ↦ n.0 ∙ sym (none_at (f q) refl n.1) ]
+    where
+      none_at : (o : Option X) → f q ≡ o → list_any (λ e. eq_by_cmp c e.0 q) es ≡ false → f q ≡ None
+      none_at None e n = e
+      none_at (Some x) e n = absurd (true≢false (sym (all q x e) ∙ n))

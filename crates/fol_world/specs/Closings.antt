@@ -74,6 +74,10 @@ arrival_entries r = arrival_in r.task.number r.task.action
 abbrev pub place_row : ℕ × Place → EntityRow
 place_row e = record { id = e.0; place = e.1 }
 
+-- the row of an entity that stands
+abbrev pub standing_row : Entity → EntityRow
+standing_row e = place_row (standing_entry e)
+
 abbrev pub row_at : ℕ → Option Place → List EntityRow
 row_at id None = []
 row_at id (Some p) = (record { id = id; place = p }) ∷ []

@@ -21,6 +21,7 @@ use crate::agenda::{owes, tidy_without};
 use crate::bags::list_chunks;
 use crate::tables::Tables;
 use fol_data::{RegionData, Tick};
+use fol_keyed::ChunkSet;
 use fol_model::{Sequence, Task, TickLog};
 use fol_regions::Regions;
 use fol_store::{Store, Taken};
@@ -40,7 +41,7 @@ pub fn blank(alloc: Global) -> Tick
         worker: 0,
         region: 0,
         begun: 0,
-        chunks: Sequence::new(alloc),
+        chunks: ChunkSet::new(alloc),
         due: Sequence::new(alloc),
         body: RegionData::new(alloc),
         log: TickLog {
@@ -203,7 +204,7 @@ pub fn hand_out(alloc: Global, tables: &mut Tables, id: u64, room: Vec<Task>, ti
     tidy_without(&mut tables.agenda, &tables.regions, &tables.store, id);
     let mut due = room;
     tick.region = id;
-    tick.chunks = Sequence::of(chunks);
+    tick.chunks = chunks;
     tick.body = body;
     tick.body.owed -= 1;
     tick.body.queues.take_due(tick.body.tick + 1, &mut due);

@@ -36,6 +36,7 @@ use crate::parts::part;
 use crate::tables::Tables;
 use crate::wishes::accept_all;
 use fol_data::{RegionData, Tick};
+use fol_keyed::ChunkSet;
 use fol_model::{Accept, ChunkPos, Event, Sequence, State, Task};
 use fol_regions::{MergePair, Regions, Removed};
 use fol_store::Store;
@@ -66,7 +67,7 @@ pub fn end_tick(
 {
     let worker = tick.worker;
     let region = tick.region;
-    let chunks = mem::replace(&mut tick.chunks, Sequence::new(alloc));
+    let chunks = mem::replace(&mut tick.chunks, ChunkSet::new(alloc));
     let mut body = mem::replace(&mut tick.body, RegionData::new(alloc));
     let ran = mem::replace(&mut tick.log.ran, Sequence::new(alloc));
     let wishes = mem::replace(&mut tick.log.wishes, Sequence::new(alloc));
@@ -76,7 +77,7 @@ pub fn end_tick(
     let mut wishes = VecDeque::from_vec(wishes.into_vec());
     accept_all(tables, &mut body.chunks, &mut wishes, &mut accepts);
     tick.log.wishes = Sequence::of(wishes.into_vec());
-    end_region(alloc, tables, region, chunks.into_vec(), body);
+    end_region(alloc, tables, region, chunks, body);
     Event::End {
         worker,
         region,
@@ -139,10 +140,10 @@ pub(crate) fn end_region(
     alloc: Global,
     tables: &mut Tables,
     region: u64,
-    chunks: Vec<ChunkPos>,
+    chunks: ChunkSet,
     body: RegionData,
 )
-    requires { CanEnd tables.old region chunks.items body }
+    requires { CanEnd tables.old region chunks body }
     ensures { EndsRegion tables.old tables.new region body }
 {
     bring_back(tables, region, chunks, body);
@@ -150,8 +151,8 @@ pub(crate) fn end_region(
 }
 
 /// The chunks and the data of a Ticking region come back, and its bag follows the chunks that came and left meanwhile.
-pub fn bring_back(tables: &mut Tables, region: u64, chunks: Vec<ChunkPos>, body: RegionData)
-    requires { CanComeBack tables.old region chunks.items body }
+pub fn bring_back(tables: &mut Tables, region: u64, chunks: ChunkSet, body: RegionData)
+    requires { CanComeBack tables.old region chunks body }
     ensures { BringsBack tables.old tables.new region body }
 {
     tables.regions.keeps_rules();

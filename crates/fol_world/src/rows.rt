@@ -1,12 +1,14 @@
 //! The rows of the tables: of regions, of sections, and of what lies on them.
 
-ghost use Rattle.std.specs.Prelude.{ℕ, ◌≡◌, map, flat_map, find, All, IfOk, OnOk, Option};
+ghost use Rattle.std.specs.Prelude.{ℕ, ◌≡◌, [], false, map, flat_map, find, All, IfOk, OnOk, Option};
 ghost use Rattle.std.specs.BTreeMap.{IsOrdered};
+ghost use Rattle.std.specs.List.Sorted.{IsStrictlySortedBy};
 ghost use Rattle.std.specs.Ordering.{nat_cmp};
 ghost use Rattle.fol_model.specs.declared.entities.Place.{Place};
 ghost use Rattle.fol_regions.specs.Table.{grid_state};
+ghost use Rattle.fol_chunks.specs.Rows.{by_id};
 ghost use Rattle.fol_store.specs.Stock.{bag_of};
-ghost use Rattle.fol_world.specs.Closings.{ArePlaces, AreThings, HasRow, PutsAll, arrival_entries, live_in, owners_in, place_row, places_in, row_in, standing_entry, ticks_in};
+ghost use Rattle.fol_world.specs.Closings.{ArePlaces, AreThings, HasRow, PutsAll, arrival_entries, live_in, owners_in, place_row, places_in, row_in, standing_entry, standing_row, ticks_in};
 
 use crate::owners::list_owners;
 use crate::tables::Tables;
@@ -141,19 +143,48 @@ fn region_row(regions: &Regions, store: &Store, id: u64) -> RegionRow
     }
 }
 
-/// The rows of entities that stand or that a task brings, by id.
+/// The rows of entities that stand or that a task brings, by id. Mostly no task brings one, and those that stand come in order.
 fn entity_rows(
     alloc: Global,
     entities: &[Entity],
     tasks: &[TaskRow],
 ) -> Result<Vec<EntityRow>, AllocError>
+    requires order { IsStrictlySortedBy by_id entities.now }
     ensures { IfOk result (λ v. (f : ℕ → Option Place) → ArePlaces f entities.now tasks.now
         → v.items ≡ places_in f) }
 {
+    if !bring_any(tasks) {
+        return standing_rows(alloc, entities);
+    }
     let mut places = BTreeMap::new(alloc);
     put_standing(&mut places, entities)?;
     put_arrivals(&mut places, tasks)?;
     list_places(alloc, &places)
+}
+
+/// Whether one of the tasks brings an entity.
+fn bring_any(tasks: &[TaskRow]) -> bool
+    ensures { result ≡ false → flat_map arrival_entries tasks.now ≡ [] }
+{
+    for row in tasks {
+        if let Action::Arrive(_) = &row.task.action {
+            return true;
+        }
+    }
+    false
+}
+
+/// The rows of entities that stand, in their order.
+fn standing_rows(alloc: Global, entities: &[Entity]) -> Result<Vec<EntityRow>, AllocError>
+    ensures { IfOk result (λ v. v.items ≡ map standing_row entities.now) }
+{
+    entities
+        .iter()
+        .map(|entity| EntityRow {
+            id: entity.id,
+            place: Place::At(entity.at),
+        })
+        .collect(alloc)
 }
 
 /// Puts where these entities stand into a map.

@@ -3,10 +3,10 @@
 ghost use Rattle.std.specs.Prelude.{◌≡◌, ◌≢◌, ◌≤◌, true, false, ℕ, IfOk, OnOk};
 ghost use Rattle.fol_store.specs.Bag.{no_bag, is_whole};
 ghost use Rattle.fol_store.specs.Relisted.{IsInOrder, Joined, Stays, United};
-ghost use Rattle.fol_bags.specs.Members.{IsUnion};
+ghost use Rattle.fol_bags.specs.Unions.{IsUnion};
 
 use crate::store::Store;
-use fol_bags::{members, slots};
+use fol_bags::{slots, union};
 use fol_model::ChunkPos;
 use std::alloc::AllocError;
 
@@ -138,7 +138,7 @@ impl Store {
     {
         let chunks = self.chunks_of(into)?;
         let others = self.chunks_of(from)?;
-        members::union(self.alloc, &chunks, &others)
+        union::union(self.alloc, &chunks, &others)
     }
 
     /// The chunks of a bag, in memory of their own.

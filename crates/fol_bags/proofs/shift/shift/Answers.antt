@@ -4,7 +4,7 @@ use Rattle.fol_queues.specs.Waiting.{option_filter}
 use Rattle.fol_chunks.specs.Contents.{is_recorded}
 use Rattle.fol_bags.specs.Things.{Thing, things, chunk_at}
 use Rattle.fol_bags.specs.Moves.{SameThings}
-use Rattle.fol_bags.proofs.Answers.{always_err}
+use Rattle.fol_keyed.proofs.Answers.{always_err}
 use Rattle.fol_bags.proofs.ThingSteps.{same_things, apart_same, things_left, things_come, contents_apart, tasks_apart}
 use Rattle.fol_bags.proofs.shift.shift.Goals as goal
 

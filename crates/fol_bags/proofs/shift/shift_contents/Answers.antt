@@ -8,7 +8,7 @@ use Rattle.fol_data.specs.declared.region_data.RegionData.{RegionData}
 use Rattle.fol_bags.specs.Things.{Thing, things, chunk_at}
 use Rattle.fol_bags.specs.Moves.{SameThings}
 use Rattle.fol_bags.proofs.NoTask.{all_stay, none_comes}
-use Rattle.fol_bags.proofs.Answers.{always_err}
+use Rattle.fol_keyed.proofs.Answers.{always_err}
 use Rattle.fol_bags.proofs.ThingSteps.{same_things, apart_same, things_left, things_come, contents_apart}
 use Rattle.fol_bags.proofs.shift.shift_contents.Goals as goal
 

@@ -33,7 +33,7 @@ pub bring_back-requires : goal.bring_back-requires
 bring_back-requires c =
     let m = c.requires in
     let given = rw (c.into_vec.ensures, c.replace-due.ensures.value, c.replace-body.ensures.value) at c.give_back-due.ensures.tasks in
-    rw (c.into_vec-2.ensures, c.replace-chunks.ensures.value, c.replace-body.ensures.value) (can_come_back m.opening m.history m.marks c.args.tables.now m.stands c.args.tick.now m.marked m.of
+    rw (c.replace-chunks.ensures.value, c.replace-body.ensures.value) (can_come_back m.opening m.history m.marks c.args.tables.now m.stands c.args.tick.now m.marked m.of
     (record { tick = c.args.tick.now.body.tick; owed = c.args.tick.now.body.owed + 1; queues = c.give_back-due.new.self; chunks = c.args.tick.now.body.chunks }) refl refl
     (λ n. ap (λ (f : ℕ → Option Dated). option_map (job_of c.args.tick.now.body.tick) (f n)) given))
 

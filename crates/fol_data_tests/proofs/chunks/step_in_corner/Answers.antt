@@ -9,7 +9,7 @@ use Rattle.fol_data_tests.proofs.chunks.step_in_corner.Goals as goal
 
 pub step_entities-requires-clause-order : goal.step_entities-requires-clause-order
 unfolding IsStrictlySortedBy chunk_cmp
-step_entities-requires-clause-order c = ((refl, (refl, tt)), ((refl, tt), (tt, tt)))
+step_entities-requires-clause-order c = rw (c.of.ensures, c.in_ok-recorded.ensures.items) ((refl, (refl, tt)), ((refl, tt), (tt, tt)))
 
 -- the second chunk and the third
 second : ChunkPos
@@ -21,6 +21,7 @@ third = record { x = pos 0; z = pos 1 }
 pub step_entities-requires-clause-places : goal.step_entities-requires-clause-places
 unfolding is_chunk second third
 step_entities-requires-clause-places c =
-    All-cons (λ (q : ChunkPos). IsTrue (is_chunk q)) (record { x = pos 0; z = pos 0 }) (second ∷ third ∷ []) refl
+    rw (c.of.ensures, c.in_ok-recorded.ensures.items)
+    (All-cons (λ (q : ChunkPos). IsTrue (is_chunk q)) (record { x = pos 0; z = pos 0 }) (second ∷ third ∷ []) refl
     (All-cons (λ (q : ChunkPos). IsTrue (is_chunk q)) second (third ∷ []) refl
-    (All-cons (λ (q : ChunkPos). IsTrue (is_chunk q)) third [] refl (All-nil (λ (q : ChunkPos). IsTrue (is_chunk q)))))
+    (All-cons (λ (q : ChunkPos). IsTrue (is_chunk q)) third [] refl (All-nil (λ (q : ChunkPos). IsTrue (is_chunk q))))))

@@ -7,7 +7,7 @@ use Rattle.fol_data_tests.proofs.stores.turn_while.Goals as goal
 
 pub put-requires-clause-contents_there : goal.put-requires-clause-contents_there
 put-requires-clause-contents_there c =
-    contents_return c.take-taken.result.chunks.items (bag_of c.args.store.now c.args.id).chunks (contents_of c.take-taken.result.body.chunks) (flat_of c.args.store.now) c.take-taken.ensures.chunks c.take-taken.ensures.moved_contents
+    contents_return c.take-taken.result.chunks (bag_of c.args.store.now c.args.id).chunks (contents_of c.take-taken.result.body.chunks) (flat_of c.args.store.now) c.take-taken.ensures.chunks c.take-taken.ensures.moved_contents
 
 pub put-requires-clause-contents_apart : goal.put-requires-clause-contents_apart
 put-requires-clause-contents_apart c =
@@ -16,7 +16,7 @@ put-requires-clause-contents_apart c =
 
 pub put-requires-clause-tasks_there : goal.put-requires-clause-tasks_there
 put-requires-clause-tasks_there c =
-    tasks_return c.take-taken.result.chunks.items (bag_of c.args.store.now c.args.id).chunks (rests_of c.take-taken.result.body) (jobs_of c.args.store.now) c.take-taken.ensures.chunks c.take-taken.ensures.moved_tasks
+    tasks_return c.take-taken.result.chunks (bag_of c.args.store.now c.args.id).chunks (rests_of c.take-taken.result.body) (jobs_of c.args.store.now) c.take-taken.ensures.chunks c.take-taken.ensures.moved_tasks
 
 pub put-requires-clause-tasks_apart : goal.put-requires-clause-tasks_apart
 put-requires-clause-tasks_apart c =

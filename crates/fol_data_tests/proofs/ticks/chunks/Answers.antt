@@ -9,10 +9,10 @@ use Rattle.fol_data_tests.proofs.ticks.chunks.Goals as goal
 
 pub returns-clause-order : goal.returns-clause-order
 unfolding IsStrictlySortedBy chunk_cmp
-returns-clause-order c = rw c.in_ok-vec.ensures.items ((refl, tt), (tt, tt))
+returns-clause-order c = rw (c.of.ensures, c.in_ok-chunks.ensures.items) ((refl, tt), (tt, tt))
 
 pub returns-clause-places : goal.returns-clause-places
 unfolding is_chunk
 returns-clause-places c =
     let chunks : List ChunkPos = (record { x = pos 0; z = pos 0 }) ∷ ((record { x = pos 1; z = pos 0 }) ∷ []) in
-    rw c.in_ok-vec.ensures.items (All-from_recursion (λ (q : ChunkPos). IsTrue (is_chunk q)) chunks (refl, (refl, tt)))
+    rw (c.of.ensures, c.in_ok-chunks.ensures.items) (All-from_recursion (λ (q : ChunkPos). IsTrue (is_chunk q)) chunks (refl, (refl, tt)))

@@ -4,7 +4,7 @@ use Rattle.fol_model.specs.Geometry.{same_block}
 use Rattle.fol_model.specs.Universe.{block_cmp}
 use Rattle.fol_keyed.proofs.Places.{block_cmp_total, block_cmp_tells, same_block-true, same_block-self}
 use Rattle.fol_keyed.proofs.Keyed.{differ_permuted}
-use Rattle.fol_bags.proofs.Answers.{on_ok}
+use Rattle.fol_keyed.proofs.Answers.{on_ok}
 use Rattle.fol_bags.proofs.Ordered.{strict_by}
 use Rattle.fol_store.proofs.sorting.sort_blocks.Goals as goal
 

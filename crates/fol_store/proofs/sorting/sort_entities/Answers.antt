@@ -6,7 +6,7 @@ use Rattle.fol_model.specs.declared.entities.Entity.{Entity}
 use Rattle.fol_keyed.proofs.Places.{nat_cmp_tells}
 use Rattle.fol_keyed.proofs.Keyed.{differ_permuted}
 use Rattle.fol_queues.proofs.Numbers.{nat_self}
-use Rattle.fol_bags.proofs.Answers.{on_ok}
+use Rattle.fol_keyed.proofs.Answers.{on_ok}
 use Rattle.fol_bags.proofs.Ordered.{strict_by_key}
 use Rattle.fol_store.proofs.sorting.sort_entities.Goals as goal
 

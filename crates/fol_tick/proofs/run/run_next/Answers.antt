@@ -10,13 +10,13 @@ returns-clause-runs g c =
     let here : c.args.tick.now.next < length c.args.tick.now.due = has_next c.args.tick.now c.args.prepared c.requires.prepared in (
       done.0,
       done.1,
-      next_runs c.args.tick.now c.index-as_slice-tick.result c.requires.may_run here (rw c.as_slice.ensures at c.index-as_slice-tick.is) c.args.log.now c.run_task.new.log c.run_task.new.chunks done.0 (rw (c.of-recorded.ensures, c.as_slice-2.ensures) at done.2),
+      next_runs c.args.tick.now c.index-as_slice-tick.result c.requires.may_run here (rw c.as_slice.ensures at c.index-as_slice-tick.is) c.args.log.now c.run_task.new.log c.run_task.new.chunks done.0 done.2,
     )
 
 pub returns-clause-may_run : goal.returns-clause-may_run
 returns-clause-may_run g c =
     let here : c.args.tick.now.next < length c.args.tick.now.due = has_next c.args.tick.now c.args.prepared c.requires.prepared in
-    next_may c.args.tick.now c.index-as_slice-tick.result c.requires.may_run here (rw c.as_slice.ensures at c.index-as_slice-tick.is) c.run_task.new.chunks (ap (λ (s : FlatEnd). s.flat) (rw (c.of-recorded.ensures, c.as_slice-2.ensures) at c.in_ok-run_task.ensures.ok.2).stage)
+    next_may c.args.tick.now c.index-as_slice-tick.result c.requires.may_run here (rw c.as_slice.ensures at c.index-as_slice-tick.is) c.run_task.new.chunks (ap (λ (s : FlatEnd). s.flat) c.in_ok-run_task.ensures.ok.2.stage)
 
 pub run_task-requires-clause-room_for_wishes : goal.run_task-requires-clause-room_for_wishes
 run_task-requires-clause-room_for_wishes g c =

@@ -14,17 +14,17 @@ returns-clause-ok g c =
     let again : c.repeated.result ≡ repeated_by c.args.task.now.chunk c.args.task.now.action = c.repeated.ensures in (
       done.0,
       done.1,
-      one_ran c.args.task.now done.0 (is_recorded c.args.recorded.now.chunks.now) (stage_at c.args.chunks.now c.args.log.now) (stage_at c.act.new.chunks c.record.new.self) c.in_ok-outcome.field-0 c.repeated.result call acts again c.record.ensures.ran c.record.ensures.wishes,
+      one_ran c.args.task.now done.0 (is_recorded c.args.recorded.now) (stage_at c.args.chunks.now c.args.log.now) (stage_at c.act.new.chunks c.record.new.self) c.in_ok-outcome.field-0 c.repeated.result call acts again c.record.ensures.ran c.record.ensures.wishes,
     )
 
 pub record-requires-clause-room_for_wishes : goal.record-requires-clause-room_for_wishes
 record-requires-clause-room_for_wishes g c =
     let acts = rw c.plain_of-action.ensures at c.in_ok-outcome.ensures.ok.3 in
-    let few = few_asked (is_recorded c.args.recorded.now.chunks.now) (flat_of c.args.chunks.now) c.args.task.now.chunk c.args.task.now.action c.in_ok-outcome.field-0.wish c.repeated.result acts.wish c.repeated.ensures in
+    let few = few_asked (is_recorded c.args.recorded.now) (flat_of c.args.chunks.now) c.args.task.now.chunk c.args.task.now.action c.in_ok-outcome.field-0.wish c.repeated.result acts.wish c.repeated.ensures in
     omega (arith, few, c.requires.room_for_wishes)
 
 pub returns-clause-wishes_len : goal.returns-clause-wishes_len
 returns-clause-wishes_len g c =
     let acts = rw c.plain_of-action.ensures at c.in_ok-outcome.ensures.ok.3 in
-    let few = few_asked (is_recorded c.args.recorded.now.chunks.now) (flat_of c.args.chunks.now) c.args.task.now.chunk c.args.task.now.action c.in_ok-outcome.field-0.wish c.repeated.result acts.wish c.repeated.ensures in
+    let few = few_asked (is_recorded c.args.recorded.now) (flat_of c.args.chunks.now) c.args.task.now.chunk c.args.task.now.action c.in_ok-outcome.field-0.wish c.repeated.result acts.wish c.repeated.ensures in
     omega (arith, few, c.record.ensures.wishes_len)

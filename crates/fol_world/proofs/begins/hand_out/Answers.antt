@@ -15,7 +15,7 @@ returns-clause-left c = left_jobs (is_recorded (bag_of c.args.tables.now.store c
     c.take-chunks.ensures.in_time c.take-chunks.ensures.moved_tasks c.take_due.ensures.left
 
 pub returns-clause-due : goal.returns-clause-due
-returns-clause-due c = ap task_in c.of-2.ensures ∙ due_tasks (is_recorded (bag_of c.args.tables.now.store c.args.id).chunks) c.take-chunks.result.body.tick c.take-chunks.result.body.queues.tasks c.take_due.new.self.tasks (jobs_of c.args.tables.now.store)
+returns-clause-due c = ap task_in c.of.ensures ∙ due_tasks (is_recorded (bag_of c.args.tables.now.store c.args.id).chunks) c.take-chunks.result.body.tick c.take-chunks.result.body.queues.tasks c.take_due.new.self.tasks (jobs_of c.args.tables.now.store)
     c.take-chunks.ensures.in_time c.take-chunks.ensures.moved_tasks _ c.take_due.ensures.taken
 
 pub tidy_without-requires-clause-state : goal.tidy_without-requires-clause-state

@@ -35,7 +35,7 @@ end_region-requires c =
     let acc = rw (e, body) at c.accept_all.ensures.accepted in
     let u = acc _ _ c.args.tick.now.region 0 (step.first c.args.tables.now c.args.tick.now m.opening m.history m.stands m.at m.size m.memory c.drop_due.new.tables d)
     (step.fits_all c.args.tables.now c.args.tick.now m.opening m.history m.stands m.at) in
-    let k = c.into_vec-3.ensures ∙ c.replace-chunks.ensures.value in
+    let k = c.replace-chunks.ensures.value in
     rw (k, body) (step.can_end c.args.tables.now c.args.tick.now m.opening m.history m.stands m.at c.accept_all.new.tables c.accept_all.new.chunks u)
 
 pub returns-clause-ended : goal.returns-clause-ended

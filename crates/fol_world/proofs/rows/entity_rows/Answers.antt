@@ -1,7 +1,12 @@
 use Rattle.std.proofs.Common.{◌∙◌}
 use Rattle.std.proofs.lemmas.Result.{IfOk-weaker}
-use Rattle.fol_world.proofs.EntityRows.{places_are}
+use Rattle.fol_world.proofs.EntityRows.{places_are, standing_are}
 use Rattle.fol_world.proofs.rows.entity_rows.Goals as goal
+
+pub returns-then-not-bring_any : goal.returns-then-not-bring_any
+returns-then-not-bring_any c = IfOk-weaker c.standing_rows.result _ _
+    (λ v e f are. e ∙ standing_are f c.args.entities.now c.args.tasks.now are c.requires.order (c.bring_any.ensures c.if-not-bring_any.true))
+    c.standing_rows.ensures
 
 pub returns : goal.returns
 returns c = IfOk-weaker c.list_places.result _ _

@@ -4,7 +4,7 @@ use Rattle.fol_model.specs.declared.places.ChunkPos.{ChunkPos}
 use Rattle.fol_chunks.specs.Contents.{is_recorded}
 use Rattle.fol_bags.specs.Places.{place_at}
 use Rattle.fol_bags.proofs.PlaceSteps.{renamed, renamed_twice}
-use Rattle.fol_bags.proofs.Recorded.{recorded_more}
+use Rattle.fol_keyed.proofs.Recorded.{recorded_more}
 use Rattle.fol_bags.proofs.places.Places.rehome.Goals as goal
 
 pub loop-c-preserved : goal.loop-c-preserved

@@ -2,7 +2,7 @@ use Rattle.std.proofs.Common.{rules}
 use Rattle.std.proofs.lemmas.Int.{to_z-of_z}
 use mir.Val.{SFits}
 use mir.Syntax.{w32}
-use Rattle.fol_bags.proofs.Answers.{on_ok, on_err}
+use Rattle.fol_keyed.proofs.Answers.{on_ok, on_err}
 use Rattle.fol_bags.proofs.PlaceSteps.{set_places, set_unknown}
 use Rattle.fol_bags.proofs.places.Places.set.Goals as goal
 

@@ -14,7 +14,7 @@ overflow_cast-at c =
     let vz : FitsSigned w32 c.args.entity.vz = search rules in
     let there = rw (far_sum c.args.entity.at.x c.args.entity.vx x vx, far_sum c.args.entity.at.z c.args.entity.vz z vz) at c.has-then-has.ensures in
     rw (far_sum c.args.entity.at.x c.args.entity.vx x vx)
-    (recorded_fits c.args.self.now.chunks.now (c.args.entity.at.x +ℤ c.args.entity.vx) (c.args.entity.at.z +ℤ c.args.entity.vz) c.requires (sym there ∙ c.if-has-2.true)).0
+    (recorded_fits c.args.self.now.chunks.now (c.args.entity.at.x +ℤ c.args.entity.vx) (c.args.entity.at.z +ℤ c.args.entity.vz) c.requires.places (sym there ∙ c.if-has-2.true)).0
 
 pub overflow_cast-at-then-has-2 : goal.overflow_cast-at-then-has-2
 overflow_cast-at-then-has-2 c =
@@ -24,7 +24,7 @@ overflow_cast-at-then-has-2 c =
     let vz : FitsSigned w32 c.args.entity.vz = search rules in
     let there = rw (far_sum c.args.entity.at.x c.args.entity.vx x vx, far_sum c.args.entity.at.z c.args.entity.vz z vz) at c.has-then-has.ensures in
     rw (far_sum c.args.entity.at.z c.args.entity.vz z vz)
-    (recorded_fits c.args.self.now.chunks.now (c.args.entity.at.x +ℤ c.args.entity.vx) (c.args.entity.at.z +ℤ c.args.entity.vz) c.requires (sym there ∙ c.if-has-2.true)).1
+    (recorded_fits c.args.self.now.chunks.now (c.args.entity.at.x +ℤ c.args.entity.vx) (c.args.entity.at.z +ℤ c.args.entity.vz) c.requires.places (sym there ∙ c.if-has-2.true)).1
 
 pub returns-then-has-2 : goal.returns-then-has-2
 returns-then-has-2 c =
@@ -35,7 +35,7 @@ returns-then-has-2 c =
     let vz : FitsSigned w32 c.args.entity.vz = search rules in
     let here = rw (widened c.args.entity.at.x x, widened c.args.entity.at.z z) at c.has.ensures in
     let there = rw (far_sum c.args.entity.at.x c.args.entity.vx x vx, far_sum c.args.entity.at.z c.args.entity.vz z vz) at c.has-then-has.ensures in
-    let fits = recorded_fits c.args.self.now.chunks.now (c.args.entity.at.x +ℤ c.args.entity.vx) (c.args.entity.at.z +ℤ c.args.entity.vz) c.requires (sym there ∙ c.if-has-2.true) in
+    let fits = recorded_fits c.args.self.now.chunks.now (c.args.entity.at.x +ℤ c.args.entity.vx) (c.args.entity.at.z +ℤ c.args.entity.vz) c.requires.places (sym there ∙ c.if-has-2.true) in
     rw (far_sum c.args.entity.at.x c.args.entity.vx x vx, far_sum c.args.entity.at.z c.args.entity.vz z vz, to_z-of_z w32 (c.args.entity.at.x +ℤ c.args.entity.vx) fits.0, to_z-of_z w32 (c.args.entity.at.z +ℤ c.args.entity.vz) fits.1, to_z-of_z w32 c.args.entity.at.y y, to_z-of_z w32 c.args.entity.vx vx, to_z-of_z w32 c.args.entity.vz vz)
     (goes_ahead (is_recorded c.args.self.now.chunks.now) c.args.entity (sym here ∙ c.if-has.true) (sym there ∙ c.if-has-2.true))
 

@@ -8,7 +8,7 @@ use Rattle.fol_bags.proofs.OpenBags.{here_range}
 use Rattle.fol_store.proofs.Drawing.{Drawn}
 use Rattle.fol_store.proofs.Stepping.{with_places, same_places, claimed, target_here, target_listed}
 use Rattle.fol_store.proofs.store.Store.claim.Goals as goal
-use Rattle.fol_bags.proofs.Answers.{answer_cases}
+use Rattle.fol_keyed.proofs.Answers.{answer_cases}
 
 step : (c : goal.After-set) → Drawn c.args.id c.args.chunks.now (the_view c.self.inside) (with_places (the_view c.self.inside) c.set.new.self)
 step c =

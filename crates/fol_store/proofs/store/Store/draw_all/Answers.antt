@@ -4,7 +4,7 @@ use Rattle.fol_model.specs.declared.places.ChunkPos.{ChunkPos}
 use Rattle.fol_store.specs.Steps.{IsGathered}
 use Rattle.fol_bags.proofs.OpenBags.{get_or-any}
 use Rattle.fol_store.proofs.Stepping.{draws_trans, target_kept}
-use Rattle.fol_bags.proofs.Recorded.{recorded_at, recorded_index}
+use Rattle.fol_keyed.proofs.Recorded.{recorded_at, recorded_index}
 use Rattle.fol_store.proofs.store.Store.draw_all.Goals as goal
 
 pub draw-requires-clause-target : goal.draw-requires-clause-target

@@ -9,11 +9,11 @@ use Rattle.fol_store.specs.Stock.{Stock, slot, in_bag, in_spot, bag_of}
 use Rattle.fol_store.specs.Steps.{IsTarget, IsGathered}
 use Rattle.fol_store.proofs.Drawing.{Drawn, with_parts, loses_none, gains_none}
 use Rattle.fol_store.proofs.Spotting.{Spotted, OnePair, from_spot, keeps_gathered, gathers}
-use Rattle.fol_bags.proofs.Recorded.{single-is, single-self}
+use Rattle.fol_keyed.proofs.Recorded.{single-is, single-self}
 use Rattle.fol_store.proofs.Stepping.{target_here, here_not_taken, others_same}
 use Rattle.fol_bags.proofs.OpenBags.{here_open}
 use Rattle.fol_store.proofs.store.Store.draw_spot.Goals as goal
-use Rattle.fol_bags.proofs.Answers.{answer_cases}
+use Rattle.fol_keyed.proofs.Answers.{answer_cases}
 use Rattle.fol_bags.specs.Moves.{Loses, Gains, SameThings}
 
 pub shift_to_bag-requires-clause-order : goal.shift_to_bag-requires-clause-order

@@ -7,7 +7,7 @@ use Rattle.fol_store.specs.Stock.{place, bag_of}
 use Rattle.fol_store.specs.Steps.{IsGathered}
 use Rattle.fol_bags.proofs.OpenBags.{get_or-any}
 use Rattle.fol_store.proofs.Stepping.{target_own, draws_own}
-use Rattle.fol_bags.proofs.Recorded.{recorded_index}
+use Rattle.fol_keyed.proofs.Recorded.{recorded_index}
 use Rattle.fol_store.proofs.store.Store.draw_touched.Goals as goal
 
 pub draw_known-requires : goal.draw_known-requires

@@ -6,7 +6,7 @@ use Rattle.fol_store.specs.contracts.store.Store.{the_view}
 use Rattle.fol_bags.specs.Places.{is_bag}
 use Rattle.fol_store.specs.Stock.{slot, place, bag_of, next_of}
 use Rattle.fol_store.proofs.Filling.{own_at}
-use Rattle.fol_bags.proofs.OneMore.{recorded_there}
+use Rattle.fol_keyed.proofs.OneMore.{recorded_there}
 use Rattle.fol_store.proofs.Relisting.{has_chunk, more_elsewhere, noted_bag, same_chunks}
 use Rattle.fol_store.proofs.Totals.{same_flat, same_jobs}
 use Rattle.fol_store.proofs.store.Store.gain.Goals as goal

@@ -3,7 +3,7 @@ use Rattle.fol_model.specs.declared.places.ChunkPos.{ChunkPos}
 use Rattle.fol_chunks.specs.Contents.{is_recorded}
 use Rattle.fol_store.specs.Stock.{place}
 use Rattle.fol_store.proofs.Parting.{is_claimed}
-use Rattle.fol_bags.proofs.Recorded.{recorded_index}
+use Rattle.fol_keyed.proofs.Recorded.{recorded_index}
 use Rattle.fol_store.proofs.store.Store.has_none_outside.Goals as goal
 
 pub returns : goal.returns

@@ -1,7 +1,7 @@
 use Rattle.std.proofs.Common.{inl, inr, arith}
 use Rattle.fol_store.specs.contracts.store.Store.{the_view}
 use Rattle.fol_bags.specs.Slots.{spot_in}
-use Rattle.fol_bags.proofs.Answers.{answer_cases, on_ok}
+use Rattle.fol_keyed.proofs.Answers.{answer_cases, on_ok}
 use Rattle.fol_store.proofs.Arriving.{spot_same}
 use Rattle.fol_store.proofs.LayingThings.{InSpot, BlockLaid, block_laid}
 use Rattle.fol_model.specs.Geometry.{chunk_of}

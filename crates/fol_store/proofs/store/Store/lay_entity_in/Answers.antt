@@ -4,7 +4,7 @@ use Rattle.fol_bags.specs.Slots.{spot_in}
 use Rattle.fol_bags.specs.Things.{of_entity}
 use Rattle.fol_store.specs.Stock.{in_spot as spot_part, found}
 use Rattle.fol_store.proofs.Totals.{found_none}
-use Rattle.fol_bags.proofs.Answers.{answer_cases, on_ok}
+use Rattle.fol_keyed.proofs.Answers.{answer_cases, on_ok}
 use Rattle.fol_store.proofs.Arriving.{spot_same}
 use Rattle.fol_store.proofs.LayingThings.{InSpot, EntityLaid, entity_laid}
 use Rattle.fol_model.specs.Geometry.{chunk_of}

@@ -7,8 +7,8 @@ use Rattle.fol_store.specs.contracts.store.Store.{the_view}
 use Rattle.fol_bags.specs.Places.{is_bag}
 use Rattle.fol_store.specs.Stock.{slot, place, bag_of}
 use Rattle.fol_store.proofs.Filling.{own_at}
-use Rattle.fol_bags.proofs.Recorded.{recorded_last}
-use Rattle.fol_bags.proofs.OneMore.{recorded_away}
+use Rattle.fol_keyed.proofs.Recorded.{recorded_last}
+use Rattle.fol_keyed.proofs.OneMore.{recorded_away}
 use Rattle.fol_store.proofs.Stepping.{here_not_taken}
 use Rattle.fol_store.proofs.Relisting.{lacks_chunk, less_elsewhere, noted_bag, same_chunks}
 use Rattle.fol_store.proofs.store.Store.lose.Goals as goal

@@ -8,8 +8,8 @@ use Rattle.fol_bags.specs.Slots.{slot_in}
 use Rattle.fol_store.specs.Stock.{slot, place}
 use Rattle.fol_store.proofs.BagSteps.{with_bags}
 use Rattle.fol_store.proofs.Noting.{marked_step, marked_is, unstirred_is}
-use Rattle.fol_bags.proofs.Recorded.{recorded_front, recorded_last}
-use Rattle.fol_bags.proofs.Answers.{answer_cases, on_ok}
+use Rattle.fol_keyed.proofs.Recorded.{recorded_front, recorded_last}
+use Rattle.fol_keyed.proofs.Answers.{answer_cases, on_ok}
 use Rattle.fol_store.proofs.Spotting.{Spotted}
 use Rattle.fol_store.proofs.store.Store.note_in.Goals as goal
 

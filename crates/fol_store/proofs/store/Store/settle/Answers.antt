@@ -1,7 +1,7 @@
 use Rattle.std.proofs.Common.{ℕ, true, false, ◌∙◌, ap}
 use Rattle.fol_store.specs.Bag.{Bag}
 use Rattle.fol_store.specs.Stock.{next_of}
-use Rattle.fol_bags.proofs.Answers.{on_ok, on_err}
+use Rattle.fol_keyed.proofs.Answers.{on_ok, on_err}
 use Rattle.fol_store.proofs.Totals.{same_flat, same_jobs}
 use Rattle.fol_store.proofs.Noting.{touched_same, touched_unlisted}
 use Rattle.fol_store.proofs.store.Store.settle.Goals as goal

@@ -7,7 +7,7 @@ use Rattle.fol_chunks.specs.Contents.{is_recorded}
 use Rattle.fol_bags.specs.declared.places.Place.{Place}
 use Rattle.fol_store.specs.Stock.{place}
 use Rattle.fol_bags.proofs.PlaceSteps.{bag-from_is}
-use Rattle.fol_bags.proofs.Recorded.{recorded_index}
+use Rattle.fol_keyed.proofs.Recorded.{recorded_index}
 use Rattle.fol_store.proofs.store.Store.spots_among.Goals as goal
 
 pub returns-clause-homes : goal.returns-clause-homes

@@ -10,7 +10,7 @@ use Rattle.fol_bags.specs.Slots.{slot_in}
 use Rattle.fol_store.specs.Stock.{bag_of, slot}
 use Rattle.fol_store.proofs.Totals.{same_jobs}
 use Rattle.fol_store.proofs.Arriving.{bags_same}
-use Rattle.fol_bags.proofs.Answers.{on_ok, on_err}
+use Rattle.fol_keyed.proofs.Answers.{on_ok, on_err}
 use Rattle.fol_store.proofs.store.Store.try_expel.Goals as goal
 
 pub expel_to-requires-clause-here : goal.expel_to-requires-clause-here

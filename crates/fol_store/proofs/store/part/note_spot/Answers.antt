@@ -1,5 +1,5 @@
-use Rattle.fol_bags.proofs.Recorded.{recorded_last}
-use Rattle.fol_bags.proofs.Answers.{on_ok}
+use Rattle.fol_keyed.proofs.Recorded.{recorded_last}
+use Rattle.fol_keyed.proofs.Answers.{on_ok}
 use Rattle.fol_store.proofs.store.part.note_spot.Goals as goal
 
 pub returns-in-Some-clause-noted : goal.returns-in-Some-clause-noted

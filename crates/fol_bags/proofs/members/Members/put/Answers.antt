@@ -1,8 +1,0 @@
-use Rattle.fol_bags.proofs.Pending.{changed_nothing, none_pending}
-use Rattle.fol_bags.proofs.members.Members.put.Goals as goal
-
-pub invariant_of-self : goal.invariant_of-self
-invariant_of-self c = none_pending _ _ _ c.clear.ensures.items
-
-pub returns : goal.returns
-returns c = changed_nothing _ _ c.clear.ensures.items
