@@ -1,6 +1,6 @@
 -- The seats of a world and the seats of its lock.
 use Rattle.std.proofs.Common.{◌≡◌, ◌<◌, ◌≤◌, ◌+◌, ◌-◌, ℕ, zero, suc, refl, sym, ◌∙◌, ap, subst, List, [], ◌∷◌, ◌++◌, length, arith, append-nil, Some}
-use Rattle.std.specs.Prelude.{slice_get, Option, None}
+use Rattle.std.specs.Prelude.{slice_get, Option, None, false}
 use Rattle.std.specs.Option.{unwrap_or}
 use Rattle.std.specs.List.{AllByRecursion}
 use Rattle.atomic_table.specs.Seated.{TableId}
@@ -10,7 +10,7 @@ use Rattle.fol_lock.specs.Seat as locks
 use Rattle.fol_slots.specs.Shown.{AreNew, Worker, new_worker}
 use Rattle.fol_offers.specs.Offered.{Offered}
 use Rattle.fol_live.specs.declared.origin.Origin.{Origin}
-use Rattle.fol_live.specs.Seat.{HasFront, HasHand, Shown, origin_of}
+use Rattle.fol_live.specs.Seat.{HasHand, HasSight, Shown, origin_of}
 use Rattle.fol_live.specs.Seats.{AreFresh, AreNewSeats, DealsAll, new_hand, newcomer}
 use Rattle.fol_live.specs.Shown as worlds
 use Rattle.fol_live.proofs.Taken.{Hand, IsIdleSeat, SeatOfLock, began, id_of, view}
@@ -54,7 +54,7 @@ paired hand (s ∷ ss) ws = view s hand ∷ paired (first_of ws) ss (rest_of ws)
 pub record CanSit (s : SeatOfLock) (hand : Hand) : Type 0 where
   pub idle : IsIdleSeat s
   pub has : HasHand (origin_of s.origin) s.number hand
-  pub front : HasFront 0 s
+  pub sight : HasSight (origin_of s.origin) s (record { front = 0; none_owing = false })
 
 abbrev pub CanAllSit : Hand → List SeatOfLock → List (Worker Offered) → Type 0
 CanAllSit hand [] ws = Unit {0}
@@ -83,11 +83,11 @@ module _ (lock : LockId) (o : Origin) where
   shown_first k s hand seat has = rw (seat, has) refl
 
   sits_new : o.slots.slots ≡ 1820 → (k : ℕ) → CanSit (seat_at k) (new_hand (id_of lock o) k)
-  sits_new sized zero = record { idle = record { idle = refl; origin = refl; own = refl }; has = refl; front = refl }
+  sits_new sized zero = record { idle = record { idle = refl; origin = refl; own = refl }; has = refl; sight = record { front = refl; none_owing = λ never. absurd (cc) } }
   sits_new sized (suc n) = record {
     idle = record { idle = refl; origin = refl; own = refl };
     has = record { sized = sized; slots = refl; number_is = refl; some = omega arith };
-    front = refl;
+    sight = record { front = refl; none_owing = λ never. absurd (cc) };
   }
 
   sits_first : o.slots.slots ≡ 1820 → (k : ℕ) (s : SeatOfLock) (hand : Hand) → s ≡ seat_at k → hand ≡ new_hand (id_of lock o) k → CanSit s hand

@@ -24,7 +24,9 @@ use Rattle.fol_live.specs.Shown as worlds
 use Rattle.fol_live.specs.Turns.{IsLate, Learns}
 use Rattle.fol_live.proofs.LateBegins.{late_keep_open, learns_both}
 use Rattle.fol_live.specs.Calls.{Turn}
-use Rattle.fol_live.specs.Seat.{HasFront, HasHand, IsSeat, LiveId, Shown, held_in, meaning_of, origin_of, shown}
+use Rattle.fol_live.specs.declared.sight.Sight.{Sight}
+use Rattle.fol_live.specs.Seat.{HasHand, HasSight, IsSeat, LiveId, Shown, held_in, meaning_of, origin_of, shown}
+use Rattle.fol_live.specs.Sights.{IsSight}
 use Rattle.fol_live.specs.Turned.{Adds, Looks, Meets}
 use Rattle.fol_live.proofs.Holding.{held_open}
 
@@ -237,30 +239,30 @@ module _ {s t u : SeatOfLock} {before : Hand} {z m n : worlds.Shown} {by : ℕ} 
   done {after} {old} is own = subst (λ (x : Shown). Done x (view u after) m n by) is (done_here {after = after} (ap (λ (x : Shown). x.lock.lock) is ∙ own))
 
   -- the seat is again one that is idle
-  pub idle_seat : (front : ℕ) → front ≡ length n.history → IsIdleSeat u × HasFront front u
-  idle_seat front reached = (
-    record {
-      idle = idle.1;
-      origin = origin_is ∙ v.is.origin ∙ ap (λ (o : Option Origin). Some (origin_of o)) (sym origin_is);
-      own = ap (λ (k : ℕ). own_of k u.seen) number_is ∙ ap (own_of s.number) (seen ∙ history_is) ∙ given_by-append by_of s.number z.history (v.learns.learnt ++ v.grew.added)
-          ∙ ap (λ (es : List Entry). es ++ own_of s.number (v.learns.learnt ++ v.grew.added)) v.continues.mine
-          ∙ ap (λ (es : List Entry). s.mine ++ es) (given_by-append by_of s.number v.learns.learnt v.grew.added ∙ ap (λ (es : List Entry). es ++ own_of s.number v.grew.added) learnt_own
-          ∙ ap (λ (es : List Entry). v.learns.learnt ++ es) added_own) ∙ sym mine_is;
-    },
-    reached ∙ ap length (sym seen),
-  )
+  pub idle_seat : IsIdleSeat u
+  idle_seat = record {
+    idle = idle.1;
+    origin = origin_is ∙ v.is.origin ∙ ap (λ (o : Option Origin). Some (origin_of o)) (sym origin_is);
+    own = ap (λ (k : ℕ). own_of k u.seen) number_is ∙ ap (own_of s.number) (seen ∙ history_is) ∙ given_by-append by_of s.number z.history (v.learns.learnt ++ v.grew.added)
+        ∙ ap (λ (es : List Entry). es ++ own_of s.number (v.learns.learnt ++ v.grew.added)) v.continues.mine
+        ∙ ap (λ (es : List Entry). s.mine ++ es) (given_by-append by_of s.number v.learns.learnt v.grew.added ∙ ap (λ (es : List Entry). es ++ own_of s.number v.grew.added) learnt_own
+        ∙ ap (λ (es : List Entry). v.learns.learnt ++ es) added_own) ∙ sym mine_is;
+  }
+
+  -- what was seen of the world was seen of what the seat has seen
+  pub sight_there : (sight : Sight) → IsSight n.opening n.history sight → HasSight (origin_of u.origin) u sight
+  sight_there sight is = subst (λ (h : List Entry). IsSight (origin_of u.origin).opening h sight) (sym seen) (subst (λ (o : Origin). IsSight o.opening n.history sight) began_is is)
 
   -- and the invariant of a seat holds again
-  pub seat_with : (after : Hand) (front : ℕ) → front ≡ length n.history → HasHand (origin_of s.origin) s.number after
-      → IsSeat (origin_of u.origin) u × HasHand (origin_of u.origin) u.number after × HasFront front u
-  seat_with after front reached has =
-      let both = idle_seat front reached in
+  pub seat_with : (after : Hand) (sight : Sight) → IsSight n.opening n.history sight → HasHand (origin_of s.origin) s.number after
+      → IsSeat (origin_of u.origin) u × HasHand (origin_of u.origin) u.number after × HasSight (origin_of u.origin) u sight
+  seat_with after sight is has =
       let here : HasHand (origin_of s.origin) u.number after = subst (λ (k : ℕ). HasHand (origin_of s.origin) k after) (sym number_is) has in
-      (both.0, subst (λ (o : Option Origin). HasHand (origin_of o) u.number after) (sym origin_is) here, both.1)
+      (idle_seat, subst (λ (o : Option Origin). HasHand (origin_of o) u.number after) (sym origin_is) here, sight_there sight is)
 
-  pub seat_again : (after : Hand) (front : ℕ) → front ≡ length n.history → after ≡ before → HasHand (origin_of s.origin) s.number before
-      → IsSeat (origin_of u.origin) u × HasHand (origin_of u.origin) u.number after × HasFront front u
-  seat_again after front reached same has = seat_with after front reached (subst (λ (h : Hand). HasHand (origin_of s.origin) s.number h) (sym same) has)
+  pub seat_again : (after : Hand) (sight : Sight) → IsSight n.opening n.history sight → after ≡ before → HasHand (origin_of s.origin) s.number before
+      → IsSeat (origin_of u.origin) u × HasHand (origin_of u.origin) u.number after × HasSight (origin_of u.origin) u sight
+  seat_again after sight is same has = seat_with after sight is (subst (λ (h : Hand). HasHand (origin_of s.origin) s.number h) (sym same) has)
 
 -- ---- what a call comes to
 

@@ -5,6 +5,7 @@ pub mod Turns
 pub mod Rounds
 pub mod Hands
 pub mod Laws
+pub mod Sights
 pub mod Seat
 pub mod Turned
 pub mod Calls

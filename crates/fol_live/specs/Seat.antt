@@ -1,5 +1,5 @@
 -- What contracts see of a seat.
-use Rattle.std.specs.Prelude.{ℕ, ◌≡◌, ◌≤◌, false, List, [], length, Option, Some, None}
+use Rattle.std.specs.Prelude.{ℕ, ◌≡◌, ◌≤◌, false, List, [], Option, Some, None}
 use Rattle.atomic_table.specs.Seated.{TableId}
 use Rattle.fol_model.specs.GridNumbers.{numbers}
 use Rattle.fol_model.specs.declared.openings.Opening.{Opening}
@@ -13,6 +13,8 @@ use Rattle.fol_slots.specs.Shown.{Worker}
 use Rattle.fol_offers.specs.Offered.{Offered}
 use Rattle.fol_live.specs.declared.origin.Origin.{Origin}
 use Rattle.fol_live.specs.Hands.{tick_in}
+use Rattle.fol_live.specs.Sights.{IsSight}
+use Rattle.fol_live.specs.declared.sight.Sight.{Sight}
 
 -- which shared world it is: no two share their lock or their slots
 pub record LiveId : Type 0 where
@@ -79,9 +81,9 @@ pub record IsSeat (o : Origin) (s : locks.Shown Origin Entry) : Type 0 where
   pub origin : s.origin ≡ Some o
   pub own : own_of s.number s.seen ≡ s.mine
 
--- how much it has seen
-abbrev pub HasFront : ℕ → locks.Shown Origin Entry → Type 0
-HasFront front s = front ≡ length s.seen
+-- what is kept of what it has seen is of just that
+abbrev pub HasSight : Origin → locks.Shown Origin Entry → Sight → Type 0
+HasSight o s sight = IsSight o.opening s.seen sight
 
 -- what a core would stand for that has just the history that the seat has seen
 abbrev pub meaning_of : Shown → Meaning

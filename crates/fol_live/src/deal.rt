@@ -5,6 +5,7 @@ ghost use Rattle.fol_live.specs.Seats.{AreFresh, DealsAll};
 
 use crate::hand::Hand;
 use crate::seat::Seat;
+use crate::sight::Sight;
 use crate::world::World;
 use fol_offers::Offer;
 use fol_slots::WorkerSeat;
@@ -26,7 +27,10 @@ pub(crate) fn deal(
         dealt.push_reserved(Seat {
             seat,
             hand,
-            front: 0,
+            sight: Sight {
+                front: 0,
+                none_owing: false,
+            },
         });
         hand = match rest.next() {
             Some(worker) => Some(Hand::of(worker)),

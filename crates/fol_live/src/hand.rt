@@ -18,10 +18,10 @@ use std::marker::Model;
 #[derive(Drop)]
 pub struct Hand {
     worker: WorkerSeat<Offer>,
+    /// The slot at which it found the last tick: the next is looked for from there on.
+    from: u32,
     /// The region whose tick it holds.
     region: Option<u64>,
-    /// The slot at which it found the last one: the next is looked for from there on.
-    from: u32,
 }
 
 impl Model for Hand {

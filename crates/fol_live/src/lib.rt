@@ -27,6 +27,7 @@ mod laws;
 mod live;
 mod origin;
 mod seat;
+mod sight;
 mod ticks;
 mod turn;
 mod world;

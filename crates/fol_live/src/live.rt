@@ -84,7 +84,7 @@ impl Live {
             let Seat {
                 seat,
                 hand: _,
-                front: _,
+                sight: _,
             } = seat;
             inner.push_reserved(seat);
         }
@@ -107,10 +107,10 @@ impl Live {
         let world = turn.state();
         seat.hand = meet(world, &self.slots, seat.hand.take());
         let answer = world.owner_rows();
-        let front = world.front();
-        seat.front = front;
+        let sight = world.sight();
+        seat.sight = sight;
         self.lock.give(&mut seat.seat, turn);
-        owners_after(front, answer)
+        owners_after(sight.front, answer)
     }
 
     /// Asks for a ticket to a chunk, with the seat's number as the caller. Over exactly where Finish stands in the history; only
@@ -125,7 +125,7 @@ impl Live {
         let world = turn.state();
         seat.hand = meet(world, &self.slots, seat.hand.take());
         let answer = world.load(&self.slots, by, c);
-        seat.front = world.front();
+        seat.sight = world.sight();
         self.lock.give(&mut seat.seat, turn);
         answer
     }
@@ -147,7 +147,7 @@ impl Live {
         let world = turn.state();
         seat.hand = meet(world, &self.slots, seat.hand.take());
         let answer = world.unload(&self.slots, by, c);
-        seat.front = world.front();
+        seat.sight = world.sight();
         self.lock.give(&mut seat.seat, turn);
         answer
     }
@@ -174,7 +174,7 @@ impl Live {
         let world = turn.state();
         seat.hand = meet(world, &self.slots, seat.hand.take());
         let answer = world.post(&self.slots, by, c, delay, action);
-        seat.front = world.front();
+        seat.sight = world.sight();
         self.lock.give(&mut seat.seat, turn);
         answer
     }
@@ -195,7 +195,7 @@ impl Live {
         let world = turn.state();
         seat.hand = meet(world, &self.slots, seat.hand.take());
         let answer = world.open_phase(&self.slots, by, n);
-        seat.front = world.front();
+        seat.sight = world.sight();
         self.lock.give(&mut seat.seat, turn);
         answer
     }
@@ -211,7 +211,7 @@ impl Live {
         let world = turn.state();
         seat.hand = meet(world, &self.slots, seat.hand.take());
         let answer = world.close_phase(&self.slots, by);
-        seat.front = world.front();
+        seat.sight = world.sight();
         self.lock.give(&mut seat.seat, turn);
         answer
     }
@@ -227,7 +227,7 @@ impl Live {
         let world = turn.state();
         seat.hand = meet(world, &self.slots, seat.hand.take());
         let answer = world.finish(&self.slots, by);
-        seat.front = world.front();
+        seat.sight = world.sight();
         self.lock.give(&mut seat.seat, turn);
         answer
     }
@@ -242,7 +242,7 @@ impl Live {
         let world = turn.state();
         seat.hand = meet(world, &self.slots, seat.hand.take());
         world.stop(&self.slots, by);
-        seat.front = world.front();
+        seat.sight = world.sight();
         self.lock.give(&mut seat.seat, turn);
     }
 
@@ -255,7 +255,7 @@ impl Live {
         let world = turn.state();
         seat.hand = meet(world, &self.slots, seat.hand.take());
         let answer = world.is_over();
-        seat.front = world.front();
+        seat.sight = world.sight();
         self.lock.give(&mut seat.seat, turn);
         answer
     }
@@ -288,7 +288,8 @@ impl Live {
     /// tick, which is the same, and which the seat holds still. It also works after a Stop.
     ///
     /// Behind the End the seat may begin and end further ticks of the region in which nothing happens, at most `most`: where no task is due in
-    /// them, no entity has a speed and their release changes nothing. How many of them it leaves to `try_begin` is free.
+    /// them, no entity has a speed and their release changes nothing. How many of them it leaves to `try_begin` is free. `Seat::saw_none_owing`
+    /// then tells, where it is true, that no tick is left to look for.
     pub fn release<R: Wait>(
         &self,
         rt: &R,
@@ -305,7 +306,7 @@ impl Live {
         let hand = meet(world, &self.slots, seat.hand.take());
         let (hand, answer) = end(world, &self.slots, hand, tick, most);
         seat.hand = hand;
-        seat.front = world.front();
+        seat.sight = world.sight_of_ticks();
         self.lock.give(&mut seat.seat, turn);
         answer
     }

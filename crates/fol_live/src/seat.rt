@@ -1,8 +1,12 @@
 //! Seats.
 
-ghost use Rattle.std.specs.Prelude.{◌≡◌, length};
+ghost use Rattle.std.specs.Prelude.{◌≡◌, length, IsTrue};
+ghost use Rattle.fol_core.specs.Meaning.{world_of};
+ghost use Rattle.fol_live.specs.Seat.{meaning_of};
+ghost use Rattle.fol_live.specs.Sights.{NoneOwing};
 
 use crate::hand::Hand;
+use crate::sight::Sight;
 use crate::world::World;
 use std::marker::Model;
 
@@ -13,19 +17,20 @@ pub struct Seat {
     pub(crate) seat: fol_lock::Seat<World>,
     /// What it has of the slots; seat 0 has nothing there.
     pub(crate) hand: Option<Hand>,
-    /// How many entries it has seen.
-    pub(crate) front: u64,
+    /// What it keeps of what it has seen.
+    pub(crate) sight: Sight,
 }
 
 impl Model for Seat {
-    ghost use Rattle.fol_live.specs.Seat.{HasFront, HasHand, IsSeat, Shown, origin_of, shown};
+    ghost use Rattle.fol_live.specs.Seat.{HasHand, HasSight, IsSeat, Shown, origin_of, shown};
 
     ghost Value = { Shown };
 
     ghost view = { λ s. shown (origin_of s.seat.origin) s.seat s.hand };
 
     ghost invariant = { λ s. IsSeat (origin_of s.seat.origin) s.seat
-        × HasHand (origin_of s.seat.origin) s.seat.number s.hand × HasFront s.front s.seat };
+        × HasHand (origin_of s.seat.origin) s.seat.number s.hand
+        × HasSight (origin_of s.seat.origin) s.seat s.sight };
 }
 
 impl Seat {
@@ -40,6 +45,14 @@ impl Seat {
     pub fn front(&self) -> u64
         ensures { result ≡ length self.now.seen }
     {
-        self.front
+        self.sight.front
+    }
+
+    /// Whether the seat knows that after the entries that it has seen no region that is Ready owes a tick, so that there is none to be claimed until
+    /// somebody records more. One-sided: where it is false, one may owe a tick or none.
+    pub fn saw_none_owing(&self) -> bool
+        ensures { IsTrue result → NoneOwing (world_of (meaning_of self.now)) }
+    {
+        self.sight.none_owing
     }
 }

@@ -1,6 +1,6 @@
 //! The state behind the lock.
 
-ghost use Rattle.std.specs.Prelude.{◌≡◌, ◌+◌, ◌≤◌, ◌<◌, [], length, IfOk, IfErr, IsTrue};
+ghost use Rattle.std.specs.Prelude.{◌≡◌, ◌+◌, ◌≤◌, ◌<◌, [], IfOk, IfErr, IsTrue};
 ghost use Rattle.fol_model.specs.Geometry.{is_chunk};
 ghost use Rattle.fol_model.specs.Limits.{is_action, is_delay, may_post};
 ghost use Rattle.fol_model.specs.Outputs.{owner_rows};
@@ -11,10 +11,12 @@ ghost use Rattle.fol_core.specs.Answers.{is_over as over};
 ghost use Rattle.fol_core.specs.Meaning.{world_of};
 ghost use Rattle.fol_live.specs.Kept.{IsKept};
 ghost use Rattle.fol_live.specs.Shown.{first, meaning_of};
+ghost use Rattle.fol_live.specs.Sights.{IsSight, NoneOwing};
 ghost use Rattle.fol_live.specs.Turns.{Closes, Finishes, Learns, Loads, Opens, Posts, SameWorld, Stops, Unloads};
 
 use crate::answers::LivePhase;
 use crate::origin::Origin;
+use crate::sight::Sight;
 use fol_core::{Close, Core, Finish, Phase, Posting};
 use fol_lock::Kept;
 use fol_model::{Action, ChunkPos, Entry, Loaded, Opening, OwnerRow, Unloaded};
@@ -111,11 +113,35 @@ impl World {
         let _offers = &self.offers;
     }
 
-    /// The length of the history.
-    pub fn front(&self) -> u64
-        ensures { result ≡ length self.now.history }
+    /// What a seat keeps that has seen the whole history, and did not look whether a tick is owed.
+    pub fn sight(&self) -> Sight
+        ensures { IsSight self.now.opening self.now.history result }
     {
-        self.offers.front()
+        Sight {
+            front: self.offers.front(),
+            none_owing: false,
+        }
+    }
+
+    /// What a seat keeps that has seen the whole history, and looked whether a tick is owed.
+    pub fn sight_of_ticks(&self) -> Sight
+        ensures { IsSight self.now.opening self.now.history result }
+    {
+        Sight {
+            front: self.offers.front(),
+            none_owing: self.has_none_owing(),
+        }
+    }
+
+    /// Whether it is known that no region that is Ready owes a tick: none is offered, and none is left to be offered. Where the history is over,
+    /// nothing is known of it.
+    fn has_none_owing(&self) -> bool
+        ensures { IsTrue result → NoneOwing (world_of (meaning_of self.now)) }
+    {
+        if self.offers.offered_count() > 0 || self.is_short {
+            return false;
+        }
+        !self.offers.is_over()
     }
 
     /// Whether Finish or Stop stands in the history.

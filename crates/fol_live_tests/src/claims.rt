@@ -115,8 +115,10 @@ fn quiet_ticks_are_passed_over(rt: HostRuntime) {
     open_four(&rt, &live, &mut caller);
     let tick = claim(&rt, &live, &mut first);
     let mut first = end(&rt, alloc, &live, first, tick, 2);
+    same(&rt, &first.saw_none_owing(), &false);
     let tick = claim(&rt, &live, &mut first);
     let first = end(&rt, alloc, &live, first, tick, 0);
+    same(&rt, &first.saw_none_owing(), &true);
     close_phase(&rt, &live, &mut caller, Close::Closed);
     let closing = close(&rt, alloc, live, [caller, first, second, third]);
     has_entries(&rt, &closing, 11);

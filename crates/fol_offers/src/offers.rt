@@ -8,7 +8,7 @@ ghost use Rattle.fol_slots.specs.Shown.{AreNew};
 ghost use Rattle.fol_slots.specs.Table.{slots_id, slot_count};
 ghost use Rattle.fol_core.specs.Ahead.{NonePrepared, Prepares};
 ghost use Rattle.fol_core.specs.Answers.{is_free, is_over};
-ghost use Rattle.fol_core.specs.Meaning.{Stays, is_prepared, world_of};
+ghost use Rattle.fol_core.specs.Meaning.{Stays, is_prepared, mark_count, world_of};
 ghost use Rattle.fol_offers.specs.InTurn.{InTurn, TakeTurns};
 ghost use Rattle.fol_offers.specs.Offered.{nothing};
 ghost use Rattle.fol_offers.specs.Shown.{NoneFree, OffersMore, OffersNext};
@@ -156,6 +156,14 @@ impl Offers {
         ensures { result ≡ is_prepared self.now.core region }
     {
         self.core.is_prepared(region)
+    }
+
+    /// How many regions' ticks are offered, as far as is known: workers may have claimed some of them. Where it is 0, none is.
+    pub fn offered_count(&self) -> u64
+        ensures count { result ≡ mark_count self.now.core.prepared }
+        ensures none { result ≡ 0 → NonePrepared self.now.core }
+    {
+        self.core.prepared_count()
     }
 
     /// Offers the tick of a Ready region that owes one and is not offered yet, and returns which one; `None` exactly where the history is

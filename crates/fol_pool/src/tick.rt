@@ -21,7 +21,7 @@ const QUIET_TICKS: u32 = 64;
 pub(crate) enum Rest {
     /// It left the next one to others, since too many wait for the lock.
     Left,
-    /// It found none in the slots.
+    /// It found none in the slots, or saw at the end of its last one that none was left.
     Idle,
 }
 
@@ -52,6 +52,9 @@ pub(crate) fn ticks<R: Wait, G: Gate + Sync>(
                     Ok(crowd) => {
                         if patience.leaves(crowd) {
                             return (seat, Ok(Rest::Left));
+                        }
+                        if seat.saw_none_owing() {
+                            return (seat, Ok(Rest::Idle));
                         }
                     }
                     Err(_) => return (seat, Err(AllocError)),

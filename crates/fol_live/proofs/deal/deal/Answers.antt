@@ -26,7 +26,7 @@ invariant_of-push_reserved c =
     let steps = c.in-Some.ensures.steps in
     let e = steps.0 in
     let first = (rw e at c.loop-seat.invariant.sit).0 in
-    (first.idle, first.has, first.front)
+    (first.idle, first.has, first.sight)
 
 pub loop-seat-preserved-in-Some-next : goal.loop-seat-preserved-in-Some-next
 loop-seat-preserved-in-Some-next c =

@@ -1,4 +1,4 @@
-use Rattle.std.proofs.Common.{◌≡◌, ◌∙◌, arith}
+use Rattle.std.proofs.Common.{◌≡◌, ◌∙◌, refl, arith}
 use Rattle.fol_model.specs.GridNumbers.{IsGrid}
 use Rattle.fol_live.specs.Lives.{live_id}
 use Rattle.fol_live.specs.Seat.{LiveId}
@@ -7,6 +7,13 @@ use Rattle.fol_pool.specs.Works.{SameSeat}
 use Rattle.fol_pool.proofs.Newcomers.{Dealt, all_ready, dealt}
 use Rattle.fol_pool.proofs.Together.{all_own, all_there, as_many, legal_answer, outputs_answer}
 use Rattle.fol_pool.proofs.script.run_script.Goals as goal
+
+pub play-ended-requires-clause-starts : goal.play-ended-requires-clause-starts
+play-ended-requires-clause-starts g c κs within =
+    let l : LiveId = live_id c.in_ok-live.field-0.live in
+    let d : Dealt l c.args.opening c.args.workers c.remove-caller.result c.remove-caller.new.self.items
+    = dealt l c.args.opening c.args.workers c.in_ok-live.field-0.seats.items c.remove-caller.result c.remove-caller.new.self.items c.in_ok-live.ensures.seats c.remove-caller.ensures.value c.remove-caller.ensures.items in
+    rw d.caller (record { zero = refl; orders = refl; calls = tt })
 
 pub play-ended-requires-clause-ready : goal.play-ended-requires-clause-ready
 play-ended-requires-clause-ready g c κs within =

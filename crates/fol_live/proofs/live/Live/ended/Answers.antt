@@ -26,7 +26,7 @@ invariant_of-seat g c =
     let kept : IsKept y = kept_met c.state-world.result.now y c.take.result c.meet.ensures.meets in
     let v = visits b y y (learns_none y _ kept) (grew y y _ (record { opening = refl; slots = refl; workers = refl }) (added_same (worlds.meaning_of y) (worlds.meaning_of y) _ (record { opening = refl; history = refl; prepared = refl })))
     kept in
-    seat_again v c.give.ensures.idle c.give.ensures.number c.give.ensures.origin c.give.ensures.seen c.give.ensures.mine c.meet.result c.front-seat-inside.result c.front-seat-inside.ensures
+    seat_again v c.give.ensures.idle c.give.ensures.number c.give.ensures.origin c.give.ensures.seen c.give.ensures.mine c.meet.result c.sight-seat-inside.result c.sight-seat-inside.ensures
     (c.meet.ensures.same ∙ c.take.ensures.value) c.seat.invariant.1
 
 pub returns : goal.returns

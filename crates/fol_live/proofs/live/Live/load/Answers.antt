@@ -17,7 +17,7 @@ invariant_of-seat g c =
     let b = begun c.seat.inside.hand c.take.result c.state-world.result.now c.meet.new.world c.seat.invariant.0 c.seat.invariant.1 c.state-world.ensures.value c.take-turn.ensures.state c.take-turn.ensures.seat
     c.number-by.ensures c.take.ensures.value c.meet.ensures.meets in
     let v = answered b c.load-answer.ensures (λ m k x. added_load m k c.number-by.result c.args.c x) in
-    seat_again v c.give.ensures.idle c.give.ensures.number c.give.ensures.origin c.give.ensures.seen c.give.ensures.mine c.meet.result c.front-seat-inside.result c.front-seat-inside.ensures
+    seat_again v c.give.ensures.idle c.give.ensures.number c.give.ensures.origin c.give.ensures.seen c.give.ensures.mine c.meet.result c.sight-seat-inside.result c.sight-seat-inside.ensures
     (c.meet.ensures.same ∙ c.take.ensures.value) c.seat.invariant.1
 
 pub returns : goal.returns

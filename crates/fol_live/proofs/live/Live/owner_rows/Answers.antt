@@ -29,7 +29,7 @@ invariant_of-seat g c =
     let kept : IsKept y = kept_met c.state-world.result.now y c.take.result c.meet.ensures.meets in
     let v = visits b y y (learns_none y _ kept) (grew y y _ (record { opening = refl; slots = refl; workers = refl }) (added_same (worlds.meaning_of y) (worlds.meaning_of y) _ (record { opening = refl; history = refl; prepared = refl })))
     kept in
-    seat_again v c.give.ensures.idle c.give.ensures.number c.give.ensures.origin c.give.ensures.seen c.give.ensures.mine c.meet.result c.front-front.result c.front-front.ensures
+    seat_again v c.give.ensures.idle c.give.ensures.number c.give.ensures.origin c.give.ensures.seen c.give.ensures.mine c.meet.result c.sight-sight.result c.sight-sight.ensures
     (c.meet.ensures.same ∙ c.take.ensures.value) c.seat.invariant.1
 
 pub returns : goal.returns
@@ -42,5 +42,5 @@ returns g c =
     kept in
     lists_owners (done v c.give.ensures.idle c.give.ensures.number c.give.ensures.origin c.give.ensures.seen c.give.ensures.mine c.seat.view_is (ap (λ (x : LiveId). x.lock) c.requires.own))
     (c.meet.ensures.same ∙ c.take.ensures.value ∙ ap (λ (x : Shown). x.hand) c.seat.view_is) c.owners_after.result (record { opening = refl; history = refl; prepared = refl })
-    (ok_map (λ o. o.front ≡ c.front-front.result) (λ o. o.front ≡ length y.history) c.owners_after.result (λ o e. e ∙ c.front-front.ensures) c.owners_after.ensures.front)
+    (ok_map (λ o. o.front ≡ c.sight-sight.result.front) (λ o. o.front ≡ length y.history) c.owners_after.result (λ o e. e ∙ c.sight-sight.ensures.front) c.owners_after.ensures.front)
     (c.owners_after.ensures.rows (owner_rows (world_of (worlds.meaning_of y))) c.owner_rows-answer.ensures)

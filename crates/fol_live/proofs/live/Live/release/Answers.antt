@@ -39,7 +39,7 @@ invariant_of-seat g c =
     (ap (λ (x : Shown). x.number) (sym c.seat.view_is)) (ap (λ (x : Shown). x.hand) (sym c.seat.view_is)) c.requires.ran in
     let freed_is = subst (λ (h : Hand). OnOk c.end-hand.result.1 (ForSome h (λ w. c.end-hand.result.0 ≡ Some (freed w)))) same c.end-hand.ensures.freed in
     let kept = subst (λ (h : Hand). OnErr c.end-hand.result.1 (c.end-hand.result.0 ≡ h)) same c.end-hand.ensures.kept in
-    seat_with v c.give.ensures.idle c.give.ensures.number c.give.ensures.origin c.give.ensures.seen c.give.ensures.mine c.end-hand.result.0 c.front-seat-inside.result c.front-seat-inside.ensures
+    seat_with v c.give.ensures.idle c.give.ensures.number c.give.ensures.origin c.give.ensures.seen c.give.ensures.mine c.end-hand.result.0 c.sight_of_ticks-seat-inside.result c.sight_of_ticks-seat-inside.ensures
     (hand_after (origin_of c.seat.inside.seat.origin) c.seat.inside.seat.number c.seat.inside.hand c.end-hand.result.0 c.end-hand.result.1 c.args.tick.value c.seat.invariant.1 here freed_is kept)
 
 pub returns : goal.returns

@@ -24,7 +24,7 @@ invariant_of-seat g c =
     let told = c.stop.ensures in
     let v = visits b told.now c.stop.new.self told.learns (grew told.now c.stop.new.self c.number-by.result told.same
     (added_stop (meaning_of told.now) (meaning_of c.stop.new.self) c.number-by.result (is_over (world_of (meaning_of told.now))) told.recorded)) told.keeps in
-    seat_again v c.give.ensures.idle c.give.ensures.number c.give.ensures.origin c.give.ensures.seen c.give.ensures.mine c.meet.result c.front-seat-inside.result c.front-seat-inside.ensures
+    seat_again v c.give.ensures.idle c.give.ensures.number c.give.ensures.origin c.give.ensures.seen c.give.ensures.mine c.meet.result c.sight-seat-inside.result c.sight-seat-inside.ensures
     (c.meet.ensures.same ∙ c.take.ensures.value) c.seat.invariant.1
 
 pub returns : goal.returns
