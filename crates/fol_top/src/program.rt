@@ -21,6 +21,7 @@ use crate::texts::{Texts, read_texts};
 use fol_io::{Gate, Shelf, Sink};
 use fol_pool::run_script;
 use std::alloc::Global;
+use std::mem;
 use std::sync::Wait;
 use std::thread::Threads;
 
@@ -50,7 +51,7 @@ const MAKE_WORKERS: u32 = 4;
 /// - 12: `line` is the first line of the report that is not that of the history which its events are.
 ///
 /// Nothing goes to `out` but at codes 0 and 6. At every code but 0 one line goes to `err`; a fault of `err` changes nothing. The gate is
-/// passed once in each tick.
+/// passed once in each tick. It is for a process that ends behind it: the history that was written is left to that end, and not freed.
 pub fn run<R: Threads + Wait + Sync, F: Shelf, K: Sink, E: Sink, G: Gate + Sync>(
     rt: &R,
     alloc: Global,
@@ -180,6 +181,7 @@ fn run_files<R: Threads + Wait + Sync, F: Shelf, K: Sink, G: Gate + Sync>(
         Ok(texts) => texts,
         Err(ending) => return ending,
     };
+    drop(files);
     run_texts(rt, alloc, texts, workers, form, out, gate)
 }
 
@@ -223,7 +225,12 @@ fn run_texts<R: Threads + Wait + Sync, K: Sink, G: Gate + Sync>(
 {
     let Texts { opening, script } = texts;
     match run_script(rt, alloc, opening, script, workers, gate) {
-        Ok(closing) => write_output(alloc, &closing, form, out),
+        Ok(closing) => {
+            let ending = write_output(alloc, &closing, form, out);
+            // Freeing each entry of a long history takes longer than the end of the process does, which follows.
+            mem::forget(closing);
+            ending
+        }
         Err(_) => Ending::NoMemory,
     }
 }

@@ -8,5 +8,5 @@ returns-in-Ok g c =
     let closing = c.in-Ok.closing in
     ends_more (λ (bytes : List ℕ). bytes ≡ text_in c.args.form closing) (IsReport c.args.form c.args.texts.opening c.args.texts.script c.args.workers)
     (is_report c.args.form c.args.texts.opening c.args.texts.script c.args.workers closing c.requires.grid c.in-Ok.ensures.legal c.in-Ok.ensures.outputs)
-    (g.K.Sink.received c.args.out.now) (g.K.Sink.received c.write_output.new.out) (g.K.Sink.faults c.args.out.now) (g.K.Sink.faults c.write_output.new.out) (g.K.Sink.puts c.args.out.now) (g.K.Sink.puts c.write_output.new.out)
-    c.write_output.result c.write_output.ensures
+    (g.K.Sink.received c.args.out.now) (g.K.Sink.received c.write_output-ending.new.out) (g.K.Sink.faults c.args.out.now) (g.K.Sink.faults c.write_output-ending.new.out) (g.K.Sink.puts c.args.out.now) (g.K.Sink.puts c.write_output-ending.new.out)
+    c.write_output-ending.result c.write_output-ending.ensures
