@@ -80,7 +80,7 @@ fn memory_to_post(
     ensures { IfOk result (λ both. both.0 ≡ action.now) }
 {
     let memory = event_box(alloc, left)?;
-    Ok((action.copy(alloc)?, memory))
+    Ok((action.copy()?, memory))
 }
 
 /// The answer to a post that was recorded.

@@ -1,7 +1,7 @@
 -- The types of the model with an action inside may go to another thread, and those of which a history is made may be read by several at once.
 use denote.RattleType.{RattleType}
 use denote.Param.Send.{IsSend, IsSync, sendable}
-use Rattle.std.proofs.Crossing.{Box-send, Box-sync}
+use Rattle.std.proofs.Crossing.{Arc-send, Arc-sync, Box-send, Box-sync}
 use Rattle.fol_model.proofs.actions.Nested.TheLaws.TheKnot as knot
 use Rattle.fol_model.proofs.lists.Sequence.TheSendSync as sequences
 use Rattle.fol_model.specs.contracts.actions.Action as action
@@ -31,8 +31,19 @@ ChunkPos-send = search sendable
 pub Entity-send : IsSend (entity.the_field).row
 Entity-send = search (sendable, BlockPos-send) depth 14
 
+BlockPos-sync : IsSync (block.the_field).row
+BlockPos-sync = search sendable
+
+ChunkPos-sync : IsSync (chunk.the_field).row
+ChunkPos-sync = search sendable
+
+Entity-sync : IsSync (entity.the_field).row
+Entity-sync = search (sendable, BlockPos-sync) depth 14
+
+-- an action inside another is shared, so whether it may be sent takes that it may be read by several, and the other way round
 pub Nested-send : IsSend (nested.the_field).row
-Nested-send = knot.send-Nested Box-send (search (sendable, BlockPos-send)) (search sendable) (search (sendable, ChunkPos-send)) (search sendable) (search (sendable, Entity-send))
+Nested-send = knot.both_send-Nested Arc-send (search (sendable, BlockPos-send)) (search sendable) (search (sendable, ChunkPos-send)) (search sendable) (search (sendable, Entity-send))
+    Arc-sync (search (sendable, BlockPos-sync)) (search sendable) (search (sendable, ChunkPos-sync)) (search sendable) (search (sendable, Entity-sync))
 
 pub Action-send : IsSend (action.the_field).row
 Action-send = knot.send-Action BlockPos-send (search sendable) ChunkPos-send (search sendable) Nested-send Entity-send
@@ -73,17 +84,9 @@ Packed-send = search (sendable, Box-send, Event-send, ChunkPos-send, Loaded-send
 pub PackedEntry-send : IsSend (packed_entry.the_field).row
 PackedEntry-send = search (sendable, Packed-send) depth 14
 
-BlockPos-sync : IsSync (block.the_field).row
-BlockPos-sync = search sendable
-
-ChunkPos-sync : IsSync (chunk.the_field).row
-ChunkPos-sync = search sendable
-
-Entity-sync : IsSync (entity.the_field).row
-Entity-sync = search (sendable, BlockPos-sync) depth 14
-
 Nested-sync : IsSync (nested.the_field).row
-Nested-sync = knot.sync-Nested Box-sync (search (sendable, BlockPos-sync)) (search sendable) (search (sendable, ChunkPos-sync)) (search sendable) (search (sendable, Entity-sync))
+Nested-sync = knot.both_sync-Nested Arc-send (search (sendable, BlockPos-send)) (search sendable) (search (sendable, ChunkPos-send)) (search sendable) (search (sendable, Entity-send))
+    Arc-sync (search (sendable, BlockPos-sync)) (search sendable) (search (sendable, ChunkPos-sync)) (search sendable) (search (sendable, Entity-sync))
 
 pub Action-sync : IsSync (action.the_field).row
 Action-sync = knot.sync-Action BlockPos-sync (search sendable) ChunkPos-sync (search sendable) Nested-sync Entity-sync

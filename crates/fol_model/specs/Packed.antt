@@ -7,6 +7,8 @@ use Rattle.fol_model.specs.declared.packed.EventRef.{EventRef}
 use Rattle.fol_model.specs.declared.packed.EventRef.TheVariants as seen
 use Rattle.fol_model.specs.declared.packed.Packed.{Packed}
 use Rattle.fol_model.specs.declared.packed.Packed.TheVariants as packed
+use Rattle.fol_model.specs.declared.packed.TickEdge.{TickEdge}
+use Rattle.fol_model.specs.declared.packed.TickEdge.TheVariants as edge
 
 -- the entry that is packed so
 abbrev pub entry_of : Packed → Entry
@@ -43,3 +45,20 @@ is_light (End worker r tick ran accepts) = nat_eq (length ran) 0 && nat_eq (leng
 is_light PhaseClose = true
 is_light Finish = true
 is_light (Stop caller) = true
+
+-- the event that is this edge of a tick
+abbrev pub event_at : TickEdge → Event
+event_at (edge.Begin worker r) = Begin worker r
+event_at (edge.End worker r tick) = End worker r tick [] []
+
+-- the event is the edge of a tick: a Begin, or an End with two empty lists
+abbrev pub is_edge : Event → Bool
+is_edge (Load caller c answer) = false
+is_edge (Unload caller c answer) = false
+is_edge (Post caller c delay action answer) = false
+is_edge (PhaseOpen n) = false
+is_edge (Begin worker r) = true
+is_edge (End worker r tick ran accepts) = nat_eq (length ran) 0 && nat_eq (length accepts) 0
+is_edge PhaseClose = false
+is_edge Finish = false
+is_edge (Stop caller) = false

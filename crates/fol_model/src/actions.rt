@@ -5,6 +5,7 @@ ghost use Rattle.std.specs.Prelude.{◌≡◌, IfOk};
 use crate::{BlockPos, ChunkPos, Entity};
 use std::alloc::{AllocError, Global};
 use std::marker::Model;
+use std::sync::Arc;
 
 /// What a task does in a tick.
 #[derive(Drop)]
@@ -45,11 +46,11 @@ pub enum Action {
     },
 }
 
-/// An action inside another. Contracts see its deed: what stands round it, from the outside in, and what it does.
+/// An action inside another, which all its copies share. Contracts see its deed: what stands round it, from the outside in, and what it does.
 #[derive(Drop)]
 #[cycle(action)]
 pub struct Nested {
-    boxed: Box<Action>,
+    shared: Arc<Action, Global>,
 }
 
 impl Model for Nested {
@@ -60,7 +61,7 @@ impl Model for Nested {
 
     ghost use Rattle.fol_model.specs.Nesting.{deed_of};
 
-    ghost view = { λ a. deed_of a.boxed.value };
+    ghost view = { λ a. deed_of a.shared.value };
 
     ghost size = { λ d. length d.wraps };
 
@@ -78,7 +79,16 @@ impl Nested {
         ensures { IfOk result (λ n. n ≡ deed_of action) }
     {
         Ok(Nested {
-            boxed: Box::new(alloc, action)?,
+            shared: Arc::new(alloc, action)?,
+        })
+    }
+
+    /// An equal one, which shares the action with this one. Takes no memory, and fails only where more than 2^63 share it.
+    pub fn share(&self) -> Result<Nested, AllocError>
+        ensures { IfOk result (λ n. n ≡ self.now) }
+    {
+        Ok(Nested {
+            shared: Arc::try_clone(&self.shared)?,
         })
     }
 
@@ -86,13 +96,13 @@ impl Nested {
     pub fn get(&self) -> &Action
         ensures { deed_of result.now ≡ self.now }
     {
-        &*self.boxed
+        &*self.shared
     }
 }
 
 impl Action {
-    /// An equal action. The only error is out of memory.
-    pub fn copy(&self, alloc: Global) -> Result<Action, AllocError>
+    /// An equal action, which shares with this one what is inside both. Takes no memory, and fails only where more than 2^63 share that.
+    pub fn copy(&self) -> Result<Action, AllocError>
         ensures { IfOk result (λ a. a ≡ self.now) }
     {
         Ok(match self {
@@ -104,14 +114,11 @@ impl Action {
                 chunk,
                 delay,
                 action,
-            } => {
-                let inner = action.get().copy(alloc)?;
-                Action::Post {
-                    chunk: *chunk,
-                    delay: *delay,
-                    action: Nested::new(alloc, inner)?,
-                }
-            }
+            } => Action::Post {
+                chunk: *chunk,
+                delay: *delay,
+                action: action.share()?,
+            },
             Action::Send { entity, to } => Action::Send {
                 entity: *entity,
                 to: *to,
@@ -121,14 +128,11 @@ impl Action {
                 period,
                 left,
                 action,
-            } => {
-                let inner = action.get().copy(alloc)?;
-                Action::Every {
-                    period: *period,
-                    left: *left,
-                    action: Nested::new(alloc, inner)?,
-                }
-            }
+            } => Action::Every {
+                period: *period,
+                left: *left,
+                action: action.share()?,
+            },
         })
     }
 }

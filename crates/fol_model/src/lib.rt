@@ -30,7 +30,7 @@ pub use events::{Accept, Entry, Event, Loaded, Unloaded};
 pub use grids::{Grid, section_of};
 pub use lists::Sequence;
 pub use openings::{BlockAt, Opening};
-pub use packed::{EventRef, PackedEntry};
+pub use packed::{EventRef, PackedEntry, TickEdge};
 pub use places::{
     BlockPos, ChunkPos, MOST_SECTIONS, SectionPos, beside, chunk_of, corner, distance,
 };

@@ -1,7 +1,7 @@
 //! The entries of a history, in little memory.
 
-ghost use Rattle.std.specs.Prelude.{◌≡◌, IsTrue, IfOk};
-ghost use Rattle.fol_model.specs.Packed.{event_seen, is_light};
+ghost use Rattle.std.specs.Prelude.{◌≡◌, ◌↔◌, IsSome, IsTrue, IfOk, IfSome};
+ghost use Rattle.fol_model.specs.Packed.{event_at, event_seen, is_edge, is_light};
 
 use crate::{Accept, Action, ChunkPos, Entry, Event, Loaded, Ran, Sequence, Unloaded};
 use std::alloc::{AllocError, Global};
@@ -108,6 +108,15 @@ pub enum EventRef<'a> {
     Stop {
         caller: u32,
     },
+}
+
+/// The beginning of a tick, or its end where no task ran in it and it asked for none. Most entries of a long history are of these two kinds.
+#[derive(Clone, Copy)]
+pub enum TickEdge {
+    /// A worker began the tick of a region.
+    Begin { worker: u32, region: u64 },
+    /// A worker ended the tick of a region, whose counter was then `tick`.
+    End { worker: u32, region: u64, tick: u64 },
 }
 
 impl Model for PackedEntry {
@@ -255,6 +264,36 @@ impl PackedEntry {
         }
     }
 
+    /// Its event, where that is the edge of a tick; `None` exactly where it is another one.
+    #[inline(always)]
+    pub fn edge(&self) -> Option<TickEdge>
+        ensures edge { IfSome result (λ e. event_at e ≡ self.now.event) }
+        ensures some { IsSome result ↔ IsTrue (is_edge self.now.event) }
+    {
+        match &self.packed {
+            Packed::Begin {
+                by: _,
+                worker,
+                region,
+            } => Some(TickEdge::Begin {
+                worker: *worker,
+                region: *region,
+            }),
+            Packed::End {
+                by: _,
+                worker,
+                region,
+                tick,
+            } => Some(TickEdge::End {
+                worker: *worker,
+                region: *region,
+                tick: *tick,
+            }),
+            Packed::Boxed { by: _, event } => event.edge(),
+            _ => None,
+        }
+    }
+
     /// Its event.
     pub fn event(&self) -> EventRef<'_>
         ensures { event_seen result ≡ self.now.event }
@@ -318,6 +357,32 @@ impl Event {
             Event::Post { .. } => false,
             Event::End { ran, accepts, .. } => ran.is_empty() && accepts.is_empty(),
             _ => true,
+        }
+    }
+
+    /// The event, where it is the edge of a tick; `None` exactly where it is another one.
+    #[inline(never)]
+    fn edge(&self) -> Option<TickEdge>
+        ensures edge { IfSome result (λ e. event_at e ≡ self.now) }
+        ensures some { IsSome result ↔ IsTrue (is_edge self.now) }
+    {
+        match self {
+            Event::Begin { worker, region } => Some(TickEdge::Begin {
+                worker: *worker,
+                region: *region,
+            }),
+            Event::End {
+                worker,
+                region,
+                tick,
+                ran,
+                accepts,
+            } if ran.is_empty() && accepts.is_empty() => Some(TickEdge::End {
+                worker: *worker,
+                region: *region,
+                tick: *tick,
+            }),
+            _ => None,
         }
     }
 

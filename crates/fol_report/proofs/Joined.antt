@@ -1,6 +1,6 @@
 -- Words one after another are the line of these words.
-use Rattle.std.proofs.Common.{◌≡◌, ℕ, refl, sym, ap, append_assoc, List, [], ◌++◌, ◌∷◌, codes, decimal, length, arith}
-use Rattle.std.proofs.lemmas.List.{append-nil, nil_from_length}
+use Rattle.std.proofs.Common.{◌≡◌, ℕ, refl, sym, ap, append_assoc, List, [], ◌++◌, ◌∷◌, codes, decimal, arith}
+use Rattle.std.proofs.lemmas.List.{append-nil}
 use Rattle.std.proofs.lemmas.List.Concat.{flat_map-append}
 use Rattle.std.proofs.lemmas.Fmt.{decimal_digit}
 use Rattle.fol_model.specs.LineWords.{Word, lines_of}
@@ -8,7 +8,6 @@ use Rattle.fol_model.specs.TextLines.{line_of}
 use Rattle.fol_model.specs.ReportWords.{accept_words, action_words, chunk_words, end_words}
 use Rattle.fol_model.specs.declared.actions.Action.{Action}
 use Rattle.fol_model.specs.declared.places.ChunkPos.{ChunkPos}
-use Rattle.fol_model.specs.declared.tasks.Ran.{Ran}
 use Rattle.fol_model.specs.declared.events.Accept.{Accept}
 use Rattle.fol_report.specs.Spaced.{spaced, joined, joined_lines}
 
@@ -31,11 +30,6 @@ joined_lines_of words (r ∷ rows) = let e = line_of_joined (words r) in let k =
 pub quiet_end : (worker region tick : ℕ) → joined (end_words worker region tick [] [])
     ≡ joined (codes "end" ∷ decimal worker ∷ decimal region ∷ codes "tick" ∷ decimal tick ∷ []) ++ codes " ran 0 accepted 0"
 quiet_end worker region tick = let zero : decimal 0 ≡ 48 ∷ [] = decimal_digit 0 (omega arith) in rw zero (simp append_assoc)
-
--- the same line as one of no task and no ask
-pub none_of : (worker region tick : ℕ) (ran : List Ran) (accepts : List Accept) → length ran ≡ 0 → length accepts ≡ 0
-    → joined (end_words worker region tick ran accepts) ≡ joined (end_words worker region tick [] [])
-none_of worker region tick ran accepts none none' = let e = nil_from_length ran none in let e' = nil_from_length accepts none' in rw (e, e') refl
 
 -- the line of a post, in the three parts that it is put in
 pub post_parts : (caller delay : ℕ) (chunk : ChunkPos) (answer : Accept) (action : Action)

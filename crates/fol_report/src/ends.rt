@@ -1,7 +1,8 @@
 //! The line of an end, of any length.
 
 ghost use Rattle.std.specs.Prelude.{◌≡◌, ◌+◌, ◌≤◌, [], ◌∷◌, ◌++◌, codes, decimal, flat_map, length, IfOk, string_bytes};
-ghost use Rattle.fol_model.specs.ReportWords.{accept_words, end_words, ran_words};
+ghost use Rattle.fol_model.specs.ReportWords.{accept_words, end_words, event_words, ran_words};
+ghost use Rattle.fol_model.specs.declared.events.Event.TheVariants.{End};
 ghost use Rattle.fol_report.specs.Spaced.{joined, spaced};
 
 use crate::answers::{put_accept, put_one_ran};
@@ -53,8 +54,18 @@ fn put_accepted(out: &mut String, page: &mut Page, accepts: &[Accept]) -> Result
     Ok(())
 }
 
-/// Puts the line of an end without its end, for which there is room then. Where no task ran and none was asked for it is one of the two most
-/// frequent lines.
+/// Puts the line of the end of a tick in which no task ran and which asked for none, without its end.
+#[inline(always)]
+pub fn push_quiet_end(page: &mut Page, worker: u32, region: u64, tick: u64)
+    requires { length page.old + 127 ≤ 1024 }
+    ensures text { page.new ≡ page.old ++ joined (event_words (End worker region tick [] [])) }
+    ensures len { length page.new ≤ length page.old + 127 }
+{
+    push_ended(page, worker, region, tick);
+    page.push_word(b" ran 0 accepted 0");
+}
+
+/// Puts the line of an end without its end, for which there is room then.
 #[tactic(auto, using(crate::proofs::Joined::spaced_append))]
 pub fn put_end(
     out: &mut String,
@@ -72,10 +83,6 @@ pub fn put_end(
     ensures room { IfOk result (λ _. length page.new + 1 ≤ 1024) }
 {
     push_ended(page, worker, region, tick);
-    if ran.is_empty() && accepts.is_empty() {
-        page.push_word(b" ran 0 accepted 0");
-        return Ok(());
-    }
     put_ran(out, page, ran)?;
     page.make_room(out)?;
     put_accepted(out, page, accepts)?;

@@ -28,7 +28,7 @@ pub(crate) fn plain_of(action: &Action) -> &Action
 }
 
 /// The action of the task that an action posts.
-fn own_in(alloc: Global, plain: &Action) -> Result<Option<Action>, AllocError>
+fn own_in(plain: &Action) -> Result<Option<Action>, AllocError>
     ensures { IfOk result (λ own. own ≡ own_in plain.now) }
 {
     match plain {
@@ -36,13 +36,13 @@ fn own_in(alloc: Global, plain: &Action) -> Result<Option<Action>, AllocError>
             chunk: _,
             delay: _,
             action,
-        } => Ok(Some(action.get().copy(alloc)?)),
+        } => Ok(Some(action.get().copy()?)),
         _ => Ok(None),
     }
 }
 
 /// The action inside one that runs at least twice.
-fn again_in(alloc: Global, action: &Action) -> Result<Option<Nested>, AllocError>
+fn again_in(action: &Action) -> Result<Option<Nested>, AllocError>
     ensures { IfOk result (λ again. again ≡ again_in action.now) }
 {
     match action {
@@ -50,21 +50,18 @@ fn again_in(alloc: Global, action: &Action) -> Result<Option<Nested>, AllocError
             period: _,
             left,
             action: inner,
-        } if *left >= 2 => {
-            let copied = inner.get().copy(alloc)?;
-            Ok(Some(Nested::new(alloc, copied)?))
-        }
+        } if *left >= 2 => { Ok(Some(inner.share()?)) }
         _ => Ok(None),
     }
 }
 
 /// What is taken for a task.
-pub(crate) fn prepared_for(alloc: Global, task: &Task) -> Result<Prepared, AllocError>
+pub(crate) fn prepared_for(task: &Task) -> Result<Prepared, AllocError>
     ensures { IfOk result (λ prepared. prepared ≡ prepared_of task.now) }
 {
     Ok(Prepared {
-        own: own_in(alloc, plain_of(&task.action))?,
-        again: again_in(alloc, &task.action)?,
+        own: own_in(plain_of(&task.action))?,
+        again: again_in(&task.action)?,
     })
 }
 
@@ -74,7 +71,7 @@ pub(crate) fn prepare(alloc: Global, tasks: &[Task]) -> Result<VecDeque<Prepared
 {
     let mut prepared = VecDeque::with_capacity(alloc, tasks.len())?;
     for task in tasks {
-        prepared.push_back(prepared_for(alloc, task)?)?;
+        prepared.push_back(prepared_for(task)?)?;
     }
     Ok(prepared)
 }

@@ -68,7 +68,7 @@ fn run_left<H: Host>(alloc: Global, tick: &mut Tick, host: &mut H) -> Result<(),
     let left = &tick.due.as_slice()[tick.next as usize..];
     let count = left.len();
     let asked = most_asked(left);
-    let first = prepared_for(alloc, &left[0])?;
+    let first = prepared_for(&left[0])?;
     let others = prepare(alloc, &left[1..])?;
     tick.body.chunks.reserve(count as u64)?;
     let mut log = open(alloc, &mut tick.log, count, asked)?;
