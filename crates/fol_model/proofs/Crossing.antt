@@ -1,7 +1,7 @@
--- The types of the model with an action inside may go to another thread.
+-- The types of the model with an action inside may go to another thread, and those of which a history is made may be read by several at once.
 use denote.RattleType.{RattleType}
-use denote.Param.Send.{IsSend, sendable}
-use Rattle.std.proofs.Crossing.{Box-send}
+use denote.Param.Send.{IsSend, IsSync, sendable}
+use Rattle.std.proofs.Crossing.{Box-send, Box-sync}
 use Rattle.fol_model.proofs.actions.Nested.TheLaws.TheKnot as knot
 use Rattle.fol_model.proofs.lists.Sequence.TheSendSync as sequences
 use Rattle.fol_model.specs.contracts.actions.Action as action
@@ -72,3 +72,42 @@ Packed-send = search (sendable, Box-send, Event-send, ChunkPos-send, Loaded-send
 
 pub PackedEntry-send : IsSend (packed_entry.the_field).row
 PackedEntry-send = search (sendable, Packed-send) depth 14
+
+BlockPos-sync : IsSync (block.the_field).row
+BlockPos-sync = search sendable
+
+ChunkPos-sync : IsSync (chunk.the_field).row
+ChunkPos-sync = search sendable
+
+Entity-sync : IsSync (entity.the_field).row
+Entity-sync = search (sendable, BlockPos-sync) depth 14
+
+Nested-sync : IsSync (nested.the_field).row
+Nested-sync = knot.sync-Nested Box-sync (search (sendable, BlockPos-sync)) (search sendable) (search (sendable, ChunkPos-sync)) (search sendable) (search (sendable, Entity-sync))
+
+pub Action-sync : IsSync (action.the_field).row
+Action-sync = knot.sync-Action BlockPos-sync (search sendable) ChunkPos-sync (search sendable) Nested-sync Entity-sync
+
+Sequence-sync : (T : RattleType) → IsSync T → IsSync (sequence.the_field T).row
+Sequence-sync T s = sequences.the_sync T s
+
+Loaded-sync : IsSync (loaded.the_field).row
+Loaded-sync = search sendable depth 14
+
+Unloaded-sync : IsSync (unloaded.the_field).row
+Unloaded-sync = search sendable depth 14
+
+Accept-sync : IsSync (accept.the_field).row
+Accept-sync = search sendable depth 14
+
+Ran-sync : IsSync (ran.the_field).row
+Ran-sync = search sendable depth 14
+
+Event-sync : IsSync (event.the_field).row
+Event-sync = search (sendable, Action-sync, ChunkPos-sync, Loaded-sync, Unloaded-sync, Accept-sync, Ran-sync, Sequence-sync) depth 20
+
+Packed-sync : IsSync (packed.the_field).row
+Packed-sync = search (sendable, Box-sync, Event-sync, ChunkPos-sync, Loaded-sync, Unloaded-sync) depth 20
+
+pub PackedEntry-sync : IsSync (packed_entry.the_field).row
+PackedEntry-sync = search (sendable, Packed-sync) depth 14
