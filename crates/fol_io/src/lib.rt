@@ -14,6 +14,7 @@
 mod bytes;
 mod file_shelf;
 mod gate;
+mod left;
 mod mem_shelf;
 mod mem_sink;
 mod pieces;
@@ -29,7 +30,7 @@ pub use file_shelf::FileShelf;
 pub use gate::{Gate, QuietGate};
 pub use mem_shelf::{MemShelf, NamedBytes};
 pub use mem_sink::MemSink;
-pub use pieces::put_in_pieces;
+pub use pieces::{put_all_in_pieces, put_in_pieces};
 pub use shelf::{Read, Shelf};
 pub use sink::{Put, Sink};
 pub use std_sink::StdSink;
