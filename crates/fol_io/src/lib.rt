@@ -8,7 +8,7 @@
 //! `MemShelf` and `MemSink` keep their bytes in memory and fail at the calls that they were told to;
 //! `FileShelf` and `StdSink` are a few lines over files and the standard streams, of whose content no
 //! contract can tell; `QuietGate` does nothing. The top call reads its texts from a shelf and writes its
-//! output by [`put_in_pieces`]; whoever runs a tick passes the gate.
+//! output, whose parts lie one behind the other, by [`put_all_in_pieces`]; whoever runs a tick passes the gate.
 #![tactic(auto)]
 
 mod bytes;
