@@ -1,4 +1,5 @@
 pub mod Faults
 pub mod FirstPlace
+pub mod NextBytes
 pub mod Received
 pub mod WholePieces

@@ -1,5 +1,6 @@
 pub mod Counts
 pub mod FileShelf
+pub mod Left
 pub mod MemShelf
 pub mod MemSink
 pub mod NamedBytes

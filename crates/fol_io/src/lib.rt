@@ -8,12 +8,13 @@
 //! `MemShelf` and `MemSink` keep their bytes in memory and fail at the calls that they were told to;
 //! `FileShelf` and `StdSink` are a few lines over files and the standard streams, of whose content no
 //! contract can tell; `QuietGate` does nothing. The top call reads its texts from a shelf and writes its
-//! output by [`put_in_pieces`]; whoever runs a tick passes the gate.
+//! output, whose parts lie one behind the other, by [`put_all_in_pieces`]; whoever runs a tick passes the gate.
 #![tactic(auto)]
 
 mod bytes;
 mod file_shelf;
 mod gate;
+mod left;
 mod mem_shelf;
 mod mem_sink;
 mod pieces;
@@ -29,7 +30,7 @@ pub use file_shelf::FileShelf;
 pub use gate::{Gate, QuietGate};
 pub use mem_shelf::{MemShelf, NamedBytes};
 pub use mem_sink::MemSink;
-pub use pieces::put_in_pieces;
+pub use pieces::{put_all_in_pieces, put_in_pieces};
 pub use shelf::{Read, Shelf};
 pub use sink::{Put, Sink};
 pub use std_sink::StdSink;

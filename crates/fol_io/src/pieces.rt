@@ -1,12 +1,11 @@
 //! A whole output, written in pieces.
 
-ghost use Rattle.std.specs.Prelude.{◌≡◌, ◌≤◌, []};
+ghost use Rattle.std.specs.Prelude.{◌≡◌, ◌≤◌, [], flat_map};
+ghost use Rattle.fol_io.specs.Left.{left_of};
 ghost use Rattle.fol_io.specs.Sink.{ReceivedInPieces, Takes};
 
+use crate::left::{Left, PIECE_SIZE};
 use crate::sink::{Put, Sink};
-
-/// How many bytes are put at a time.
-const PIECE_SIZE: usize = 4096;
 
 /// Puts all the bytes, in pieces of 4,096 bytes of which the last may be shorter, and stops at the first
 /// piece that fails.
@@ -23,11 +22,46 @@ pub fn put_in_pieces<K: Sink>(sink: &mut K, bytes: &[u8]) -> Put
     ensures empty { bytes.now ≡ [] → result ≡ Put.Ok }
     ensures empty_makes_no_put { bytes.now ≡ [] → sink.new ≡ sink.old }
 {
-    let mut done = 0;
-    while done < bytes.len() {
-        let count = (bytes.len() - done).min(PIECE_SIZE);
-        match sink.put(&bytes[done..done + count]) {
-            Put::Ok => done += count,
+    put_left(
+        sink,
+        Left {
+            row: bytes,
+            parts: &[],
+        },
+    )
+}
+
+/// Puts the bytes of all the parts, one behind the other, as [`put_in_pieces`] puts them where they lie in a row: a piece may go over the
+/// ends of parts. Takes no memory.
+pub fn put_all_in_pieces<K: Sink>(sink: &mut K, parts: &[Vec<u8>]) -> Put
+    ensures takes { Takes (K.received sink.old) (K.received sink.new) (K.faults sink.old)
+        (K.faults sink.new) (flat_map (λ part. part.items) parts.now) result }
+    ensures pieces { result ≡ Put.Failed
+        → ReceivedInPieces (K.received sink.old) (K.received sink.new) (K.puts sink.old)
+        (K.puts sink.new) (flat_map (λ part. part.items) parts.now) }
+    ensures faults_never_fall { K.faults sink.old ≤ K.faults sink.new }
+    ensures empty { flat_map (λ part. part.items) parts.now ≡ [] → result ≡ Put.Ok }
+    ensures empty_makes_no_put { flat_map (λ part. part.items) parts.now ≡ []
+        → sink.new ≡ sink.old }
+{
+    put_left(sink, Left { row: &[], parts })
+}
+
+/// Puts all that is left.
+fn put_left<K: Sink>(sink: &mut K, mut left: Left) -> Put
+    ensures takes { Takes (K.received sink.old) (K.received sink.new) (K.faults sink.old)
+        (K.faults sink.new) (left_of left.entry) result }
+    ensures pieces { result ≡ Put.Failed
+        → ReceivedInPieces (K.received sink.old) (K.received sink.new) (K.puts sink.old)
+        (K.puts sink.new) (left_of left.entry) }
+    ensures faults_never_fall { K.faults sink.old ≤ K.faults sink.new }
+    ensures empty { left_of left.entry ≡ [] → result ≡ Put.Ok }
+    ensures empty_makes_no_put { left_of left.entry ≡ [] → sink.new ≡ sink.old }
+{
+    let mut carry = [0; PIECE_SIZE];
+    while left.has_more() {
+        match left.put_piece(sink, &mut carry) {
+            Put::Ok => {}
             Put::Failed => return Put::Failed,
         }
     }

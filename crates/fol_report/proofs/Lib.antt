@@ -1,4 +1,5 @@
 pub mod Behind
+pub mod InShares
 pub mod Joined
 pub mod JsonText
 pub mod Lengths

@@ -1,7 +1,6 @@
 //! The lines of a history, which are made in a page.
 
-ghost use Rattle.std.specs.Prelude.{◌≡◌, ◌+◌, ◌≤◌, [], ◌∷◌, ◌++◌, codes, length, IfOk, string_bytes};
-ghost use Rattle.fol_model.specs.LineWords.{part};
+ghost use Rattle.std.specs.Prelude.{◌≡◌, ◌+◌, ◌≤◌, [], ◌∷◌, ◌++◌, length, IfOk, string_bytes};
 ghost use Rattle.fol_model.specs.Packed.{event_at};
 ghost use Rattle.fol_model.specs.ReportWords.{entry_words, event_words};
 ghost use Rattle.fol_report.specs.Spaced.{joined, joined_lines};
@@ -44,8 +43,8 @@ fn put_line(out: &mut String, page: &mut Page, row: &PackedEntry) -> Result<(), 
     Ok(())
 }
 
-/// Puts the lines of a history.
-fn put_entries(out: &mut String, rows: &[PackedEntry]) -> Result<(), AllocError>
+/// Puts the lines of a history, or of a stretch of it.
+pub fn put_entries(out: &mut String, rows: &[PackedEntry]) -> Result<(), AllocError>
     ensures { IfOk result (λ _. string_bytes out.new
         ≡ string_bytes out.old ++ joined_lines entry_words rows.now) }
 {
@@ -55,14 +54,4 @@ fn put_entries(out: &mut String, rows: &[PackedEntry]) -> Result<(), AllocError>
         put_line(out, &mut page, row)?;
     }
     page.put(out)
-}
-
-/// Puts the count of the events and their lines.
-pub fn put_history(out: &mut String, rows: &[PackedEntry]) -> Result<(), AllocError>
-    ensures { IfOk result (λ _. string_bytes out.new
-        ≡ string_bytes out.old ++ part (codes "events") entry_words rows.now) }
-{
-    let count = rows.len();
-    write!(out, "events {count}\n")?;
-    put_entries(out, rows)
 }

@@ -1,19 +1,25 @@
 //! The output of a run.
 
-ghost use Rattle.std.specs.Prelude.{◌≡◌, IfOk};
+ghost use Rattle.std.specs.Prelude.{◌≡◌, IfOk, flat_map};
 ghost use Rattle.fol_top.specs.Report.{text_in};
 ghost use Rattle.fol_top.specs.Writing.{WriteEnds};
 
 use crate::ending::Ending;
 use crate::form::Form;
-use fol_io::{Put, Sink, put_in_pieces};
+use fol_io::{Put, Sink, put_all_in_pieces, put_in_pieces};
 use fol_model::Closing;
-use fol_report::{report, report_json, summary};
+use fol_report::{report_in_shares, report_json, summary};
 use std::alloc::{AllocError, Global};
+use std::thread::Threads;
 
-/// Writes a closing. The output is made whole before the first byte is put.
-pub(crate) fn write_output<K: Sink>(
+/// How many threads make a report at most: more of them than a machine has processors gain nothing.
+const MOST_THREADS: u32 = 8;
+
+/// Writes a closing, whose report is made by at most so many threads. The output is made whole before the first byte is put.
+pub(crate) fn write_output<R: Threads + Sync, K: Sink>(
+    rt: &R,
     alloc: Global,
+    threads: u32,
     closing: &Closing,
     form: Form,
     out: &mut K,
@@ -21,11 +27,14 @@ pub(crate) fn write_output<K: Sink>(
     ensures { WriteEnds (K.received out.old) (K.received out.new) (K.faults out.old)
         (K.faults out.new) (K.puts out.old) (K.puts out.new) (text_in form closing.now) result }
 {
-    let bytes = match text_in(alloc, closing, form) {
-        Ok(bytes) => bytes,
+    let shares = match shares_in(rt, alloc, threads.min(MOST_THREADS), closing, form) {
+        Ok(shares) => shares,
         Err(_) => return Ending::NoMemory,
     };
-    put_output(bytes.as_slice(), out)
+    match put_all_in_pieces(out, shares.as_slice()) {
+        Put::Ok => Ending::Written,
+        Put::Failed => Ending::WriteFault,
+    }
 }
 
 /// Puts an output that is whole.
@@ -39,13 +48,20 @@ pub(crate) fn put_output<K: Sink>(bytes: &[u8], out: &mut K) -> Ending
     }
 }
 
-/// The closing in this form.
-fn text_in(alloc: Global, closing: &Closing, form: Form) -> Result<Vec<u8>, AllocError>
-    ensures { IfOk result (λ text. text.items ≡ text_in form closing.now) }
+/// The closing in this form, in shares that follow one another.
+fn shares_in<R: Threads + Sync>(
+    rt: &R,
+    alloc: Global,
+    threads: u32,
+    closing: &Closing,
+    form: Form,
+) -> Result<Vec<Vec<u8>>, AllocError>
+    ensures { IfOk result (λ shares. flat_map (λ share. share.items) shares.items
+        ≡ text_in form closing.now) }
 {
     match form {
-        Form::Text => report(alloc, closing),
-        Form::Json => report_json(alloc, closing),
-        Form::Summary(clusters) => summary(alloc, clusters, closing),
+        Form::Text => report_in_shares(rt, alloc, threads, closing),
+        Form::Json => Ok(vec![in alloc; report_json(alloc, closing)?]?),
+        Form::Summary(clusters) => Ok(vec![in alloc; summary(alloc, clusters, closing)?]?),
     }
 }

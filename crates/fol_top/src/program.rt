@@ -226,7 +226,7 @@ fn run_texts<R: Threads + Wait + Sync, K: Sink, G: Gate + Sync>(
     let Texts { opening, script } = texts;
     match run_script(rt, alloc, opening, script, workers, gate) {
         Ok(closing) => {
-            let ending = write_output(alloc, &closing, form, out);
+            let ending = write_output(rt, alloc, workers, &closing, form, out);
             // Freeing each entry of a long history takes longer than the end of the process does, which follows.
             mem::forget(closing);
             ending

@@ -288,6 +288,17 @@ fn a_second_piece_that_finds_no_room_leaves_the_first(rt: HostRuntime) -> Result
 }
 
 #[test]
+fn a_long_report_of_four_workers_is_made(rt: HostRuntime) -> Result<(), Fail> {
+    let texts = (WORLD.as_bytes(), b"load 0 0\nrun 5000\nend\n".as_slice());
+    let came = run_words(&rt, rt.alloc(), &["run", "w", "s", "4"], texts, (&[], &[]))?;
+    assert_eq!(rt; came.status.code, 6, "the sink has room for one piece");
+    assert_eq!(rt; came.out.bytes().len(), 4096);
+    let begin = b"report 1\nevents 10004\nload 0 0 0 counted\n".as_slice();
+    assert!(rt; came.out.bytes().starts_with(begin));
+    Ok(())
+}
+
+#[test]
 fn a_fault_in_telling_changes_no_status(rt: HostRuntime) -> Result<(), Fail> {
     let alloc = rt.alloc();
     let mut shelf = MemShelf::of(Vec::new(alloc), Vec::new(alloc));
