@@ -1,7 +1,7 @@
 //! The blocks of one region.
 //!
-//! A `Blocks` stands for a list of blocks in no stated order, of which no two have one place and none has number 0. Contracts say what each call
-//! does to the list, or to a weight summed over it, and nothing of the pages and the lists of chunks in which the blocks lie.
+//! A `Blocks` stands for a list of blocks in no stated order. Contracts say what each call does to the list, or to a weight summed over it.
+//! `IsKept`, which each call keeps, says how the blocks lie: by chunk, each place once, and none with number 0.
 //!
 //! The crate promises that `number_at` and `set` read and change just the block that they name, and that `move_listed` moves exactly
 //! what lies in the chunks of a list. Only `reserve` and what lists blocks need memory; `set` takes some where there is. The lemmas speak of sums
