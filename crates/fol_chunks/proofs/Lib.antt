@@ -2,16 +2,7 @@ pub mod EntityLists
 pub mod Movement
 pub mod EitherList
 pub mod Flats
-pub mod Weighing
-pub mod OnPages
-pub mod Spots
-pub mod PageSteps
-pub mod CellSums
-pub mod CellSteps
-pub mod ChunkLists
 pub mod Tallies
-pub mod Wholes
-pub mod Laid
 pub mod Parts
 pub mod Areas
 pub mod Walkers

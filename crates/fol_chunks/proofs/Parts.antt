@@ -12,10 +12,10 @@ use Rattle.fol_model.specs.Geometry.{chunk_of, same_block}
 use Rattle.fol_model.specs.World.{block_in}
 use Rattle.fol_keyed.specs.Members.{is_listed}
 use Rattle.fol_keyed.proofs.Places.{same_block-true}
-use Rattle.fol_chunks.specs.Kept.{is_bare, one_if_filled}
-use Rattle.fol_chunks.specs.Weights.{only, lies_in, lies_outside, one_at, stands_at}
-use Rattle.fol_chunks.proofs.Weighing.{number_sum, only-no, only-yes}
-use Rattle.fol_chunks.proofs.Wholes.{one_is}
+use Rattle.fol_blocks.specs.Kept.{is_bare, one_if_filled}
+use Rattle.fol_blocks.specs.Weights.{only, lies_in, lies_outside, one_at, stands_at}
+use Rattle.fol_blocks.proofs.Weighing.{number_sum, only-no, only-yes}
+use Rattle.fol_blocks.proofs.Wholes.{one_is}
 
 -- a weight of the blocks of one place, where the test answers alike at all of them
 module _ (b : BlockPos) (p : BlockAt → Bool) (c : Bool) (g : BlockAt → ℕ) (alike : (x : BlockAt) → same_block x.at b ≡ true → p x ≡ c) (alone : (x : BlockAt) → same_block x.at b ≡ false → g x ≡ 0) where

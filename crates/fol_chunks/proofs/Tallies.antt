@@ -17,12 +17,12 @@ use Rattle.fol_model.specs.Geometry.{chunk_of, same_chunk}
 use Rattle.fol_model.specs.Universe.{chunk_cmp}
 use Rattle.fol_keyed.specs.Members.{is_listed}
 use Rattle.fol_keyed.proofs.Places.{same_chunk-true, chunk_cmp_total}
-use Rattle.fol_chunks.specs.Cells.{chunk_at, key_at, same_key}
+use Rattle.fol_blocks.specs.Cells.{chunk_at, key_at, same_key}
 use Rattle.fol_chunks.specs.Rows.{by_id}
 use Rattle.fol_chunks.specs.Tallies.{AreCounted, is_key_of, number_of, stands_in, total_of}
-use Rattle.fol_chunks.proofs.CellSums.{key_laws, key_same, key_self}
-use Rattle.fol_chunks.proofs.ChunkLists.{either_apart, listed_more, not_before}
-use Rattle.fol_chunks.proofs.Weighing.{sum_two}
+use Rattle.fol_blocks.proofs.CellSums.{key_laws, key_same, key_self}
+use Rattle.fol_blocks.proofs.ChunkLists.{either_apart, listed_more, not_before}
+use Rattle.fol_blocks.proofs.Weighing.{sum_two}
 
 abbrev pub Numbers : Type 0
 Numbers = List ((ℤ × ℤ) × ℕ)

@@ -2,10 +2,6 @@ pub mod Order
 pub mod Boxed
 pub mod Contents
 pub mod Rows
-pub mod Weights
-pub mod Pages
-pub mod Cells
-pub mod Kept
 pub mod Crowds
 pub mod Tallies
 pub mod Areas

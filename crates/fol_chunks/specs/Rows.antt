@@ -6,12 +6,9 @@ use Rattle.std.specs.declared.cmp.Ordering.{Ordering}
 use Rattle.fol_model.specs.declared.openings.BlockAt.{BlockAt}
 use Rattle.fol_model.specs.declared.entities.Entity.{Entity}
 use Rattle.fol_model.specs.Geometry.{chunk_of, same_block}
-use Rattle.fol_model.specs.Universe.{block_cmp}
 use Rattle.fol_model.specs.ActionStep.{Recorded}
 use Rattle.fol_model.specs.FlatTick.{ahead}
-
-abbrev pub by_place : BlockAt → BlockAt → Ordering
-by_place a b = block_cmp a.at b.at
+pub use Rattle.fol_blocks.specs.Order.{by_place}
 
 abbrev pub by_id : Entity → Entity → Ordering
 by_id a b = nat_cmp a.id b.id

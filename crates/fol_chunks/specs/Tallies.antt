@@ -7,7 +7,7 @@ use Rattle.fol_model.specs.declared.entities.Entity.{Entity}
 use Rattle.fol_model.specs.declared.places.ChunkPos.{ChunkPos}
 use Rattle.fol_model.specs.Geometry.{chunk_of, same_chunk}
 use Rattle.fol_keyed.specs.Members.{is_listed}
-use Rattle.fol_chunks.specs.Cells.{chunk_at, same_key}
+use Rattle.fol_blocks.specs.Cells.{chunk_at, same_key}
 use Rattle.fol_chunks.specs.Rows.{by_id}
 
 -- the entity stands in the chunk of this key

@@ -12,9 +12,9 @@ ghost use Rattle.fol_keyed.specs.Options.{option_filter};
 ghost use Rattle.fol_chunks.specs.Contents.{entity_of};
 ghost use Rattle.fol_chunks.specs.Rows.{by_id};
 
-use crate::cells::key_around;
 use crate::entity_list;
 use crate::tally::{self, Tally};
+use fol_blocks::key_around;
 use fol_model::{ChunkPos, Entity};
 use std::alloc::{AllocError, Global};
 use std::collections::HashMap;

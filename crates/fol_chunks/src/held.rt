@@ -12,8 +12,8 @@ ghost use Rattle.fol_keyed.specs.Order.{chunk_cmp};
 ghost use Rattle.fol_chunks.specs.Crowds.{walks};
 ghost use Rattle.fol_chunks.specs.Rows.{by_id};
 
-use crate::blocks::Blocks;
 use crate::entities::Entities;
+use fol_blocks::Blocks;
 use fol_keyed::ChunkSet;
 use fol_model::{BlockAt, BlockPos, ChunkPos, Entity};
 use std::alloc::{AllocError, Global};
@@ -29,7 +29,7 @@ pub struct Held {
 impl Model for Held {
     ghost use Rattle.std.specs.Prelude.{min};
     ghost use Rattle.fol_chunks.specs.Contents.{Contents};
-    ghost use Rattle.fol_chunks.specs.Kept.{blocks_of, room_of, IsKept};
+    ghost use Rattle.fol_blocks.specs.Kept.{blocks_of, room_of, IsKept};
 
     ghost Value = { Contents };
 

@@ -5,14 +5,11 @@
 //!
 //! The crate promises that `get`, `set`, `find`, `take_entity` and `put_entity` read and change just what they name, that
 //! `step_entities` is the movement at the end of a tick, and that what is moved to another value is exactly what lies in the chunks of
-//! a list. Only `reserve` and what lists blocks or entities need memory; `set` takes some where there is. It serves the data of a region.
+//! a list. Only `reserve` and what lists blocks or entities need memory; `set` takes some where there is. Its blocks are those of
+//! `fol_blocks`. It serves the data of a region.
 #![tactic(auto)]
 
 mod block_area;
-mod block_list;
-mod block_pages;
-mod blocks;
-mod cells;
 mod chunks;
 mod counted;
 mod entities;
@@ -20,8 +17,6 @@ mod entity_list;
 mod ground;
 mod held;
 mod lookup;
-mod moves;
-mod pages;
 mod steps;
 mod tally;
 

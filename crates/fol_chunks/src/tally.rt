@@ -4,10 +4,10 @@ ghost use Rattle.std.specs.Prelude.{◌≡◌, ◌+◌, ◌≤◌, ◌<◌, ◌^
 ghost use Rattle.std.specs.HashMap.{spare};
 ghost use Rattle.std.specs.List.Sorted.{IsStrictlySortedBy};
 ghost use Rattle.fol_keyed.specs.Order.{chunk_cmp};
-ghost use Rattle.fol_chunks.specs.Cells.{same_key};
+ghost use Rattle.fol_blocks.specs.Cells.{same_key};
 ghost use Rattle.fol_chunks.specs.Tallies.{number_of, total_of, is_key_of};
 
-use crate::cells::key_of;
+use fol_blocks::key_of;
 use fol_model::ChunkPos;
 use std::collections::HashMap;
 

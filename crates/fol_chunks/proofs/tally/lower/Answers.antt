@@ -1,5 +1,5 @@
 use Rattle.std.proofs.Common.{◌+◌, ◌∙◌, sym, ap, cond, None}
-use Rattle.fol_chunks.specs.Cells.{same_key}
+use Rattle.fol_blocks.specs.Cells.{same_key}
 use Rattle.fol_chunks.proofs.Tallies.{unkept}
 use Rattle.fol_chunks.proofs.tally.lower.Goals as goal
 

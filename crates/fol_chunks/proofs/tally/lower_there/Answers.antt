@@ -1,7 +1,7 @@
 use Rattle.std.proofs.Common.{◌≡◌, ◌-◌, sym, ap, arith, Some}
 use Rattle.std.specs.Map.{lookup}
 use Rattle.std.specs.Option.{is_some, unwrap_or}
-use Rattle.fol_chunks.specs.Cells.{same_key}
+use Rattle.fol_blocks.specs.Cells.{same_key}
 use Rattle.fol_chunks.specs.Tallies.{number_of}
 use Rattle.fol_chunks.proofs.Tallies.{lowered}
 use Rattle.fol_chunks.proofs.tally.lower_there.Goals as goal

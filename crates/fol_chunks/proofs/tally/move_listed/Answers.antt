@@ -2,7 +2,7 @@ use Rattle.std.proofs.Common.{◌≡◌, ◌+◌, ◌∙◌, sym, ap, refl, arit
 use Rattle.std.proofs.lemmas.List.{take_all}
 use Rattle.fol_model.specs.declared.places.ChunkPos.{ChunkPos}
 use Rattle.fol_chunks.specs.Tallies.{is_key_of, number_of, total_of}
-use Rattle.fol_chunks.proofs.ChunkLists.{key_of}
+use Rattle.fol_blocks.proofs.ChunkLists.{key_of}
 use Rattle.fol_chunks.proofs.Tallies.{left_more, moved_more, no_total, none_comes, none_left, number_as_before, number_stays, total_more, total_within}
 use Rattle.fol_chunks.proofs.tally.move_listed.Goals as goal
 

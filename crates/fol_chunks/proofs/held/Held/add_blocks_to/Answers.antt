@@ -1,5 +1,5 @@
-use Rattle.fol_chunks.specs.Kept.{blocks_of}
-use Rattle.fol_chunks.proofs.Weighing.{once_distinct}
+use Rattle.fol_blocks.specs.Kept.{blocks_of}
+use Rattle.fol_blocks.proofs.Weighing.{once_distinct}
 use Rattle.fol_chunks.proofs.held.Held.add_blocks_to.Goals as goal
 
 pub returns-clause-differ : goal.returns-clause-differ

@@ -1,9 +1,9 @@
 use Rattle.std.proofs.Common.{arith}
-use Rattle.fol_chunks.specs.Kept.{blocks_of}
-use Rattle.fol_chunks.specs.Weights.{lies_in}
+use Rattle.fol_blocks.specs.Kept.{blocks_of}
+use Rattle.fol_blocks.specs.Weights.{lies_in}
 use Rattle.fol_chunks.proofs.Flats.{flat_is}
 use Rattle.fol_chunks.proofs.Parts.{numbers_joined, numbers_left, ones_apart}
-use Rattle.fol_chunks.proofs.Weighing.{count_is, count_split, length_sum}
+use Rattle.fol_blocks.proofs.Weighing.{count_is, count_split, length_sum}
 use Rattle.fol_chunks.proofs.held.Held.move_listed.Goals as goal
 
 pub move_listed-requires-clause-apart : goal.move_listed-requires-clause-apart

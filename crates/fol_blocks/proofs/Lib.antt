@@ -1,0 +1,9 @@
+pub mod Weighing
+pub mod OnPages
+pub mod Spots
+pub mod PageSteps
+pub mod CellSums
+pub mod CellSteps
+pub mod ChunkLists
+pub mod Wholes
+pub mod Laid

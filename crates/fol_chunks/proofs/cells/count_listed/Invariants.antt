@@ -1,8 +1,0 @@
-use Rattle.std.proofs.Common.{◌≡◌, take}
-use Rattle.std.specs.List.{count_by}
-use Rattle.fol_chunks.specs.Cells.{blocks_in}
-use Rattle.fol_chunks.specs.Weights.{lies_in}
-use Rattle.fol_chunks.proofs.cells.count_listed.Given as goal
-
-abbrev pub invariant-loop-c : goal.invariant-loop-c
-invariant-loop-c l = l.count ≡ count_by (lies_in (take l.c-index l.chunks)) (blocks_in l.cells.entries)
