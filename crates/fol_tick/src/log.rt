@@ -15,7 +15,8 @@ pub(crate) struct OpenLog {
     pub(crate) wishes: Vec<Wish>,
 }
 
-/// Makes room for one outcome of each task, and for what they ask for.
+/// Makes room for one outcome of each task, and for what they ask for. The outcomes stay in the history, so their room is no larger than
+/// they are.
 fn reserve(
     ran: &mut Vec<Ran>,
     wishes: &mut Vec<Wish>,
@@ -28,7 +29,7 @@ fn reserve(
     ensures room_for_wishes { OnOk result (vec_len wishes.new + asked
         ≤ vec_capacity wishes.new) }
 {
-    ran.reserve(tasks)?;
+    ran.reserve_exact(tasks)?;
     wishes.reserve(asked)
 }
 
