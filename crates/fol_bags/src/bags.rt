@@ -12,14 +12,18 @@ use std::alloc::{AllocError, Global};
 use std::marker::Model;
 use std::mem;
 
+/// How many bags that are given back are used again, at most; others go back to the allocator.
+const MOST_RETURNED: usize = 64;
+
 /// The bag of each region by its id, and the memory for bags that are yet to be opened. A region that is over, and in whose bag nothing
 /// lies any more, has no more than a pointer here.
 #[derive(Drop)]
 pub struct Bags {
     kept: Vec<Kept>,
-    /// Each is given to the next bag that opens. One that a bag gives back goes back to the allocator, and `reserve` makes others, so
-    /// that there are no more than were ever asked for at once.
+    /// The memory for the bags that were asked for. `reserve` fills it up.
     pool: Vec<Box<Slot>>,
+    /// Bags that were given back, which are used again first: each may have some room for what lies in one.
+    returned: Vec<Box<Slot>>,
 }
 
 impl Model for Bags {
@@ -46,6 +50,7 @@ impl Bags {
         Ok(Bags {
             kept,
             pool: Vec::new(alloc),
+            returned: Vec::with_capacity(alloc, MOST_RETURNED)?,
         })
     }
 
@@ -84,9 +89,13 @@ impl Bags {
         ensures len { length self.new.items ≡ length self.old.items + 1 }
         ensures free { self.old.free ≤ self.new.free + 1 }
     {
-        match self.pool.pop() {
+        let unused = match self.returned.pop() {
+            Some(slot) => Some(slot),
+            None => self.pool.pop(),
+        };
+        match unused {
             Some(mut slot) => {
-                *slot = Slot::opened(alloc, tick, owed);
+                slot.reopen(alloc, tick, owed);
                 self.kept.push_reserved(Kept::of(slot));
             }
             None => unreachable!(),
@@ -152,7 +161,7 @@ impl Bags {
         self.kept[id] = kept;
     }
 
-    /// Gives back the memory of a bag that no region has any more, where nothing lies in it.
+    /// Gives back the memory of a bag that no region has any more, where nothing lies in it. The next bag that opens may have it.
     pub fn release(&mut self, id: usize)
         requires there { id < length self.old.items }
         requires list { (slot_in self.old.items id).taken ≡ false
@@ -167,8 +176,8 @@ impl Bags {
             (record (slot_in self.old.items id) { body = (slot_in self.new.items id).body })
             self.old self.new }
     {
-        let kept = &mut self.kept[id];
-        kept.release();
+        let over = self.kept[id].take_over();
+        keep(&mut self.returned, over);
     }
 
     /// Each of them, by region.
@@ -176,6 +185,17 @@ impl Bags {
         ensures { result.items ≡ self.items }
     {
         self.kept
+    }
+}
+
+/// Keeps a bag that was given back, if there is one, where there is room for it.
+fn keep(returned: &mut Vec<Box<Slot>>, over: Option<Box<Slot>>)
+    ensures { vec_len returned.old ≤ vec_len returned.new }
+{
+    if let Some(slot) = over {
+        if returned.len() < returned.capacity() {
+            returned.push_reserved(slot);
+        }
     }
 }
 

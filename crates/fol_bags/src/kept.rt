@@ -76,8 +76,8 @@ impl Kept {
         }
     }
 
-    /// Gives back the memory of a bag that no region has any more, where nothing lies in it.
-    pub fn release(&mut self)
+    /// Takes out the memory of a bag that no region has any more, where nothing lies in it.
+    pub fn take_over(&mut self) -> Option<Box<Slot>>
         requires { self.old.taken ≡ false → self.old.list ≡ self.old.chunks }
         ensures things { (k : Key) → things self.new.body k ≡ things self.old.body k }
         ensures timely { IsTimely self.old.body → IsTimely self.new.body }
@@ -85,7 +85,9 @@ impl Kept {
         ensures rest { self.new ≡ record self.old { body = self.new.body } }
     {
         if self.is_over() {
-            self.slot = None;
+            self.slot.take()
+        } else {
+            None
         }
     }
 

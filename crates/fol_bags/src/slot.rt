@@ -4,7 +4,7 @@ ghost use Rattle.std.specs.Prelude.{◌≡◌, ◌≤◌, if◌then◌else◌, t
 ghost use Rattle.std.specs.List.Sorted.{IsStrictlySortedBy};
 ghost use Rattle.fol_model.specs.declared.places.ChunkPos.{ChunkPos};
 ghost use Rattle.fol_model.specs.Geometry.{same_chunk};
-ghost use Rattle.fol_chunks.specs.Contents.{is_recorded};
+ghost use Rattle.fol_chunks.specs.Contents.{flat_of, is_recorded, nothing};
 ghost use Rattle.fol_chunks.specs.Order.{chunk_cmp};
 ghost use Rattle.fol_bags.specs.Slots.{no_slot};
 ghost use Rattle.fol_bags.specs.Moves.{SameThings};
@@ -14,7 +14,12 @@ use crate::recalled::Recalled;
 use fol_data::RegionData;
 use fol_keyed::ChunkSet;
 use fol_model::{ChunkPos, Sequence};
+use fol_queues::Queues;
 use std::alloc::{AllocError, Global};
+use std::mem;
+
+/// For how many blocks and entities the room is kept where nothing lies in a bag any more.
+const KEPT_ROOM: u64 = 256;
 
 /// A bag, or what is left of one.
 #[derive(Drop)]
@@ -65,6 +70,26 @@ impl Slot {
         }
     }
 
+    /// Begins it anew, with these counters, as `opened` makes one; but where nothing lies in it, it keeps the room for blocks and entities. Takes
+    /// no memory.
+    pub fn reopen(&mut self, alloc: Global, tick: u64, owed: u32)
+        ensures body { SameThings (record no_data { tick = tick; owed = owed }) self.new.body }
+        ensures tasks { self.new.body.queues.tasks ≡ [] }
+        ensures rest { self.new ≡ record no_slot {
+          body = self.new.body;
+          here = true;
+          listed = true;
+          calm = true;
+        } }
+    {
+        let unused = mem::replace(self, Slot::opened(alloc, tick, owed));
+        if unused.body.is_empty() {
+            self.body = unused.body;
+            self.body.tick = tick;
+            self.body.owed = owed;
+        }
+    }
+
     /// Whether no region has it any more, and nothing lies in it.
     pub fn is_over(&self) -> bool
         requires { self.now.taken ≡ false → self.now.list ≡ self.now.chunks }
@@ -93,14 +118,29 @@ impl Slot {
         self.list.is_empty() && self.touched.is_empty() && self.since.is_empty()
     }
 
-    /// Where nothing lies in it, the room for what lay there goes back.
+    /// Where nothing lies in it, the room for what lay there goes back, but for that of a few blocks and entities.
     pub fn compact(&mut self, alloc: Global)
         ensures same { SameThings self.old.body self.new.body }
         ensures timely { IsTimely self.old.body → IsTimely self.new.body }
         ensures rest { self.new ≡ record self.old { body = self.new.body } }
     {
         if self.body.is_empty() {
+            self.give_back(alloc);
+        }
+    }
+
+    /// The room for what lay in it goes back, but for that of a few blocks and entities. Nothing lies in it.
+    fn give_back(&mut self, alloc: Global)
+        requires tasks { self.old.body.queues.tasks ≡ [] }
+        requires contents { flat_of self.old.body.chunks ≡ nothing }
+        ensures same { SameThings self.old.body self.new.body }
+        ensures tasks { self.new.body.queues.tasks ≡ [] }
+        ensures rest { self.new ≡ record self.old { body = self.new.body } }
+    {
+        if self.body.chunks.spare() > KEPT_ROOM {
             self.body = new_data(alloc, self.body.tick, self.body.owed);
+        } else {
+            self.body.queues = Queues::new(alloc);
         }
     }
 
