@@ -69,7 +69,7 @@ impl Sections {
     ghost use Rattle.fol_model.specs.Universe.{all_chunks};
     ghost use Rattle.fol_sections.specs.Table.{Table, holds_of, presence_of, neighbours_of, in_margin_of, present_count, is_full_for, is_loaded_chunk_of, loaded_count, missing_count, added, removed, Adds, IsSame, IsEmpty, is_missing};
 
-    /// Nothing is held and no section is present. Pages come with the sections that need them.
+    /// Nothing is held and no section is present. The memory for pages comes with `reserve`.
     pub fn new(alloc: Global, grid: Grid) -> Result<Sections, AllocError>
         ensures grid { IfOk result (λ t. t.grid ≡ grid) }
         ensures empty { IfOk result IsEmpty }
