@@ -37,9 +37,10 @@ fn adds(rt: &impl Abort, sections: &mut Sections, x: i32, answer: Added, made: u
     same(rt, &sections.filled().len(), &made);
 }
 
-/// Removes a hold on the chunk at the origin, which has this answer.
-fn removes(rt: &impl Abort, sections: &mut Sections, answer: Removed) {
+/// Removes a hold on the chunk at the origin, which has this answer and leaves so many sections dead.
+fn removes(rt: &impl Abort, sections: &mut Sections, answer: Removed, died: usize) {
     same(rt, &sections.remove(ChunkPos { x: 0, z: 0 }), &answer);
+    same(rt, &sections.died().len(), &died);
 }
 
 /// So many sections are present.
@@ -62,9 +63,9 @@ fn load_three(rt: &impl Abort, sections: &mut Sections) {
 
 /// The two holds of the first chunk fall.
 fn unload_first(rt: &impl Abort, sections: &mut Sections) {
-    removes(rt, sections, Removed::Lowered);
-    removes(rt, sections, Removed::Gone);
-    removes(rt, sections, Removed::NotLoaded);
+    removes(rt, sections, Removed::Lowered, 0);
+    removes(rt, sections, Removed::Gone, 3);
+    removes(rt, sections, Removed::NotLoaded, 0);
 }
 
 #[test]

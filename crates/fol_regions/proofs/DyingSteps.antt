@@ -1,29 +1,30 @@
 -- The sections that are dead since a chunk has no hold any more.
 use Rattle.std.proofs.Common.{◌≡◌, ℕ, ◌+◌, ◌-◌, ◌≤◌, ◌<◌, refl, sym, ◌∙◌, ap, arith, Bool, true, false, inl, inr, ◌⊎◌, not, ◌&&◌, cond, List, [], ◌∷◌}
-use Rattle.std.specs.Prelude.{nat_abs, nat_eq, nat_le, nat_lt, if◌then◌else◌, min, count_by, filter}
-use Rattle.std.proofs.lemmas.Bool.{cases_Bool, true≢false, and_parts, and_from, or_left, or_right, lt-ltb, ltb-true, ltb-false, leb-true, eq-eqb, eqb-true, eqb-false, not-true}
+use Rattle.std.specs.Prelude.{nat_eq, nat_lt, min, count_by, filter}
+use Rattle.std.proofs.lemmas.Bool.{cases_Bool, true≢false, and_parts, and_from, or_left, or_right, lt-ltb, ltb-true, ltb-false, leb-true, eq-eqb, eqb-true, not-true}
 use Rattle.fol_model.specs.declared.places.ChunkPos.{ChunkPos}
 use Rattle.fol_model.specs.declared.places.SectionPos.{SectionPos}
-use Rattle.fol_model.specs.declared.grids.Grid.{Grid}
-use Rattle.fol_model.specs.Geometry.{is_chunk, is_within, same_chunk, same_section, section_of, is_section}
+use Rattle.fol_model.specs.Geometry.{is_chunk, is_within, same_chunk, section_of, is_section}
 use Rattle.fol_model.specs.GridNumbers.{IsGrid}
 use Rattle.fol_model.specs.GridState.{GridState, at_chunk, in_margin}
-use Rattle.fol_model.specs.Universe.{all_chunks, all_sections, count_sections, some_chunk, square}
+use Rattle.fol_model.specs.Universe.{all_sections, count_sections, square}
 use Rattle.fol_model.specs.Rules.{Rules}
 use Rattle.fol_laws.proofs.AllSections.{some_chunk-is, some_chunk-gives}
-use Rattle.fol_laws.proofs.Distances.{self_distance}
 use Rattle.fol_laws.proofs.FloorDivision.{around_in_limits}
 use Rattle.fol_laws.proofs.ListCounts.{count_by-cons, count_by-mono, count_by-or}
-use Rattle.fol_laws.proofs.SamePlaces.{same_chunk-true, same_chunk-self, same_section-true}
+use Rattle.fol_laws.proofs.SamePlaces.{same_chunk-true, same_chunk-self}
 use Rattle.fol_laws.proofs.SectionOrder.{near_rows}
-use Rattle.fol_sections.specs.Table.{holds_of, in_margin_of, loaded_count, is_loaded_chunk_of, presence_of, removed}
+use Rattle.fol_sections.specs.Table.{holds_of, in_margin_of, presence_of, removed}
 use Rattle.fol_sections.specs.declared.answers.Removed.TheVariants.{Gone}
 use Rattle.fol_sections.specs.Table as sections
-use Rattle.fol_sections.proofs.Margins.{any-count}
 use Rattle.fol_region_tables.specs.Book.{Book, owner_of}
 use Rattle.fol_regions.specs.declared.dead_bounds.Known.{Known}
-use Rattle.fol_regions.specs.DeadBounds.{BoundsDead, dead_count, is_dead_in, most_in}
+use Rattle.fol_regions.specs.DeadBounds.{BoundsDead, dead_count, most_in}
 use Rattle.fol_regions.specs.Released.{IsPresence, grid_of}
+
+-- the section is the region's, and in no margin
+abbrev is_dead_in : sections.Table → Book → ℕ → SectionPos → Bool
+is_dead_in s b r q = nat_eq (owner_of b q) r && not (in_margin_of s q)
 
 -- of the present and dead ones of some sections, those of a region
 pub dead_listed : (s : sections.Table) (b : Book) → IsPresence s b → (r : ℕ) → 0 < r → (xs : List SectionPos)
@@ -53,13 +54,6 @@ dead_listed s b here r p (x ∷ xs) =
     always : (v : Bool) → (v && true) ≡ v
     always true = refl
     always false = refl
-
--- the section of a chunk is within the limits
-pub home_near : (grid : Grid) (c : ChunkPos) → IsGrid grid → is_chunk c ≡ true → (nat_abs (section_of grid c).x ≤ 1000008) × (nat_abs (section_of grid c).z ≤ 1000008)
-unfolding is_section
-home_near grid c ok limits =
-    let home = around_in_limits grid c (section_of grid c) ok limits (omega (arith, self_distance (section_of grid c))) in
-    let p = and_parts (nat_le (nat_abs (section_of grid c).x) 1000008) (nat_le (nat_abs (section_of grid c).z) 1000008) home in (leb-true _ _ p.0, leb-true _ _ p.1)
 
 -- ---- counts
 -- what passes p passes q, or lies near
@@ -134,15 +128,7 @@ module _ (g h : GridState) (c : ChunkPos) (grid : h.grid ≡ g.grid) (owner : h.
   pub dead_kept : (g.holds c ≡ 1 → ⊥) → (r : ℕ) → dead_count h r ≤ dead_count g r
   dead_kept n r = dead_fewer g h r (λ s o e. (sym (owned s) ∙ o, was_dead s e (λ x w. n x)))
 
-  -- another chunk of the section has a hold
-  pub dead_filled : some_chunk (λ q. nat_lt 0 (h.holds q) && same_section (section_of g.grid q) (section_of g.grid c)) ≡ true → (r : ℕ) → dead_count h r ≤ dead_count g r
-  dead_filled some r =
-      let q = some_chunk-gives (λ q. nat_lt 0 (h.holds q) && same_section (section_of g.grid q) (section_of g.grid c)) some in
-      let both = and_parts (nat_lt 0 (h.holds q.0)) (same_section (section_of g.grid q.0) (section_of g.grid c)) q.2 in
-      let same : section_of g.grid q.0 ≡ section_of g.grid c = same_section-true (section_of g.grid q.0) (section_of g.grid c) both.1 in
-      dead_fewer g h r (λ s o e. (sym (owned s) ∙ o, was_dead s e (λ x w. true≢false (sym (margin_by q.0 s q.1 both.0 (ap (λ n. is_within n g.grid.create s) same ∙ w)) ∙ e))))
-
-  -- none has
+  -- the last hold is gone
   pub dead_near : IsGrid g.grid → is_chunk c ≡ true → (r : ℕ) → dead_count h r ≤ dead_count g r + count_by (λ s. nat_eq (h.owner s) r && not (in_margin h s)) (square (section_of g.grid c) g.grid.create)
   unfolding dead_count
   dead_near ok limits r = count_near (λ s. nat_eq (h.owner s) r && not (in_margin h s)) (λ s. nat_eq (g.owner s) r && not (in_margin g s)) (section_of g.grid c) g.grid.create
@@ -158,44 +144,32 @@ module _ (g h : GridState) (c : ChunkPos) (grid : h.grid ≡ g.grid) (owner : h.
       ])
 
 -- ---- the numbers that a table keeps
-module _ (s e : sections.Table) (b : Book) (c : ChunkPos) (same : e.grid ≡ s.grid) (holds : holds_of e ≡ at_chunk (holds_of s) c (holds_of s c - 1)) (old new : List Known) (bounds : BoundsDead (grid_of s b) (most_in old)) where
+module _ (s e : sections.Table) (b : Book) (c : ChunkPos) (same : e.grid ≡ s.grid) (holds : holds_of e ≡ at_chunk (holds_of s) c (holds_of s c - 1)) (old new : List Known) (bounds : BoundsDead (grid_of s b) (most_in old))
+    (after : Rules (grid_of e b)) (died : List SectionPos) (noted : (r : ℕ) → 0 < r → min 16384 (most_in old r + count_by (λ q. nat_eq (owner_of b q) r) died) ≤ most_in new r) where
   dead_is : (r : ℕ) (n : SectionPos) (k : ℕ) → count_by (λ q. nat_eq ((grid_of e b).owner q) r && not (in_margin (grid_of e b) q)) (square n k) ≡ count_by (is_dead_in e b r) (square n k)
   unfolding grid_of in_margin in_margin_of
   dead_is r n k = refl
 
-  -- the chunk has holds left, or had none
-  pub bounds_kept : (holds_of s c ≡ 1 → ⊥) → BoundsDead (grid_of e b) (most_in old)
+  same_dead : (holds_of s c ≡ 1 → ⊥) → (r : ℕ) → dead_count (grid_of e b) r ≤ dead_count (grid_of s b) r
   unfolding grid_of
-  bounds_kept n = record { at = λ r p. omega (arith, bounds.at r p, dead_kept (grid_of s b) (grid_of e b) c same refl holds n r) }
+  same_dead n r = dead_kept (grid_of s b) (grid_of e b) c same refl holds n r
+
+  -- the chunk has holds left, or had none
+  pub bounds_kept : (holds_of s c ≡ 1 → ⊥) → BoundsDead (grid_of e b) (most_in new)
+  bounds_kept n = record { at = λ r p. omega (arith, bounds.at r p, same_dead n r, dead_few (grid_of e b) r after p, noted r p) }
 
   -- its last hold is gone
-  module _ (ok : IsGrid s.grid) (limits : is_chunk c ≡ true) (after : Rules (grid_of e b))
-      (noted : (r : ℕ) → 0 < r → min 16384 (most_in old r + (if nat_eq (loaded_count e (section_of s.grid c)) 0 then count_by (is_dead_in e b r) (square (section_of s.grid c) s.grid.create) else 0)) ≤ most_in new r) where
-    filled : nat_eq (loaded_count e (section_of s.grid c)) 0 ≡ false → some_chunk (λ q. nat_lt 0 ((grid_of e b).holds q) && same_section (section_of (grid_of s b).grid q) (section_of (grid_of s b).grid c)) ≡ true
-    unfolding grid_of loaded_count is_loaded_chunk_of holds_of
-    filled n =
-        let some : 0 < count_by (λ q. nat_lt 0 (holds_of e q) && same_section (section_of e.grid q) (section_of s.grid c)) all_chunks = omega (arith, eqb-false _ _ n) in
-        let any = any-count (λ q. nat_lt 0 (holds_of e q) && same_section (section_of e.grid q) (section_of s.grid c)) all_chunks ∙ lt-ltb 0 _ some in
-        rw same at any
-
+  module _ (ok : IsGrid s.grid) (limits : is_chunk c ≡ true) (presence : IsPresence e b)
+      (are : died ≡ filter (λ q. presence_of e q && not (in_margin_of e q)) (square (section_of s.grid c) s.grid.create)) where
     noted_near : (r : ℕ) → dead_count (grid_of e b) r ≤ dead_count (grid_of s b) r + count_by (is_dead_in e b r) (square (section_of s.grid c) s.grid.create)
     unfolding grid_of
     noted_near r = let d = dead_near (grid_of s b) (grid_of e b) c same refl holds ok limits r in let i = dead_is r (section_of s.grid c) s.grid.create in omega (arith, d, i)
 
-    noted_full : nat_eq (loaded_count e (section_of s.grid c)) 0 ≡ false → (r : ℕ) → dead_count (grid_of e b) r ≤ dead_count (grid_of s b) r
-    unfolding grid_of
-    noted_full z r = dead_filled (grid_of s b) (grid_of e b) c same refl holds (filled z) r
-
     pub bounds_noted : BoundsDead (grid_of e b) (most_in new)
     bounds_noted = record {
       at = λ r p.
-          let few = dead_few (grid_of e b) r after p in
-          let was = bounds.at r p in
-          let n = noted r p in
-          elim (cases_Bool (nat_eq (loaded_count e (section_of s.grid c)) 0)) [
-            | inl z ↦ let m = rw z at n in let l = noted_near r in omega (arith, m, l, few, was)
-            | inr z ↦ let m = rw z at n in let l = noted_full z r in omega (arith, m, l, few, was)
-          ];
+          let listed = ap (count_by (λ q. nat_eq (owner_of b q) r)) are ∙ dead_listed e b presence r p (square (section_of s.grid c) s.grid.create) in
+          omega (arith, bounds.at r p, listed, noted_near r, dead_few (grid_of e b) r after p, noted r p);
     }
 
 -- ---- the answer

@@ -1,5 +1,5 @@
 -- What the calls of a region table keep and say.
-use Rattle.std.proofs.Common.{◌≡◌, ℕ, ◌+◌, ◌-◌, ◌*◌, ◌≤◌, ◌<◌, refl, sym, ◌∙◌, ap, arith, true, false, inl, inr, ◌&&◌, List}
+use Rattle.std.proofs.Common.{◌≡◌, ℕ, ◌+◌, ◌-◌, ◌*◌, ◌≤◌, ◌<◌, refl, sym, ◌∙◌, ap, arith, true, false, inl, inr, ◌&&◌, not, filter, List}
 use Rattle.std.specs.Prelude.{◌≢◌, nat_eq, nat_lt, if◌then◌else◌, Some, None, min, count_by}
 use Rattle.std.proofs.Math.Path.{fun_ext}
 use Rattle.std.proofs.lemmas.Bool.{cases_Bool, cases_eq, true≢false, lt-ltb, le-ltb}
@@ -18,14 +18,14 @@ use Rattle.fol_model.specs.Release.{release}
 use Rattle.fol_model.specs.Rules.{Rules}
 use Rattle.fol_laws.proofs.SmallSteps.{begin_keeps, drop_keeps, empty_keeps}
 use Rattle.fol_laws.proofs.ReleaseKeeps.{release_keeps}
-use Rattle.fol_sections.specs.Table.{IsEmpty, IsSame, holds_of, loaded_count, presence_of, removed}
+use Rattle.fol_sections.specs.Table.{IsEmpty, IsSame, holds_of, in_margin_of, presence_of, removed}
 use Rattle.fol_sections.specs.declared.answers.Removed.TheVariants.{Gone}
 use Rattle.fol_sections.specs.Table as sections
 use Rattle.fol_regions.specs.Answers.{begun_state, remove_answer, some_id, unbegun}
 use Rattle.fol_region_tables.specs.Book.{Book, HasRoomFor, IsAlike, IsBook, KeepsRoom, SetsState, owner_of, state_of, waits_of, is_live}
 use Rattle.fol_lists.specs.Numbered.{total}
 use Rattle.fol_regions.specs.declared.dead_bounds.Known.{Known}
-use Rattle.fol_regions.specs.DeadBounds.{BoundsDead, is_dead_in, most_in}
+use Rattle.fol_regions.specs.DeadBounds.{BoundsDead, most_in}
 use Rattle.fol_regions.specs.Kept.{IsKept}
 use Rattle.fol_regions.specs.Released.{IsPresence, grid_of}
 use Rattle.fol_regions.specs.Table.{Table, grid_state}
@@ -88,13 +88,14 @@ module _ (grid : Grid) (s : sections.Table) (b : Book) (events : ℕ) (k : IsKep
       room = k.room;
     }
 
-    -- ---- the numbers of dead sections
-    pub removed_bounds : (old new : List Known) → BoundsDead (grid_of s b) (most_in old)
-        → (removed s c ≡ Gone → (r : ℕ) → 0 < r → min 16384 (most_in old r + (if nat_eq (loaded_count e (section_of grid c)) 0 then count_by (is_dead_in e b r) (square (section_of grid c) grid.create) else 0)) ≤ most_in new r)
-        → (removed s c ≢ Gone → new ≡ old) → BoundsDead (grid_of e b) (most_in new)
-    removed_bounds old new bounds gone others = elim (cases_eq (holds_of s c) 1) [
-      | inl one ↦ let noted = rw k.same at (gone (one_gone s c one)) in bounds_noted s e b c same holds old new bounds k.numbers (gone_limits (one_gone s c one)) removed_kept.rules noted
-      | inr n ↦ rw (others (λ g. n (gone_one s c g))) (bounds_kept s e b c same holds old new bounds n)
+    -- ---- the numbers of dead sections, where those that are dead since are noted
+    pub removed_bounds : (old new : List Known) → BoundsDead (grid_of s b) (most_in old) → (died : List SectionPos)
+        → (removed s c ≡ Gone → died ≡ filter (λ q. presence_of e q && not (in_margin_of e q)) (square (section_of s.grid c) s.grid.create))
+        → ((r : ℕ) → 0 < r → min 16384 (most_in old r + count_by (λ q. nat_eq (owner_of b q) r) died) ≤ most_in new r)
+        → BoundsDead (grid_of e b) (most_in new)
+    removed_bounds old new bounds died are noted = elim (cases_eq (holds_of s c) 1) [
+      | inl one ↦ bounds_noted s e b c same holds old new bounds removed_kept.rules died noted k.numbers (gone_limits (one_gone s c one)) removed_kept.presence (are (one_gone s c one))
+      | inr n ↦ bounds_kept s e b c same holds old new bounds removed_kept.rules died noted n
     ]
 
   pub removed_answer : (c : ChunkPos) → removed s c ≡ remove_answer (grid_of s b) c

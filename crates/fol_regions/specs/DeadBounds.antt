@@ -1,14 +1,10 @@
 -- How many dead sections a region has, and numbers that these are at most.
-use Rattle.std.specs.Prelude.{ℕ, ◌%◌, ◌<◌, ◌≤◌, Bool, not, ◌&&◌, nat_eq, if◌then◌else◌, List}
+use Rattle.std.specs.Prelude.{ℕ, ◌%◌, ◌<◌, ◌≤◌, not, ◌&&◌, nat_eq, if◌then◌else◌, List}
 use Rattle.std.specs.List.{slice_index_or}
 use Rattle.fol_model.specs.declared.places.TheConstants.{MOST_SECTIONS}
-use Rattle.fol_model.specs.declared.places.SectionPos.{SectionPos}
 use Rattle.fol_model.specs.GridState.{GridState, in_margin}
 use Rattle.fol_model.specs.Universe.{count_sections}
 use Rattle.fol_regions.specs.declared.dead_bounds.Known.{Known}
-use Rattle.fol_sections.specs.Table.{in_margin_of}
-use Rattle.fol_sections.specs.Table as sections
-use Rattle.fol_region_tables.specs.Book.{Book, owner_of}
 
 -- the sections of a region that are in no margin
 unfoldable pub dead_count : GridState → ℕ → ℕ
@@ -29,7 +25,3 @@ most_of r known = if nat_eq known.id r then known.most else MOST_SECTIONS
 -- the number of a region
 unfoldable pub most_in : List Known → ℕ → ℕ
 most_in known r = most_of r (slice_index_or known (place r) (record { id = 0; most = MOST_SECTIONS }))
-
--- the section is the region's, and in no margin
-abbrev pub is_dead_in : sections.Table → Book → ℕ → SectionPos → Bool
-is_dead_in s b r q = nat_eq (owner_of b q) r && not (in_margin_of s q)

@@ -3,23 +3,17 @@
 ghost use Rattle.std.specs.Prelude.{◌≡◌, ℕ, ◌+◌, ◌<◌, ◌≤◌, ◌&&◌, true, nat_abs, nat_eq, nat_lt, if◌then◌else◌, count_by, min, pos, ◌+ℤ◌, IfOk, List, length, slice_index_or};
 ghost use Rattle.std.specs.Int.{int_rem_euclid};
 ghost use Rattle.fol_model.specs.declared.places.SectionPos.{SectionPos};
-ghost use Rattle.fol_model.specs.Universe.{square};
 ghost use Rattle.fol_region_tables.specs.Book.{owner_of};
 ghost use Rattle.fol_regions.specs.Added.{is_id};
 ghost use Rattle.fol_regions.specs.Changes.{into};
-ghost use Rattle.fol_regions.specs.DeadBounds.{is_dead_in, most_in, place};
-ghost use Rattle.fol_regions.specs.Released.{IsPresence};
+ghost use Rattle.fol_regions.specs.DeadBounds.{most_in, place};
 
 use crate::MergePair;
 use fol_model::{MOST_SECTIONS, SectionPos};
 use fol_pages::run_len;
 use fol_region_tables::Tables;
-use fol_sections::Sections;
 use std::alloc::{AllocError, Global};
 use std::marker::Model;
-
-/// The most sections within a create radius of a section, which is at most 8.
-const MOST_DYING: usize = 289;
 
 /// A number that is known of a region.
 #[derive(Clone, Copy, Drop)]
@@ -37,13 +31,10 @@ pub struct Known {
 pub struct DeadBounds {
     /// By the id modulo 16,384: what is known of the region. Of two regions with the same place only one is known.
     known: Vec<Known>,
-    /// The dead sections that are noted.
-    dying: Vec<SectionPos>,
 }
 
 impl Model for DeadBounds {
-    ghost use Rattle.std.specs.Prelude.{◌≡◌, ◌≤◌, List, length};
-    ghost use Rattle.std.specs.Vec.{vec_capacity};
+    ghost use Rattle.std.specs.Prelude.{◌≡◌, List, length};
     ghost use Rattle.fol_model.specs.declared.places.TheConstants.{MOST_SECTIONS};
     ghost use Rattle.fol_regions.specs.declared.dead_bounds.Known.{Known};
 
@@ -51,7 +42,7 @@ impl Model for DeadBounds {
 
     ghost view = { λ s. s.known.items };
 
-    ghost invariant = { λ s. (length s.known.items ≡ MOST_SECTIONS) × (289 ≤ vec_capacity s.dying) };
+    ghost invariant = { λ s. length s.known.items ≡ MOST_SECTIONS };
 }
 
 impl DeadBounds {
@@ -65,10 +56,7 @@ impl DeadBounds {
         };
         let mut known = Vec::with_capacity(alloc, MOST_SECTIONS)?;
         known.resize(MOST_SECTIONS, nothing)?;
-        Ok(DeadBounds {
-            known,
-            dying: Vec::with_capacity(alloc, MOST_DYING)?,
-        })
+        Ok(DeadBounds { known })
     }
 
     /// The number of a region.
@@ -91,25 +79,12 @@ impl DeadBounds {
         self.known[place(id)] = Known { id, most };
     }
 
-    /// Notes the dead ones of the sections within a radius, each for its region. Takes no memory.
-    pub fn note_square(
-        &mut self,
-        tables: &Tables,
-        sections: &Sections,
-        home: SectionPos,
-        radius: u8,
-    )
-        requires presence { IsPresence sections.now tables.now }
-        requires home { (nat_abs home.x ≤ 1000008) × (nat_abs home.z ≤ 1000008) }
-        requires radius { radius ≤ 8 }
-        ensures { (r : ℕ) → 0 < r
-            → min MOST_SECTIONS (most_in self.old r
-            + count_by (is_dead_in sections.now tables.now r) (square home radius))
-            ≤ most_in self.new r }
+    /// Notes sections that are dead since, each for its region. Takes no memory.
+    pub fn note_died(&mut self, tables: &Tables, died: &[SectionPos])
+        ensures { (r : ℕ) → 0 < r → min MOST_SECTIONS (most_in self.old r
+            + count_by (λ s. nat_eq (owner_of tables.now s) r) died.now) ≤ most_in self.new r }
     {
-        self.dying.clear();
-        sections.find_dead(home, radius, &mut self.dying);
-        note_list(&mut self.known, tables, &self.dying);
+        note_list(&mut self.known, tables, died);
     }
 }
 

@@ -18,7 +18,6 @@ mod change;
 mod chunks;
 mod counts;
 mod dead_bounds;
-mod dying;
 mod near;
 mod regions;
 mod release;

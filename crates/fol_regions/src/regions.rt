@@ -22,7 +22,6 @@ use crate::add::hold;
 use crate::chunks::list_chunks;
 use crate::counts::count_chunks;
 use crate::dead_bounds::{DeadBounds, forget_joined, note_created};
-use crate::dying::note_dying;
 use crate::near::{MOST_NEAR, NearRegions};
 use crate::release::{Releaser, can_rest};
 use crate::touched::list_touched;
@@ -194,14 +193,7 @@ impl Regions {
         ensures spare { self.new.spare ≡ self.old.spare }
     {
         let answer = self.sections.remove(c);
-        note_dying(
-            &mut self.dead,
-            &self.tables,
-            &self.sections,
-            &self.grid,
-            c,
-            answer,
-        );
+        self.dead.note_died(&self.tables, self.sections.died());
         answer
     }
 

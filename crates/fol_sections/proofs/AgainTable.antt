@@ -48,36 +48,36 @@ pub first_near : (n : ℕ) (held near : Bool) → held ≡ false → n + cond ne
 first_near n held near new = rw new refl
 
 -- ---- one more
-module _ (grid : Grid) (holds : List ((ℤ × ℤ) × ℕ)) (pages : List ((ℤ × ℤ) × Page)) (count : ℕ) (filled : List SectionPos) (spare : ℕ) (kept : IsKept grid holds pages count) (c : ChunkPos) (held : is_held holds c ≡ true) where
+module _ (grid : Grid) (holds : List ((ℤ × ℤ) × ℕ)) (pages : List ((ℤ × ℤ) × Page)) (count : ℕ) (filled died : List SectionPos) (spare : ℕ) (kept : IsKept grid holds pages count) (c : ChunkPos) (held : is_held holds c ≡ true) where
   limits : is_chunk c ≡ true
   limits = kept.chunk_limits c held
 
   found : [] ≡ filter (λ s. not (is_here pages s)) (square (section_of grid c) grid.create)
   found = sym (none_missing pages (section_of grid c) grid.create (filled_around grid holds pages count (section_of grid c) kept (chunks_positive grid holds pages count c kept held)))
 
-  pub again_room : is_full_for (table grid holds pages filled spare) c ≡ false
-  again_room = full-is grid holds pages count filled spare kept c limits [] found ∙ le-ltb _ _ (omega (arith, kept.few))
+  pub again_room : is_full_for (table grid holds pages filled died spare) c ≡ false
+  again_room = full-is grid holds pages count filled died spare kept c limits [] found ∙ le-ltb _ _ (omega (arith, kept.few))
 
-  pub again_counted : Counted ≡ added (table grid holds pages filled spare) c
-  again_counted = added_counted grid holds pages count filled spare kept c limits [] found 0 refl (omega (arith, kept.few)) refl
+  pub again_counted : Counted ≡ added (table grid holds pages filled died spare) c
+  again_counted = added_counted grid holds pages count filled died spare kept c limits [] found 0 refl (omega (arith, kept.few)) refl
 
   module _ (holds' : List ((ℤ × ℤ) × ℕ)) (counts : (q : ChunkPos) → count_at holds' q ≡ at_chunk (count_at holds) c (count_at holds c + 1) q) where
     pub again_kept : IsKept grid holds' pages count
     again_kept = kept_add grid holds holds' pages pages count count c kept limits counts
-        (λ s. sym (or_no (is_here pages s)) ∙ here-more grid holds pages count filled spare kept c limits [] found s)
+        (λ s. sym (or_no (is_here pages s)) ∙ here-more grid holds pages count filled died spare kept c limits [] found s)
         (λ s. none_counted (same_section (section_of grid c) s) (chunks_at pages s) ∙ ap (λ b. cond (same_section (section_of grid c) s && not b) 1 0 + chunks_at pages s) (sym held))
         (λ s. plain (near_at pages s) ∙ ap (λ b. near_at pages s + cond (not b && (nat_eq (chunks_at pages (section_of grid c)) 0 && is_within (section_of grid c) grid.create s)) 1 0) (sym held))
-        (omega (arith, missing_length grid holds pages count filled spare kept c limits [] found)) kept.few (λ u. u)
+        (omega (arith, missing_length grid holds pages count filled died spare kept c limits [] found)) kept.few (λ u. u)
 
-    pub again_adds : (less : ℕ) → less + 1 ≡ spare → Adds (table grid holds pages filled spare) (table grid holds' pages [] less) c
+    pub again_adds : (less : ℕ) → less + 1 ≡ spare → Adds (table grid holds pages filled died spare) (table grid holds' pages [] [] less) c
     again_adds less one =
-        let was = table-holds grid holds pages filled spare in
-        let presence = table-presence grid holds pages filled spare kept.section_limits in
+        let was = table-holds grid holds pages filled died spare in
+        let presence = table-presence grid holds pages filled died spare kept.section_limits in
         record {
-          holds = table-holds grid holds' pages [] less ∙ fun_ext counts ∙ ap (λ (f : ChunkPos → ℕ). at_chunk f c (f c + 1)) (sym was);
-          presence = table-presence grid holds' pages [] less kept.section_limits
-              ∙ fun_ext (λ s. sym (or_no (is_here pages s)) ∙ presence-more grid holds pages count filled spare kept c limits [] found s
-              ∙ ap (λ (f : SectionPos → Bool). f s || is_missing (table grid holds pages filled spare) c s) (sym presence));
-          filled = missing_rows grid holds pages count filled spare kept c limits [] found;
+          holds = table-holds grid holds' pages [] [] less ∙ fun_ext counts ∙ ap (λ (f : ChunkPos → ℕ). at_chunk f c (f c + 1)) (sym was);
+          presence = table-presence grid holds' pages [] [] less kept.section_limits
+              ∙ fun_ext (λ s. sym (or_no (is_here pages s)) ∙ presence-more grid holds pages count filled died spare kept c limits [] found s
+              ∙ ap (λ (f : SectionPos → Bool). f s || is_missing (table grid holds pages filled died spare) c s) (sym presence));
+          filled = missing_rows grid holds pages count filled died spare kept c limits [] found;
           spare = one;
         }

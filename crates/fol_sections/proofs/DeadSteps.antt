@@ -13,19 +13,20 @@ use Rattle.fol_model.specs.declared.places.ChunkPos.{ChunkPos}
 use Rattle.fol_model.specs.declared.places.SectionPos.{SectionPos}
 use Rattle.fol_model.specs.declared.grids.Grid.{Grid}
 use Rattle.fol_model.specs.Geometry.{distance, is_section, is_within, section_of, same_section, is_among}
-use Rattle.fol_model.specs.Universe.{all_chunks, all_sections, count_sections}
+use Rattle.fol_model.specs.Universe.{all_chunks, all_sections, count_sections, square}
 use Rattle.fol_laws.proofs.SamePlaces.{same_section-true, same_section-self}
 use Rattle.fol_laws.proofs.Distances.{self_distance}
 use Rattle.fol_laws.proofs.AllSections.{some_chunk-is}
-use Rattle.fol_laws.proofs.ListCounts.{count_by-cons, count_by-some}
-use Rattle.fol_laws.proofs.SectionOrder.{section_count_change}
+use Rattle.fol_laws.proofs.ListCounts.{count_by-cons, count_by-none, count_by-some}
+use Rattle.fol_laws.proofs.SectionOrder.{section_count_change, square_members}
 use Rattle.fol_sections.specs.Pages.{AllUsed, chunks_at, counts_at, is_here, near_at, no_counts}
 use Rattle.fol_sections.specs.declared.pages.Page.{Page}
 use Rattle.fol_sections.specs.Kept.{IsKept, is_filled_near, is_held, is_loaded_in}
-use Rattle.fol_sections.specs.Table.{in_margin_of}
+use Rattle.fol_sections.specs.Table.{in_margin_of, presence_of}
 use Rattle.fol_sections.proofs.Margins.{count-like, margin-is, near-is}
 use Rattle.fol_sections.proofs.NumberSteps.{all_among}
-use Rattle.fol_sections.proofs.Tables.{table, table-dead, table-neighbours}
+use Rattle.fol_sections.proofs.Rows.{filter_none}
+use Rattle.fol_sections.proofs.Tables.{table, table-dead, table-neighbours, table-presence}
 use Rattle.fol_sections.proofs.Views.{same_section-swap}
 
 -- no section near s holds a loaded chunk
@@ -41,6 +42,12 @@ filter-like p q [] h = refl
 filter-like p q (x ∷ xs) h =
     ap (λ b. cond b (x ∷ filter p xs) (filter p xs)) (h x (or_left (same_section x x) _ (same_section-self x)))
     ∙ ap (λ ys. cond (q x) (x ∷ ys) ys) (filter-like p q xs (λ s k. h s (or_right (same_section s x) _ k)))
+
+-- a test that no section of a square passes keeps none of them
+pub square_none : (p : SectionPos → Bool) (n : SectionPos) (r : ℕ) → ((s : SectionPos) → is_within n r s ≡ true → p s ≡ false) → filter p (square n r) ≡ []
+square_none p n r h =
+    filter-like p (λ s. false) (square n r) (λ s k. h s (sym (square_members n r s) ∙ k))
+    ∙ filter_none (λ s. false) (square n r) (count_by-none (λ s. false) (λ s. refl) (square n r))
 
 module _ (grid : Grid) (holds : List ((ℤ × ℤ) × ℕ)) (pages pages' : List ((ℤ × ℤ) × Page)) (count : ℕ) (gone : SectionPos → Bool) (kept : IsKept grid holds pages count)
     (lonely : (q : SectionPos) → gone q ≡ true → is_lonely pages q ≡ true) (out : (q : SectionPos) → counts_at pages' q ≡ cond (gone q) None (counts_at pages q)) where
@@ -176,15 +183,25 @@ module _ (grid : Grid) (holds : List ((ℤ × ℤ) × ℕ)) (pages pages' : List
   all_left = kept_and_gone (is_here pages') (is_lonely pages) list stays_where
 
 -- a section near which no section holds a loaded chunk is dead
-pub lonely-is : (grid : Grid) (holds : List ((ℤ × ℤ) × ℕ)) (pages : List ((ℤ × ℤ) × Page)) (count : ℕ) (filled : List SectionPos) (spare : ℕ) → IsKept grid holds pages count → (s : SectionPos)
-    → is_lonely pages s ≡ not (in_margin_of (table grid holds pages filled spare) s)
-lonely-is grid holds pages count filled spare kept s =
-    table-dead grid holds pages filled spare count kept s (near_at pages s) (near-is grid holds pages count kept s ∙ sym (table-neighbours grid holds pages filled spare s))
+pub lonely-is : (grid : Grid) (holds : List ((ℤ × ℤ) × ℕ)) (pages : List ((ℤ × ℤ) × Page)) (count : ℕ) (filled died : List SectionPos) (spare : ℕ) → IsKept grid holds pages count → (s : SectionPos)
+    → is_lonely pages s ≡ not (in_margin_of (table grid holds pages filled died spare) s)
+lonely-is grid holds pages count filled died spare kept s =
+    table-dead grid holds pages filled died spare count kept s (near_at pages s) (near-is grid holds pages count kept s ∙ sym (table-neighbours grid holds pages filled died spare s))
+
+-- the dead ones of a square whose sections are all present
+pub dead_square : (grid : Grid) (holds : List ((ℤ × ℤ) × ℕ)) (pages : List ((ℤ × ℤ) × Page)) (count : ℕ) (filled died : List SectionPos) (spare : ℕ) → IsKept grid holds pages count → (n : SectionPos) (r : ℕ)
+    → ((s : SectionPos) → is_within n r s ≡ true → is_here pages s ≡ true)
+    → filter (is_lonely pages) (square n r) ≡ filter (λ s. presence_of (table grid holds pages filled died spare) s && not (in_margin_of (table grid holds pages filled died spare) s)) (square n r)
+dead_square grid holds pages count filled died spare kept n r here =
+    let t = table grid holds pages filled died spare in
+    filter-like (is_lonely pages) (λ s. presence_of t s && not (in_margin_of t s)) (square n r) (λ s k.
+    let present : presence_of t s ≡ true = ap (λ (f : SectionPos → Bool). f s) (table-presence grid holds pages filled died spare kept.section_limits) ∙ here s (sym (square_members n r s) ∙ k) in
+    lonely-is grid holds pages count filled died spare kept s ∙ ap (λ b. b && not (in_margin_of t s)) (sym present))
 
 -- and the others are in a margin
-pub living-is : (grid : Grid) (holds : List ((ℤ × ℤ) × ℕ)) (pages : List ((ℤ × ℤ) × Page)) (count : ℕ) (filled : List SectionPos) (spare : ℕ) → IsKept grid holds pages count → (s : SectionPos)
-    → nat_lt 0 (near_at pages s) ≡ in_margin_of (table grid holds pages filled spare) s
-living-is grid holds pages count filled spare kept s = some_near (near_at pages s) ∙ ap not (lonely-is grid holds pages count filled spare kept s) ∙ twice (in_margin_of (table grid holds pages filled spare) s)
+pub living-is : (grid : Grid) (holds : List ((ℤ × ℤ) × ℕ)) (pages : List ((ℤ × ℤ) × Page)) (count : ℕ) (filled died : List SectionPos) (spare : ℕ) → IsKept grid holds pages count → (s : SectionPos)
+    → nat_lt 0 (near_at pages s) ≡ in_margin_of (table grid holds pages filled died spare) s
+living-is grid holds pages count filled died spare kept s = some_near (near_at pages s) ∙ ap not (lonely-is grid holds pages count filled died spare kept s) ∙ twice (in_margin_of (table grid holds pages filled died spare) s)
   where
     some_near : (n : ℕ) → nat_lt 0 n ≡ not (nat_eq n 0)
     some_near n = grind (arith, nat_tests)

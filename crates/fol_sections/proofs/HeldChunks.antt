@@ -73,11 +73,11 @@ module _ (grid : Grid) (holds : List ((ℤ × ℤ) × ℕ)) (pages : List ((ℤ 
     }
 
   -- the same in the words of the table
-  pub listed_words : (filled : List SectionPos) (spare present : ℕ) → IsKept grid holds pages present
-      → (held_chunks grid holds ≡ (λ s. filter (is_loaded_chunk_of (table grid holds pages filled spare) s) all_chunks))
-      × ((list : List SectionPos) → length (flat_map (held_chunks grid holds) list) ≡ sum_by (loaded_count (table grid holds pages filled spare)) list)
-  listed_words filled spare present kept =
-      let words = table-loaded grid holds pages filled spare in (
+  pub listed_words : (filled died : List SectionPos) (spare present : ℕ) → IsKept grid holds pages present
+      → (held_chunks grid holds ≡ (λ s. filter (is_loaded_chunk_of (table grid holds pages filled died spare) s) all_chunks))
+      × ((list : List SectionPos) → length (flat_map (held_chunks grid holds) list) ≡ sum_by (loaded_count (table grid holds pages filled died spare)) list)
+  listed_words filled died spare present kept =
+      let words = table-loaded grid holds pages filled died spare in (
         fun_ext (λ s. held_are present kept s ∙ sym (ap (λ (p : ChunkPos → Bool). filter p all_chunks) (words s).0)),
         λ list. length-flat_map (held_chunks grid holds) list
             ∙ ap (λ f. sum_by f list) (fun_ext (λ s. ap length (held_are present kept s) ∙ length-filter (is_loaded_in grid holds s) all_chunks ∙ sym (words s).1)),

@@ -7,6 +7,7 @@ use Rattle.std.specs.Option.{option_and_then, unwrap_or}
 use Rattle.std.proofs.lemmas.Bool.{cases_Bool, cases_eq, cases_lt, true≢false}
 use Rattle.std.proofs.lemmas.List.{get_or-set_same, get_or-set_other}
 use Rattle.std.proofs.lemmas.List.Sums.{length-filter}
+use borrow.Author.Differences.{ints}
 use Rattle.fol_model.specs.declared.places.SectionPos.{SectionPos}
 use Rattle.fol_model.specs.Geometry.{same_section}
 use Rattle.fol_laws.proofs.SamePlaces.{same_section-true, same_section-self}
@@ -21,7 +22,7 @@ use Rattle.fol_sections.specs.declared.pages.Counts.{Counts}
 use Rattle.fol_sections.specs.declared.pages.Page.{Page}
 use Rattle.fol_sections.specs.declared.turns.Turn.{Turn}
 use Rattle.fol_sections.proofs.PageSteps.{here-page}
-use Rattle.fol_sections.proofs.Rows.{count_more, filter_no, filter_yes, row-none}
+use Rattle.fol_sections.proofs.Rows.{count_more, filter_no, filter_yes, row-none, row_part}
 use Rattle.fol_sections.proofs.TurnSteps.{fall_none, rise_none}
 
 -- a section of the run has a place in the page
@@ -61,6 +62,22 @@ count_whole p x z (suc n) h =
 -- tests that agree on a row count the same of it
 pub count_like : (p q : SectionPos → Bool) (x z : ℤ) (n : ℕ) → ((i : ℕ) → i < n → p (section_at (x +ℤ pos i) z) ≡ q (section_at (x +ℤ pos i) z)) → count_by p (row_of section_at x z n) ≡ count_by q (row_of section_at x z n)
 count_like p q x z n h = sym (length-filter p (row_of section_at x z n)) ∙ ap length (filter_row p q x z n h) ∙ length-filter q (row_of section_at x z n)
+
+-- a section of a row is none of those before it
+pub row_before : (x z : ℤ) (i : ℕ) → count_by (same_section (section_at (x +ℤ pos i) z)) (row_of section_at x z i) ≡ 0
+row_before x z i = count_none (same_section (section_at (x +ℤ pos i) z)) x z i (λ j l. elim (cases_Bool (same_section (section_at (x +ℤ pos i) z) (section_at (x +ℤ pos j) z))) [
+  | inr e ↦ e
+  | inl e ↦
+      let k : x +ℤ pos i ≡ x +ℤ pos j = ap (λ (s : SectionPos). s.x) (same_section-true (section_at (x +ℤ pos i) z) (section_at (x +ℤ pos j) z) e) in
+      absurd (omega (arith, ints, k))
+])
+
+-- and one of the row
+pub row_has : (x z : ℤ) (n i : ℕ) → i < n → 0 < count_by (same_section (section_at (x +ℤ pos i) z)) (row_of section_at x z n)
+row_has x z n i l =
+    let place : SectionPos = section_at (x +ℤ pos i) z in
+    let own = count_more section_at (same_section place) x z i ∙ ap (λ b. count_by (same_section place) (row_of section_at x z i) + cond b 1 0) (same_section-self place) in
+    omega (arith, own, row_part section_at (same_section place) x z (i + 1) n (omega arith))
 
 -- what is kept of a present section
 pub some_is : (o : Option Counts) → is_some o ≡ true → o ≡ Some (unwrap_or o no_counts)

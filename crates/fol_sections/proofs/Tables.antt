@@ -22,35 +22,35 @@ use Rattle.fol_sections.specs.Kept.{IsKept, is_filled_near, is_held, is_loaded_i
 use Rattle.fol_sections.proofs.Views.{holds-are, presence-is}
 use Rattle.fol_sections.proofs.Margins.{margin-is, count-like}
 
-abbrev pub table : Grid → List ((ℤ × ℤ) × ℕ) → List ((ℤ × ℤ) × Page) → List SectionPos → ℕ → Table
-table grid holds pages filled spare = record { grid = grid; held = held_in holds; present = present_in pages; filled = filled; spare = spare }
+abbrev pub table : Grid → List ((ℤ × ℤ) × ℕ) → List ((ℤ × ℤ) × Page) → List SectionPos → List SectionPos → ℕ → Table
+table grid holds pages filled died spare = record { grid = grid; held = held_in holds; present = present_in pages; filled = filled; died = died; spare = spare }
 
-pub table-holds : (grid : Grid) (holds : List ((ℤ × ℤ) × ℕ)) (pages : List ((ℤ × ℤ) × Page)) (filled : List SectionPos) (spare : ℕ) → holds_of (table grid holds pages filled spare) ≡ count_at holds
+pub table-holds : (grid : Grid) (holds : List ((ℤ × ℤ) × ℕ)) (pages : List ((ℤ × ℤ) × Page)) (filled died : List SectionPos) (spare : ℕ) → holds_of (table grid holds pages filled died spare) ≡ count_at holds
 unfolding holds_of
-table-holds grid holds pages filled spare = holds-are holds
+table-holds grid holds pages filled died spare = holds-are holds
 
-pub table-presence : (grid : Grid) (holds : List ((ℤ × ℤ) × ℕ)) (pages : List ((ℤ × ℤ) × Page)) (filled : List SectionPos) (spare : ℕ) → ((s : SectionPos) → is_here pages s ≡ true → is_section s ≡ true) → presence_of (table grid holds pages filled spare) ≡ is_here pages
+pub table-presence : (grid : Grid) (holds : List ((ℤ × ℤ) × ℕ)) (pages : List ((ℤ × ℤ) × Page)) (filled died : List SectionPos) (spare : ℕ) → ((s : SectionPos) → is_here pages s ≡ true → is_section s ≡ true) → presence_of (table grid holds pages filled died spare) ≡ is_here pages
 unfolding presence_of
-table-presence grid holds pages filled spare limits = presence-is pages limits
+table-presence grid holds pages filled died spare limits = presence-is pages limits
 
-module _ (grid : Grid) (holds : List ((ℤ × ℤ) × ℕ)) (pages : List ((ℤ × ℤ) × Page)) (filled : List SectionPos) (spare : ℕ) where
-  pub table-neighbours : (s : SectionPos) → neighbours_of (table grid holds pages filled spare) s ≡ count_sections (λ q. is_filled_in grid (count_at holds) q && is_within s grid.create q)
+module _ (grid : Grid) (holds : List ((ℤ × ℤ) × ℕ)) (pages : List ((ℤ × ℤ) × Page)) (filled died : List SectionPos) (spare : ℕ) where
+  pub table-neighbours : (s : SectionPos) → neighbours_of (table grid holds pages filled died spare) s ≡ count_sections (λ q. is_filled_in grid (count_at holds) q && is_within s grid.create q)
   unfolding neighbours_of
-  table-neighbours s = ap (λ (f : ChunkPos → ℕ). count_sections (λ q. is_filled_in grid f q && is_within s grid.create q)) (table-holds grid holds pages filled spare)
+  table-neighbours s = ap (λ (f : ChunkPos → ℕ). count_sections (λ q. is_filled_in grid f q && is_within s grid.create q)) (table-holds grid holds pages filled died spare)
 
   -- the words on the loaded chunks of a section, by the holds
-  pub table-loaded : (s : SectionPos) → (is_loaded_chunk_of (table grid holds pages filled spare) s ≡ is_loaded_in grid holds s) × (loaded_count (table grid holds pages filled spare) s ≡ count_by (is_loaded_in grid holds s) all_chunks)
+  pub table-loaded : (s : SectionPos) → (is_loaded_chunk_of (table grid holds pages filled died spare) s ≡ is_loaded_in grid holds s) × (loaded_count (table grid holds pages filled died spare) s ≡ count_by (is_loaded_in grid holds s) all_chunks)
   unfolding is_loaded_chunk_of loaded_count
   table-loaded s =
-      let e : is_loaded_chunk_of (table grid holds pages filled spare) s ≡ is_loaded_in grid holds s =
-      ap (λ (f : ChunkPos → ℕ). λ (c : ChunkPos). nat_lt 0 (f c) && same_section (section_of grid c) s) (table-holds grid holds pages filled spare) in
+      let e : is_loaded_chunk_of (table grid holds pages filled died spare) s ≡ is_loaded_in grid holds s =
+      ap (λ (f : ChunkPos → ℕ). λ (c : ChunkPos). nat_lt 0 (f c) && same_section (section_of grid c) s) (table-holds grid holds pages filled died spare) in
       (e, ap (λ (p : ChunkPos → Bool). count_by p all_chunks) e)
 
-  pub table-margin : (s : SectionPos) → in_margin_of (table grid holds pages filled spare) s ≡ some_chunk (λ c. is_held holds c && is_within (section_of grid c) grid.create s)
+  pub table-margin : (s : SectionPos) → in_margin_of (table grid holds pages filled died spare) s ≡ some_chunk (λ c. is_held holds c && is_within (section_of grid c) grid.create s)
   unfolding in_margin_of
-  table-margin s = ap (λ (f : ChunkPos → ℕ). some_chunk (λ c. nat_lt 0 (f c) && is_within (section_of grid c) grid.create s)) (table-holds grid holds pages filled spare)
+  table-margin s = ap (λ (f : ChunkPos → ℕ). some_chunk (λ c. nat_lt 0 (f c) && is_within (section_of grid c) grid.create s)) (table-holds grid holds pages filled died spare)
 
-  pub table-dead : (count : ℕ) → IsKept grid holds pages count → (s : SectionPos) (n : ℕ) → n ≡ neighbours_of (table grid holds pages filled spare) s → nat_eq n 0 ≡ not (in_margin_of (table grid holds pages filled spare) s)
+  pub table-dead : (count : ℕ) → IsKept grid holds pages count → (s : SectionPos) (n : ℕ) → n ≡ neighbours_of (table grid holds pages filled died spare) s → nat_eq n 0 ≡ not (in_margin_of (table grid holds pages filled died spare) s)
   table-dead count kept s n e =
       let m = e ∙ table-neighbours s in
       ap (λ k. nat_eq k 0) m ∙ zero_test (count_sections (λ q. is_filled_in grid (count_at holds) q && is_within s grid.create q))
@@ -74,12 +74,13 @@ kept_none grid holds pages numbers e f = rw (e, f) (record {
   used = λ x z h. absurd (true≢false (sym h));
 })
 
-pub table_none : (grid : Grid) (holds : List ((ℤ × ℤ) × ℕ)) (pages : List ((ℤ × ℤ) × Page)) (filled : List SectionPos) (spare : ℕ) → holds ≡ [] → pages ≡ [] → filled ≡ [] → IsEmpty (table grid holds pages filled spare)
+pub table_none : (grid : Grid) (holds : List ((ℤ × ℤ) × ℕ)) (pages : List ((ℤ × ℤ) × Page)) (filled died : List SectionPos) (spare : ℕ) → holds ≡ [] → pages ≡ [] → filled ≡ [] → died ≡ [] → IsEmpty (table grid holds pages filled died spare)
 unfolding count_at number_at is_here counts_at page_at
-table_none grid holds pages filled spare e f g = record {
-  holds = table-holds grid holds pages filled spare ∙ fun_ext (λ c. ap (λ xs. count_at xs c) e);
-  presence = table-presence grid holds pages filled spare (rw f (λ s h. absurd (true≢false (sym h)))) ∙ fun_ext (λ s. ap (λ xs. is_here xs s) f);
+table_none grid holds pages filled died spare e f g h = record {
+  holds = table-holds grid holds pages filled died spare ∙ fun_ext (λ c. ap (λ xs. count_at xs c) e);
+  presence = table-presence grid holds pages filled died spare (rw f (λ s h. absurd (true≢false (sym h)))) ∙ fun_ext (λ s. ap (λ xs. is_here xs s) f);
   filled = g;
+  died = h;
 }
 
 -- ---- the same numbers in other tables
@@ -124,9 +125,9 @@ module _ (grid : Grid) (holds holds' : List ((ℤ × ℤ) × ℕ)) (pages pages'
     used = λ x z h. let w = kept.used x z (sym (pages_there x z) ∙ h) in (w.0, w.1, w.2, here w.0 ∙ w.3);
   }
 
-  pub table_same : (count : ℕ) → IsKept grid holds pages count → (filled filled' : List SectionPos) (spare spare' : ℕ) → IsSame (table grid holds pages filled spare) (table grid holds' pages' filled' spare')
-  table_same count kept filled filled' spare spare' = record {
+  pub table_same : (count : ℕ) → IsKept grid holds pages count → (filled filled' died died' : List SectionPos) (spare spare' : ℕ) → IsSame (table grid holds pages filled died spare) (table grid holds' pages' filled' died' spare')
+  table_same count kept filled filled' died died' spare spare' = record {
     grid = refl;
-    holds = table-holds grid holds' pages' filled' spare' ∙ fun_ext counts ∙ sym (table-holds grid holds pages filled spare);
-    presence = table-presence grid holds' pages' filled' spare' (λ s h. kept.section_limits s (sym (here s) ∙ h)) ∙ fun_ext here ∙ sym (table-presence grid holds pages filled spare kept.section_limits);
+    holds = table-holds grid holds' pages' filled' died' spare' ∙ fun_ext counts ∙ sym (table-holds grid holds pages filled died spare);
+    presence = table-presence grid holds' pages' filled' died' spare' (λ s h. kept.section_limits s (sym (here s) ∙ h)) ∙ fun_ext here ∙ sym (table-presence grid holds pages filled died spare kept.section_limits);
   }

@@ -55,8 +55,9 @@ pub record IsKept (grid : Grid) (holds : List ((ℤ × ℤ) × ℕ)) (pages : Li
   pub used : AllUsed pages
 
 -- there is room for that many holds more
-pub record HasRoom (spare in_holds in_pages in_filled : ℕ) : Type 0 where
+pub record HasRoom (spare in_holds in_pages in_filled in_died : ℕ) : Type 0 where
   pub holds : spare ≤ in_holds
   pub pages : 34 * spare ≤ in_pages
   pub filled : 289 ≤ in_filled
+  pub died : 289 ≤ in_died
   pub fits : spare ≤ 4294967295

@@ -4,6 +4,5 @@ pub mod Kept
 pub mod Rows
 pub mod Pages
 pub mod Turns
-pub mod Wanted
 pub mod Packed
 pub mod SquareRuns

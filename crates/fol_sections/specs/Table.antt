@@ -26,6 +26,8 @@ pub record Table : Type 0 where
   pub present : List SectionPos
   -- the sections that the last `add` made, in order
   pub filled : List SectionPos
+  -- the sections that the last `remove` left dead, in order; none where an `add` came since
+  pub died : List SectionPos
   -- how often `add` may be called before `reserve`
   pub spare : ℕ
 
@@ -104,3 +106,4 @@ pub record IsEmpty (t : Table) : Type 0 where
   pub holds : holds_of t ≡ (λ c. 0)
   pub presence : presence_of t ≡ (λ s. false)
   pub filled : t.filled ≡ []
+  pub died : t.died ≡ []

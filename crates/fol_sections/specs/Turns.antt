@@ -1,5 +1,5 @@
 -- What the turn of a section, from empty to filled or back, does to the numbers around it.
-use Rattle.std.specs.Prelude.{ℕ, ◌+◌, ◌-◌}
+use Rattle.std.specs.Prelude.{ℕ, ◌+◌, ◌-◌, Bool, nat_eq}
 use Rattle.fol_sections.specs.declared.pages.Counts.{Counts}
 use Rattle.fol_sections.specs.declared.turns.Turn.{Turn}
 use Rattle.fol_sections.specs.declared.turns.Turn.TheVariants.{Filled, Emptied}
@@ -17,3 +17,7 @@ fall Emptied k = k
 -- what is kept of a section after a turn near it
 abbrev pub turned : Turn → Counts → Counts
 turned turn counts = record { loaded = counts.loaded; near = counts.near + rise turn 1 - fall turn 1 }
+
+-- the turn leaves nothing of a number of sections
+abbrev pub leaves_none : Turn → ℕ → Bool
+leaves_none turn n = nat_eq (n + rise turn 1 - fall turn 1) 0

@@ -10,7 +10,6 @@ ghost use Rattle.fol_sections.specs.Pages.{chunks_at, counts_on, is_here};
 ghost use Rattle.fol_sections.specs.Rows.{row_of, section_at};
 
 use crate::pages::{Page, Pages, loaded};
-use crate::squares::Wanted;
 use crate::walks::SquareRuns;
 use fol_model::SectionPos;
 use fol_pages::{page_of, place_of};
@@ -25,7 +24,7 @@ fn count_on(page: &Page, s: SectionPos, len: u32) -> u32
     let place = place_of(s);
     let mut count = 0;
     for i in 0..len {
-        if page.is_wanted(place + i as usize, Wanted::Missing) {
+        if page.is_absent(place + i as usize) {
             count += 1;
         }
     }

@@ -4,10 +4,8 @@ ghost use Rattle.std.specs.Prelude.{◌≡◌, ◌+◌, ◌<◌, ◌≤◌, ◌^
 ghost use Rattle.std.specs.Option.{unwrap_or};
 ghost use Rattle.fol_sections.specs.Pages.{no_counts};
 ghost use Rattle.fol_sections.specs.Turns.{fall, rise, turned};
-ghost use Rattle.fol_sections.specs.Wanted.{is_wanted};
 
 use crate::pages::Counts;
-use crate::squares::Wanted;
 use crate::turns::{Turn, turned};
 use std::marker::Model;
 
@@ -89,24 +87,16 @@ impl PackedCounts {
         self.near
     }
 
-    /// Whether the section is looked for.
-    pub fn is_wanted(&self, wanted: Wanted) -> bool
-        ensures { result ≡ is_wanted wanted self.now }
-    {
-        match wanted {
-            Wanted::Missing => self.is_absent(),
-            Wanted::Dead => self.near == 0 && !self.is_absent(),
-        }
-    }
-
-    /// Counts a turn near the section, which is present.
-    pub fn turn(&mut self, turn: Turn)
+    /// Counts a turn near the section, which is present, and gives the number after.
+    pub fn turn(&mut self, turn: Turn) -> u16
         requires here { IsTrue (is_some self.old) }
         requires low { fall turn 1 ≤ (unwrap_or self.old no_counts).near }
         requires few { (unwrap_or self.old no_counts).near + 1 < 2 ^ 16 }
-        ensures { self.new ≡ Some (turned turn (unwrap_or self.old no_counts)) }
+        ensures after { result ≡ (turned turn (unwrap_or self.old no_counts)).near }
+        ensures turned { self.new ≡ Some (turned turn (unwrap_or self.old no_counts)) }
     {
         self.near = turned(self.near, turn);
+        self.near
     }
 
     /// Changes the number of loaded chunks of the section, which is present, by one, and gives the number after.

@@ -9,10 +9,8 @@ ghost use Rattle.fol_model.specs.Geometry.{is_among, same_section};
 ghost use Rattle.fol_sections.specs.Pages.{AllUsed, HasSection, IsOnPage, counts_at, has_page, is_here, chunks_at, chunks_on, counts_on, near_at, near_on, no_counts, page_of as page};
 ghost use Rattle.fol_sections.specs.Places.{is_same};
 ghost use Rattle.fol_sections.specs.Turns.{fall, rise, turned};
-ghost use Rattle.fol_sections.specs.Wanted.{is_wanted};
 
 use crate::packed::PackedCounts;
-use crate::squares::Wanted;
 use crate::turns::Turn;
 use fol_model::SectionPos;
 use fol_pages::{page_of, place_of};
@@ -52,29 +50,31 @@ impl Page {
         self.sections[place].near()
     }
 
-    /// Whether the section at a place is looked for.
-    pub fn is_wanted(&self, place: usize, wanted: Wanted) -> bool
+    /// Whether the section at a place is not present.
+    pub fn is_absent(&self, place: usize) -> bool
         requires { place < 32 }
-        ensures { result ≡ is_wanted wanted (slice_index_or self.now.sections place None) }
+        ensures { result ≡ not (is_some (slice_index_or self.now.sections place None)) }
     {
-        self.sections[place].is_wanted(wanted)
+        self.sections[place].is_absent()
     }
 
-    /// Counts a turn near the section at a place, which is present.
-    pub fn turn(&mut self, place: usize, turn: Turn)
+    /// Counts a turn near the section at a place, which is present, and gives the number after.
+    pub fn turn(&mut self, place: usize, turn: Turn) -> u16
         requires place { place < 32 }
         requires here { IsTrue (is_some (slice_index_or self.old.sections place None)) }
         requires low { fall turn 1
             ≤ (unwrap_or (slice_index_or self.old.sections place None) no_counts).near }
         requires few { (unwrap_or (slice_index_or self.old.sections place None) no_counts).near + 1
             < 2 ^ 16 }
+        ensures after { result
+            ≡ (turned turn (unwrap_or (slice_index_or self.old.sections place None) no_counts)).near }
         ensures turned { self.new ≡ record {
           sections = slice_set self.old.sections place
               (Some (turned turn (unwrap_or (slice_index_or self.old.sections place None) no_counts)));
         } }
         ensures whole { length self.old.sections ≡ 32 }
     {
-        self.sections[place].turn(turn);
+        self.sections[place].turn(turn)
     }
 
     /// Changes the number of loaded chunks of the section at a place, which is present, by one, and gives the number after.

@@ -1,6 +1,6 @@
 //! A table of holds and present sections.
 
-ghost use Rattle.std.specs.Prelude.{◌≡◌, ℤ, ◌+◌, ◌-◌, ◌*◌, ◌<◌, ◌≤◌, ◌^◌, not, ◌&&◌, ◌||◌, false, None, IsTrue, IfOk, OnOk, true, [], ◌++◌, length, nat_eq, nat_lt, cond, Some, nat_abs, sum_by, flat_map, if◌then◌else◌};
+ghost use Rattle.std.specs.Prelude.{◌≡◌, ◌≢◌, ℤ, ◌+◌, ◌-◌, ◌*◌, ◌<◌, ◌≤◌, ◌^◌, not, ◌&&◌, ◌||◌, false, None, IsTrue, IfOk, OnOk, true, [], ◌++◌, length, nat_eq, nat_lt, cond, Some, nat_abs, sum_by, flat_map, if◌then◌else◌};
 ghost use Rattle.std.specs.List.{All, IsDistinct, count_by, filter};
 ghost use Rattle.std.specs.Vec.{vec_capacity};
 ghost use Rattle.std.specs.HashMap.{spare as room_of};
@@ -9,15 +9,16 @@ ghost use Rattle.fol_model.specs.declared.places.SectionPos.{SectionPos};
 ghost use Rattle.fol_sections.specs.Places.{count_at};
 ghost use Rattle.fol_sections.specs.Pages.{AllUsed, InNear, chunks_at, counts_at, is_here, near_at, no_counts};
 ghost use Rattle.fol_sections.specs.Turns.{fall, rise};
-ghost use Rattle.fol_model.specs.Geometry.{is_chunk, is_within, same_section, is_among};
+ghost use Rattle.fol_model.specs.Geometry.{is_chunk, is_within, same_section, section_of as home_of, is_among};
 ghost use Rattle.fol_model.specs.GridState.{at_chunk};
+ghost use Rattle.fol_model.specs.Universe.{square};
 
 use crate::drops::drop_list;
 use crate::listings::list_all;
 use crate::missing::count_missing;
 use crate::pages::{self, Pages, is_present, loaded, near, put_stretch};
 use crate::places::{self, Numbers, number};
-use crate::squares::{Wanted, find_missing, find_square};
+use crate::squares::find_missing;
 use crate::stretches::{count_list, split_list};
 use crate::turns::{Turn, turn_square};
 use crate::{Added, Removed};
@@ -44,6 +45,8 @@ pub struct Sections {
     count: u32,
     /// What the last `add` made.
     filled: Vec<SectionPos>,
+    /// What the last `remove` left dead.
+    died: Vec<SectionPos>,
     /// How many calls of `add` there is memory for.
     spare: u32,
 }
@@ -57,16 +60,16 @@ impl Model for Sections {
     ghost use Rattle.std.specs.Vec.{vec_capacity};
     ghost use Rattle.fol_sections.specs.Kept.{held_in, present_in, IsKept, HasRoom};
 
-    ghost view = { λ s. record { grid = s.grid; held = held_in s.holds.entries; present = present_in s.pages.entries; filled = s.filled.items; spare = s.spare } };
+    ghost view = { λ s. record { grid = s.grid; held = held_in s.holds.entries; present = present_in s.pages.entries; filled = s.filled.items; died = s.died.items; spare = s.spare } };
 
-    ghost invariant = { λ s. IsKept s.grid s.holds.entries s.pages.entries s.count × HasRoom s.spare (room_of s.holds) (room_of s.pages) (vec_capacity s.filled) };
+    ghost invariant = { λ s. IsKept s.grid s.holds.entries s.pages.entries s.count × HasRoom s.spare (room_of s.holds) (room_of s.pages) (vec_capacity s.filled) (vec_capacity s.died) };
 }
 
 impl Sections {
-    ghost use Rattle.fol_model.specs.Universe.{all_chunks, square};
+    ghost use Rattle.fol_model.specs.Universe.{all_chunks};
     ghost use Rattle.fol_sections.specs.Table.{Table, holds_of, presence_of, neighbours_of, in_margin_of, present_count, is_full_for, is_loaded_chunk_of, loaded_count, missing_count, added, removed, Adds, IsSame, IsEmpty, is_missing};
 
-    /// Nothing is held and no section is present. Takes the memory for 16,384 present sections.
+    /// Nothing is held and no section is present. The memory for pages comes with `reserve`.
     pub fn new(alloc: Global, grid: Grid) -> Result<Sections, AllocError>
         ensures grid { IfOk result (λ t. t.grid ≡ grid) }
         ensures empty { IfOk result IsEmpty }
@@ -75,9 +78,10 @@ impl Sections {
         Ok(Sections {
             grid,
             holds: HashMap::new(alloc),
-            pages: HashMap::with_capacity(alloc, MOST_SECTIONS + NEAR_PAGES)?,
+            pages: HashMap::new(alloc),
             count: 0,
             filled: Vec::with_capacity(alloc, AREA)?,
+            died: Vec::with_capacity(alloc, AREA)?,
             spare: 0,
         })
     }
@@ -94,6 +98,16 @@ impl Sections {
         ensures { result.now ≡ self.now.filled }
     {
         self.filled.as_slice()
+    }
+
+    /// The sections that the last call of `remove` left dead, by `(z, x)`: present ones, near which it took the last section with a
+    /// loaded chunk. None where it left a loaded chunk in the section of its chunk, or where an `add` came since.
+    ///
+    /// A section is dead where it is within the create radius of no section that holds a loaded chunk.
+    pub fn died(&self) -> &[SectionPos]
+        ensures { result.now ≡ self.now.died }
+    {
+        self.died.as_slice()
     }
 
     /// How many holds a chunk has.
@@ -148,23 +162,6 @@ impl Sections {
         split_list(&self.pages, list, living, dead);
     }
 
-    /// Finds the present sections within a radius of a section that are dead, for an empty list with room for 289 of them. Takes no
-    /// memory.
-    ///
-    /// A section is dead where it is within the create radius of no section that holds a loaded chunk.
-    pub fn find_dead(&self, s: SectionPos, radius: u8, dead: &mut Vec<SectionPos>)
-        requires near { (nat_abs s.x ≤ 1000008) × (nat_abs s.z ≤ 1000008) }
-        requires few { radius ≤ 8 }
-        requires none { dead.old.items ≡ [] }
-        requires room { 289 ≤ vec_capacity dead.old }
-        ensures dead { dead.new.items
-            ≡ filter (λ q. presence_of self.now q && not (in_margin_of self.now q))
-            (square s radius) }
-        ensures room { vec_capacity dead.old ≤ vec_capacity dead.new }
-    {
-        find_square(&self.pages, dead, s, radius, Wanted::Dead);
-    }
-
     /// How many loaded chunks a section has, at most 1,024; 0 for one that is not present.
     pub fn loaded_in(&self, s: SectionPos) -> u64
         ensures value { result ≡ loaded_count self.now s }
@@ -199,6 +196,7 @@ impl Sections {
         ensures ok { OnOk result (n ≤ self.new.spare) }
         ensures same { IsSame self.old self.new }
         ensures filled { self.new.filled ≡ self.old.filled }
+        ensures died { self.new.died ≡ self.old.died }
         ensures spare { self.old.spare ≤ self.new.spare }
     {
         if n > self.spare {
@@ -224,9 +222,11 @@ impl Sections {
         ensures full { IsTrue (is_full_for self.old c) → IsSame self.old self.new
             × (self.new.filled ≡ []) × (self.new.spare ≡ self.old.spare) }
         ensures room { is_full_for self.old c ≡ false → Adds self.old self.new c }
+        ensures died { self.new.died ≡ [] }
         ensures grid { self.new.grid ≡ self.old.grid }
     {
         self.filled.clear();
+        self.died.clear();
         if hold_again(&mut self.holds, c) {
             self.spare -= 1;
             return Added::Counted;
@@ -243,6 +243,7 @@ impl Sections {
         take_hold(
             &mut self.holds,
             &mut self.pages,
+            &mut self.died,
             &self.filled,
             home,
             radius,
@@ -269,19 +270,29 @@ impl Sections {
         wanted > 0 && self.count + wanted <= MOST_SECTIONS as u32
     }
 
-    /// Removes a hold on a chunk. No section changes. Takes no memory.
+    /// Removes a hold on a chunk. No section changes; what is dead since is in `died`. Takes no memory.
     pub fn remove(&mut self, c: ChunkPos) -> Removed
         ensures answer { result ≡ removed self.old c }
         ensures holds { holds_of self.new
             ≡ at_chunk (holds_of self.old) c (holds_of self.old c - 1) }
         ensures presence { presence_of self.new ≡ presence_of self.old }
+        ensures died { result ≡ Removed.Gone → self.new.died
+            ≡ filter (λ q. presence_of self.new q && not (in_margin_of self.new q))
+            (square (home_of self.old.grid c) self.old.grid.create) }
+        ensures none_died { result ≢ Removed.Gone → self.new.died ≡ [] }
         ensures stays { (self.new.grid ≡ self.old.grid) × (self.new.filled ≡ self.old.filled)
             × (self.new.spare ≡ self.old.spare) }
     {
+        self.died.clear();
         let count = drop_hold(&mut self.holds, c);
         if count == 1 {
             let home = section_of(&self.grid, c);
-            drop_chunk(&mut self.pages, home, create_radius(&self.grid));
+            drop_chunk(
+                &mut self.pages,
+                &mut self.died,
+                home,
+                create_radius(&self.grid),
+            );
         }
         answer_for(count)
     }
@@ -299,7 +310,7 @@ impl Sections {
             && not (is_among list.old.items s && not (in_margin_of self.old s))) }
         ensures holds { holds_of self.new ≡ holds_of self.old }
         ensures stays { (self.new.grid ≡ self.old.grid) × (self.new.filled ≡ self.old.filled)
-            × (self.new.spare ≡ self.old.spare) }
+            × (self.new.died ≡ self.old.died) × (self.new.spare ≡ self.old.spare) }
     {
         let dropped = drop_list(&mut self.pages, list);
         self.count -= dropped as u32;
@@ -310,23 +321,35 @@ impl Sections {
     pub fn copy(&self, alloc: Global) -> Result<Sections, AllocError>
         ensures same { IfOk result (IsSame self.now) }
         ensures filled { IfOk result (λ t. t.filled ≡ self.now.filled) }
+        ensures died { IfOk result (λ t. t.died ≡ self.now.died) }
         ensures spare { IfOk result (λ t. self.now.spare ≤ t.spare) }
     {
         let mut holds = self.holds.clone()?;
         holds.reserve(self.spare as usize)?;
         let mut pages = self.pages.clone()?;
         pages.reserve(self.spare as usize * NEAR_PAGES)?;
-        let mut filled = Vec::with_capacity(alloc, AREA)?;
-        filled.extend_from_slice(&self.filled)?;
+        let filled = with_area(alloc, &self.filled)?;
+        let died = with_area(alloc, &self.died)?;
         Ok(Sections {
             grid: self.grid,
             holds,
             pages,
             count: self.count,
             filled,
+            died,
             spare: self.spare,
         })
     }
+}
+
+/// A copy of a list of sections, with room for all within a create radius.
+fn with_area(alloc: Global, list: &[SectionPos]) -> Result<Vec<SectionPos>, AllocError>
+    ensures items { IfOk result (λ v. v.items ≡ list.now) }
+    ensures room { IfOk result (λ v. 289 ≤ vec_capacity v) }
+{
+    let mut copy = Vec::with_capacity(alloc, AREA)?;
+    copy.extend_from_slice(list)?;
+    Ok(copy)
 }
 
 /// Keeps those sections of a list that are present, where so many of them are not. If none is, no page is looked up.
@@ -361,6 +384,7 @@ fn answer_for(count: u64) -> Removed
 fn take_hold(
     holds: &mut Numbers,
     pages: &mut Pages,
+    died: &mut Vec<SectionPos>,
     missing: &[SectionPos],
     home: SectionPos,
     radius: u8,
@@ -377,6 +401,8 @@ fn take_hold(
         → IsTrue (is_here pages.old.entries s || is_among missing.now s) }
     requires chunks_high { chunks_at pages.old.entries home ≤ 1024 }
     requires near_high { (s : SectionPos) → near_at pages.old.entries s ≤ 289 }
+    requires none { died.old.items ≡ [] }
+    requires space { 289 ≤ vec_capacity died.old }
     ensures counts { (q : ChunkPos) → count_at holds.new.entries q
         ≡ at_chunk (count_at holds.old.entries) c 1 q }
     ensures here { (s : SectionPos) → is_here pages.new.entries s
@@ -389,10 +415,12 @@ fn take_hold(
     ensures rooms { (room_of holds.old ≤ room_of holds.new + 1)
         × (room_of pages.old ≤ room_of pages.new + 34) }
     ensures used { AllUsed pages.old.entries → AllUsed pages.new.entries }
+    ensures died { died.new.items ≡ [] }
+    ensures space { vec_capacity died.old ≤ vec_capacity died.new }
 {
     fill(pages, missing);
     hold_first(holds, c);
-    add_chunk(pages, home, radius);
+    add_chunk(pages, died, home, radius);
 }
 
 /// How far the margin reaches round a loaded chunk's section.
@@ -484,14 +512,16 @@ fn count_chunk(pages: &mut Pages, home: SectionPos, turn: Turn) -> u16
     pages::count(pages, home, turn)
 }
 
-/// Counts a loaded chunk more of a section round which all are present.
-fn add_chunk(pages: &mut Pages, home: SectionPos, radius: u8)
+/// Counts a loaded chunk more of a section round which all are present. None of them is dead since.
+fn add_chunk(pages: &mut Pages, died: &mut Vec<SectionPos>, home: SectionPos, radius: u8)
     requires near { (nat_abs home.x ≤ 1000008) × (nat_abs home.z ≤ 1000008) }
     requires few { radius ≤ 8 }
     requires here { (s : SectionPos) → IsTrue (is_within home radius s)
         → IsTrue (is_here pages.old.entries s) }
     requires chunks_high { chunks_at pages.old.entries home ≤ 1024 }
     requires near_high { (s : SectionPos) → near_at pages.old.entries s ≤ 289 }
+    requires none { died.old.items ≡ [] }
+    requires space { 289 ≤ vec_capacity died.old }
     ensures chunks { (s : SectionPos) → chunks_at pages.new.entries s
         ≡ cond (same_section home s) 1 0 + chunks_at pages.old.entries s }
     ensures near { (s : SectionPos) → near_at pages.new.entries s
@@ -500,14 +530,16 @@ fn add_chunk(pages: &mut Pages, home: SectionPos, radius: u8)
     ensures here { (s : SectionPos) → is_here pages.new.entries s ≡ is_here pages.old.entries s }
     ensures room { room_of pages.new ≡ room_of pages.old }
     ensures used { AllUsed pages.old.entries → AllUsed pages.new.entries }
+    ensures died { died.new.items ≡ [] }
+    ensures space { vec_capacity died.old ≤ vec_capacity died.new }
 {
     if count_chunk(pages, home, Turn::Filled) == 1 {
-        turn_square(pages, home, radius, Turn::Filled);
+        turn_square(pages, died, home, radius, Turn::Filled);
     }
 }
 
-/// Counts a loaded chunk less of a section that has one, and round which all are present.
-fn drop_chunk(pages: &mut Pages, home: SectionPos, radius: u8)
+/// Counts a loaded chunk less of a section that has one, and round which all are present, and finds those of them that are dead since.
+fn drop_chunk(pages: &mut Pages, died: &mut Vec<SectionPos>, home: SectionPos, radius: u8)
     requires near { (nat_abs home.x ≤ 1000008) × (nat_abs home.z ≤ 1000008) }
     requires few { radius ≤ 8 }
     requires here { (s : SectionPos) → IsTrue (is_within home radius s)
@@ -517,6 +549,8 @@ fn drop_chunk(pages: &mut Pages, home: SectionPos, radius: u8)
     requires near_low { (s : SectionPos)
         → cond (is_within home radius s) 1 0 ≤ near_at pages.old.entries s }
     requires near_high { (s : SectionPos) → near_at pages.old.entries s ≤ 289 }
+    requires none { died.old.items ≡ [] }
+    requires space { 289 ≤ vec_capacity died.old }
     ensures chunks { (s : SectionPos) → chunks_at pages.old.entries s
         ≡ cond (same_section home s) 1 0 + chunks_at pages.new.entries s }
     ensures near { (s : SectionPos) → near_at pages.old.entries s
@@ -525,8 +559,11 @@ fn drop_chunk(pages: &mut Pages, home: SectionPos, radius: u8)
     ensures here { (s : SectionPos) → is_here pages.new.entries s ≡ is_here pages.old.entries s }
     ensures room { room_of pages.new ≡ room_of pages.old }
     ensures used { AllUsed pages.old.entries → AllUsed pages.new.entries }
+    ensures died { died.new.items ≡ filter (λ q. nat_eq (near_at pages.new.entries q) 0)
+        (square home radius) }
+    ensures space { vec_capacity died.old ≤ vec_capacity died.new }
 {
     if count_chunk(pages, home, Turn::Emptied) == 0 {
-        turn_square(pages, home, radius, Turn::Emptied);
+        turn_square(pages, died, home, radius, Turn::Emptied);
     }
 }

@@ -1,14 +1,14 @@
-use Rattle.std.proofs.Common.{◌≡◌, ◌+◌, ◌≤◌, ◌++◌, length}
+use Rattle.std.proofs.Common.{◌≡◌, ◌+◌, ◌≤◌, ◌++◌, not, length}
+use Rattle.std.specs.Prelude.{is_some}
 use Rattle.std.specs.List.{filter}
 use Rattle.std.specs.Vec.{vec_capacity}
 use Rattle.fol_sections.specs.Pages.{counts_on}
 use Rattle.fol_sections.specs.Rows.{row_of, section_at}
-use Rattle.fol_sections.specs.Wanted.{is_wanted}
 use Rattle.fol_sections.proofs.runs.find_on.Given as goal
 
 abbrev pub invariant-loop-i : goal.invariant-loop-i
 invariant-loop-i l = record {
-  found : l.found.items ≡ l.initial.found.items ++ filter (λ q. is_wanted l.wanted (counts_on l.page q)) (row_of section_at l.s.x l.s.z l.i);
-  few : length l.found.items ≤ length l.initial.found.items + l.i;
-  room : vec_capacity l.initial.found ≤ vec_capacity l.found;
+  found : l.missing.items ≡ l.initial.missing.items ++ filter (λ q. not (is_some (counts_on l.page q))) (row_of section_at l.s.x l.s.z l.i);
+  few : length l.missing.items ≤ length l.initial.missing.items + l.i;
+  room : vec_capacity l.initial.missing ≤ vec_capacity l.missing;
 }

@@ -1,8 +1,9 @@
-use Rattle.std.proofs.Common.{◌≡◌, ℕ, ◌+◌, ◌<◌, ◌≤◌, ◌^◌, true, refl, sym, ◌∙◌, ap, arith, cond, length}
-use Rattle.std.specs.Prelude.{None, Some, is_some, nat_abs, pos, slice_index_or, ◌+ℤ◌}
+use Rattle.std.proofs.Common.{◌≡◌, ℕ, ◌+◌, ◌-◌, ◌<◌, ◌≤◌, ◌^◌, Bool, true, false, refl, sym, ◌∙◌, ap, arith, cond, ◌∷◌, [], ◌++◌, append_assoc, length, length-append}
+use Rattle.std.specs.Prelude.{None, Some, is_some, nat_abs, nat_eq, pos, slice_index_or, slice_set, ◌+ℤ◌}
 use Rattle.std.specs.Int.{int_rem_euclid}
-use Rattle.std.specs.List.{count_by}
+use Rattle.std.specs.List.{count_by, filter}
 use Rattle.std.specs.Option.{unwrap_or}
+use Rattle.std.proofs.lemmas.Bool.{eq-eqb, ne_eqb}
 use Rattle.fol_model.specs.declared.places.SectionPos.{SectionPos}
 use Rattle.fol_model.specs.Geometry.{same_section}
 use Rattle.fol_laws.proofs.SamePlaces.{same_section-self}
@@ -10,13 +11,14 @@ use Rattle.fol_pages.proofs.PageRuns.{run_page, run_place}
 use Rattle.fol_sections.specs.Pages.{IsOnPage, KeepsOthers, counts_on, near_on, no_counts, place_of}
 use Rattle.fol_sections.specs.declared.pages.Counts.{Counts}
 use Rattle.fol_sections.specs.Rows.{row_of, section_at}
-use Rattle.fol_sections.specs.Turns.{fall, rise, turned}
+use Rattle.fol_sections.specs.Turns.{fall, leaves_none, rise, turned}
 use Rattle.fol_sections.specs.declared.pages.Page.{Page}
 use Rattle.fol_sections.specs.declared.turns.Turn.{Turn}
-use Rattle.fol_sections.proofs.PageRuns.{keeps_self, keeps_then, run_few, some_is, step_keeps, step_turns}
-use Rattle.fol_sections.proofs.Rows.{count_more, row-none, row_part}
+use Rattle.fol_sections.proofs.PageRuns.{keeps_self, keeps_then, row_before, run_few, some_is, step_keeps, step_turns}
+use Rattle.fol_sections.proofs.Rows.{append-none, count_more, filter_no, filter_yes, row-none, row_part}
 use Rattle.fol_sections.proofs.TurnSteps.{fall_more, fall_none, fall_rises, rise_few, rise_more, rise_none, turned_by}
 use Rattle.fol_sections.proofs.runs.turn_on.Goals as goal
+use Rattle.fol_sections.proofs.runs.turn_on.Goals.{then-turn-eq0, else-turn-eq0}
 
 -- the sections so far hold the next one once more, and the whole run holds all of them
 next_place : (s : SectionPos) (i n : ℕ) → i < n
@@ -32,6 +34,9 @@ pub loop-i-init : goal.loop-i-init
 loop-i-init c = record {
   near = λ q on. rw (row-none section_at c.args.s.x c.args.s.z) (omega (arith, rise_none c.args.turn, fall_none c.args.turn));
   kept = keeps_self c.args.page.now;
+  died = sym (ap (λ xs. c.args.died.now.items ++ filter (λ q. leaves_none c.args.turn (near_on c.args.page.now q)) xs) (row-none section_at c.args.s.x c.args.s.z) ∙ append-none c.args.died.now.items);
+  few = omega arith;
+  space = omega arith;
 }
 
 -- the section that is next is present, and its number may turn
@@ -52,6 +57,13 @@ needs_next first page s len i turn run l kept near here low high =
       omega (arith, near place on, low place on, fall_rises turn (so_far + 1) all most, fall_more turn so_far 1),
       omega (arith, near place on, high place on, most, rise_few turn so_far),
     )
+
+-- the numbers of the section that is next are still as at first
+untouched : (first page : Page) (s : SectionPos) (i : ℕ) (turn : Turn)
+    → near_on page (section_at (s.x +ℤ pos i) s.z) + fall turn (count_by (same_section (section_at (s.x +ℤ pos i) s.z)) (row_of section_at s.x s.z i))
+    ≡ near_on first (section_at (s.x +ℤ pos i) s.z) + rise turn (count_by (same_section (section_at (s.x +ℤ pos i) s.z)) (row_of section_at s.x s.z i))
+    → near_on page (section_at (s.x +ℤ pos i) s.z) ≡ near_on first (section_at (s.x +ℤ pos i) s.z)
+untouched first page s i turn near = let now = rw (row_before s.x s.z i) at near in omega (arith, now, rise_none turn, fall_none turn)
 
 pub turn-requires : goal.turn-requires
 turn-requires c =
@@ -82,10 +94,40 @@ loop-i-preserved c =
     let whole : 32 ≤ length c.loop-i.page.sections = omega (arith, c.turn.ensures.whole) in
     let turns = step_turns c.loop-i.page whole c.args.s place on (c.place_of-place.result + c.loop-i.i) same was (turned c.args.turn was) had c.args.turn (turned_by c.args.turn was (omega (arith, near, needs.1))) in
     let keeps = step_keeps c.loop-i.page whole c.args.s place on (c.place_of-place.result + c.loop-i.i) same was (turned c.args.turn was) had refl in
-    rw c.turn.ensures.turned (record {
-      near = λ q here.
-          let so_far : ℕ = count_by (same_section q) (row_of section_at c.args.s.x c.args.s.z c.loop-i.i) in
-          let one : ℕ = cond (same_section q place) 1 0 in
-          rw (count_more section_at (same_section q) c.args.s.x c.args.s.z c.loop-i.i) (omega (arith, turns q here, c.loop-i.invariant.near q here, rise_more c.args.turn so_far one, fall_more c.args.turn so_far one));
-      kept = keeps_then c.args.page.now c.loop-i.page _ c.loop-i.invariant.kept keeps;
-    })
+    let after : Page = record { sections = slice_set c.loop-i.page.sections (c.place_of-place.result + c.loop-i.i) (Some (turned c.args.turn was)) } in
+    let near_more : (q : SectionPos) → IsOnPage c.args.s q → near_on after q + fall c.args.turn (count_by (same_section q) (row_of section_at c.args.s.x c.args.s.z (c.loop-i.i + 1)))
+    ≡ near_on c.args.page.now q + rise c.args.turn (count_by (same_section q) (row_of section_at c.args.s.x c.args.s.z (c.loop-i.i + 1)))
+    = λ q here.
+    let so_far : ℕ = count_by (same_section q) (row_of section_at c.args.s.x c.args.s.z c.loop-i.i) in
+    let one : ℕ = cond (same_section q place) 1 0 in
+    rw (count_more section_at (same_section q) c.args.s.x c.args.s.z c.loop-i.i) (omega (arith, turns q here, c.loop-i.invariant.near q here, rise_more c.args.turn so_far one, fall_more c.args.turn so_far one)) in
+    let kept : KeepsOthers c.args.page.now after = keeps_then c.args.page.now c.loop-i.page _ c.loop-i.invariant.kept keeps in
+    let test : SectionPos → Bool = λ q. leaves_none c.args.turn (near_on c.args.page.now q) in
+    let first : near_on c.loop-i.page place ≡ near_on c.args.page.now place = untouched c.args.page.now c.loop-i.page c.args.s c.loop-i.i c.args.turn (c.loop-i.invariant.near place on) in
+    let left : c.turn.result ≡ near_on c.args.page.now place + rise c.args.turn 1 - fall c.args.turn 1 = c.turn.ensures.after ∙ ap (λ n. n + rise c.args.turn 1 - fall c.args.turn 1) (sym near ∙ first) in
+    elim c.if-turn-eq0.branch [
+      | then-turn-eq0 w ↦
+          let yes : test place ≡ true = ap (λ n. nat_eq n 0) (sym left) ∙ eq-eqb _ _ w.if-turn-eq0.true in
+          let items = rw w.behind.ensures at w.push_reserved.ensures.items in
+          rw (w.died-is, c.turn.ensures.turned) (record {
+            near = near_more;
+            kept = kept;
+            died = items ∙ ap (λ xs. xs ++ place ∷ []) c.loop-i.invariant.died
+                ∙ append_assoc c.args.died.now.items (filter test (row_of section_at c.args.s.x c.args.s.z c.loop-i.i)) (place ∷ [])
+                ∙ ap (λ xs. c.args.died.now.items ++ xs) (sym (filter_yes section_at test c.args.s.x c.args.s.z c.loop-i.i yes));
+            few = omega (arith, ap length items, length-append c.loop-i.died.items (place ∷ []), c.loop-i.invariant.few);
+            space = omega (arith, w.push_reserved.ensures.capacity, c.loop-i.invariant.space);
+          })
+      | else-turn-eq0 w ↦
+          let no : test place ≡ false = ap (λ n. nat_eq n 0) (sym left) ∙ ne_eqb _ _ w.if-turn-eq0.false in
+          rw (w.died-is, c.turn.ensures.turned) (record {
+            near = near_more;
+            kept = kept;
+            died = c.loop-i.invariant.died ∙ ap (λ xs. c.args.died.now.items ++ xs) (sym (filter_no section_at test c.args.s.x c.args.s.z c.loop-i.i no));
+            few = omega (arith, c.loop-i.invariant.few);
+            space = c.loop-i.invariant.space;
+          })
+    ]
+
+pub push_reserved-requires : goal.push_reserved-requires
+push_reserved-requires c = omega (arith, c.loop-i.invariant.few, c.loop-i.invariant.space, c.requires.space, c.loop-i-test.true)

@@ -1,10 +1,11 @@
-use Rattle.std.proofs.Common.{◌≡◌, ◌+◌}
-use Rattle.std.specs.List.{count_by}
+use Rattle.std.proofs.Common.{◌≡◌, ◌+◌, ◌≤◌, ◌++◌, length}
+use Rattle.std.specs.List.{count_by, filter}
+use Rattle.std.specs.Vec.{vec_capacity}
 use Rattle.fol_model.specs.declared.places.SectionPos.{SectionPos}
 use Rattle.fol_model.specs.Geometry.{same_section}
 use Rattle.fol_sections.specs.Pages.{IsOnPage, KeepsOthers, near_on}
 use Rattle.fol_sections.specs.Rows.{row_of, section_at}
-use Rattle.fol_sections.specs.Turns.{fall, rise}
+use Rattle.fol_sections.specs.Turns.{fall, leaves_none, rise}
 use Rattle.fol_sections.proofs.runs.turn_on.Given as goal
 
 abbrev pub invariant-loop-i : goal.invariant-loop-i
@@ -12,4 +13,7 @@ invariant-loop-i l = record {
   near : (q : SectionPos) → IsOnPage l.fn.s q → near_on l.page q + fall l.turn (count_by (same_section q) (row_of section_at l.fn.s.x l.fn.s.z l.i))
       ≡ near_on l.initial.page q + rise l.turn (count_by (same_section q) (row_of section_at l.fn.s.x l.fn.s.z l.i));
   kept : KeepsOthers l.initial.page l.page;
+  died : l.died.items ≡ l.initial.died.items ++ filter (λ q. leaves_none l.turn (near_on l.initial.page q)) (row_of section_at l.fn.s.x l.fn.s.z l.i);
+  few : length l.died.items ≤ length l.initial.died.items + l.i;
+  space : vec_capacity l.initial.died ≤ vec_capacity l.died;
 }

@@ -1,9 +1,14 @@
-use Rattle.std.proofs.Common.{◌≡◌, sym, ◌∙◌, ap, arith, rules}
-use Rattle.std.specs.Prelude.{is_some}
+use Rattle.std.proofs.Common.{◌≡◌, Bool, refl, sym, ◌∙◌, ap, arith, rules, ◌++◌}
+use Rattle.std.specs.Prelude.{is_some, pos, ◌+ℤ◌}
 use Rattle.std.specs.Option.{option_copied_mut}
-use Rattle.fol_sections.specs.Pages.{is_here, page_at}
+use Rattle.fol_model.specs.declared.places.SectionPos.{SectionPos}
+use Rattle.fol_pages.proofs.PageRuns.{run_page}
+use Rattle.fol_sections.specs.Pages.{is_here, near_at, near_on, page_at}
 use Rattle.fol_sections.specs.Places.{is_same}
-use Rattle.fol_sections.proofs.PageRuns.{before_near, before_on, none_run, run_chunks, run_here, run_near, run_on, run_used, same_page}
+use Rattle.fol_sections.specs.Rows.{row_of, section_at}
+use Rattle.fol_sections.specs.Turns.{leaves_none}
+use Rattle.fol_sections.proofs.PageRuns.{before_near, before_on, count_none, filter_row, none_run, row_has, run_chunks, run_here, run_near, run_on, run_used, same_page}
+use Rattle.fol_sections.proofs.Rows.{append-none, filter_none}
 use Rattle.fol_sections.proofs.TurnSteps.{fall_none, rise_none}
 use Rattle.fol_sections.proofs.runs.turn_run.Goals as goal
 
@@ -67,3 +72,22 @@ returns-in-None-clause-near c = λ q.
     let n = none_run c.args.pages.now.entries c.args.s c.args.len c.requires.run none q (c.requires.here q) in
     let same : c.get_mut.follows.lender-at-none.entries ≡ c.args.pages.now.entries = search rules in
     rw (n, same) (omega (arith, rise_none c.args.turn, fall_none c.args.turn))
+
+pub returns-in-Some-clause-died : goal.returns-in-Some-clause-died
+unfolding page_at
+returns-in-Some-clause-died c =
+    let was = sym (ap option_copied_mut (sym c.in-Some.is) ∙ rw c.page_of.ensures at c.get_mut.ensures.value) in
+    let entries = c.args.pages.now.entries in
+    let old = c.in-Some.page.now in
+    c.turn_on.ensures.died ∙ ap (λ xs. c.args.died.now.items ++ xs) (filter_row (λ q. leaves_none c.args.turn (near_on old q)) (λ q. leaves_none c.args.turn (near_at entries q)) c.args.s.x c.args.s.z c.args.len (λ i l.
+    ap (leaves_none c.args.turn) (sym (before_near entries entries c.args.s old old was (λ a b. same_page entries c.args.s old was a b) (section_at (c.args.s.x +ℤ pos i) c.args.s.z) (run_page c.args.s c.args.len c.requires.run i l, refl)))))
+
+pub returns-in-None-clause-died : goal.returns-in-None-clause-died
+unfolding page_at
+returns-in-None-clause-died c =
+    let none = sym (ap option_copied_mut (sym c.in-None.is) ∙ rw c.page_of.ensures at c.get_mut.ensures.value) in
+    let test : SectionPos → Bool = λ q. leaves_none c.args.turn (near_at c.args.pages.now.entries q) in
+    let nobody = count_none test c.args.s.x c.args.s.z c.args.len (λ i l.
+    let place = section_at (c.args.s.x +ℤ pos i) c.args.s.z in
+    absurd (omega (arith, row_has c.args.s.x c.args.s.z c.args.len i l, none_run c.args.pages.now.entries c.args.s c.args.len c.requires.run none place (c.requires.here place)))) in
+    sym (ap (λ xs. c.args.died.now.items ++ xs) (filter_none test (row_of section_at c.args.s.x c.args.s.z c.args.len) nobody) ∙ append-none c.args.died.now.items)

@@ -14,6 +14,8 @@ add_chunk-requires c =
       here = λ s w. here-filled _ _ c.args.missing.now c.requires.absent c.fill.ensures.filled s ∙ c.requires.around s w;
       chunks_high = omega (arith, chunks c.args.home, c.requires.chunks_high);
       near_high = λ s. omega (arith, near s, c.requires.near_high s);
+      none = c.requires.none;
+      space = c.requires.space;
     }
 
 pub returns-clause-here : goal.returns-clause-here

@@ -1,11 +1,6 @@
 use Rattle.std.proofs.Common.{sym, ◌∙◌, arith}
-use Rattle.fol_sections.specs.Pages.{is_here}
 use Rattle.fol_sections.proofs.AddTable.{none_missing}
 use Rattle.fol_sections.proofs.squares.find_missing.Goals as goal
-
-pub returns-then-loaded-eq0-clause-found : goal.returns-then-loaded-eq0-clause-found
-unfolding is_here
-returns-then-loaded-eq0-clause-found c = c.find_square.ensures.found
 
 pub returns-else-loaded-eq0-clause-found : goal.returns-else-loaded-eq0-clause-found
 returns-else-loaded-eq0-clause-found c = c.requires.none ∙ sym (none_missing c.args.pages.now.entries c.args.s c.args.radius (c.requires.around (omega (arith, c.loaded.ensures, c.if-loaded-eq0.false))))

@@ -1,4 +1,4 @@
-use Rattle.std.proofs.Common.{◌∙◌, sym}
+use Rattle.std.proofs.Common.{◌∙◌}
 use Rattle.fol_regions.specs.Released.{grid_of}
 use Rattle.fol_regions.specs.Table.{grid_state}
 use Rattle.fol_regions.proofs.TableSteps as steps
@@ -7,18 +7,10 @@ use Rattle.fol_regions.proofs.regions.Regions.remove.Goals as goal
 pub invariant_of-self : goal.invariant_of-self
 invariant_of-self c =
     let is = c.remove-answer.ensures.answer in
-    let gone = rw is at c.note_dying.ensures.gone in
-    let others = rw is at c.note_dying.ensures.others in
-    (steps.removed_kept c.self.inside.grid c.self.inside.sections c.self.inside.tables c.self.inside.spare c.self.invariant.0 c.remove-answer.new.self c.args.c c.remove-answer.ensures.stays.0 c.remove-answer.ensures.stays.2 c.remove-answer.ensures.holds c.remove-answer.ensures.presence, steps.removed_bounds c.self.inside.grid c.self.inside.sections c.self.inside.tables c.self.inside.spare c.self.invariant.0 c.remove-answer.new.self c.args.c c.remove-answer.ensures.stays.0 c.remove-answer.ensures.stays.2 c.remove-answer.ensures.holds c.remove-answer.ensures.presence _ _ c.self.invariant.1 gone others)
-
-pub note_dying-requires-clause-presence : goal.note_dying-requires-clause-presence
-note_dying-requires-clause-presence c = (steps.removed_kept c.self.inside.grid c.self.inside.sections c.self.inside.tables c.self.inside.spare c.self.invariant.0 c.remove-answer.new.self c.args.c c.remove-answer.ensures.stays.0 c.remove-answer.ensures.stays.2 c.remove-answer.ensures.holds c.remove-answer.ensures.presence).presence
-
-pub note_dying-requires-clause-numbers : goal.note_dying-requires-clause-numbers
-note_dying-requires-clause-numbers c = let e = c.self.invariant.0.same in rw e c.self.invariant.0.numbers
-
-pub note_dying-requires-clause-in_range : goal.note_dying-requires-clause-in_range
-note_dying-requires-clause-in_range c = λ g. steps.gone_limits c.self.inside.grid c.self.inside.sections c.self.inside.tables c.self.inside.spare c.self.invariant.0 c.remove-answer.new.self c.args.c c.remove-answer.ensures.stays.0 c.remove-answer.ensures.stays.2 c.remove-answer.ensures.holds c.remove-answer.ensures.presence (sym c.remove-answer.ensures.answer ∙ g)
+    let are = rw is at c.remove-answer.ensures.died in
+    let died = c.died.ensures in
+    let noted = rw died at c.note_died.ensures in
+    (steps.removed_kept c.self.inside.grid c.self.inside.sections c.self.inside.tables c.self.inside.spare c.self.invariant.0 c.remove-answer.new.self c.args.c c.remove-answer.ensures.stays.0 c.remove-answer.ensures.stays.2 c.remove-answer.ensures.holds c.remove-answer.ensures.presence, steps.removed_bounds c.self.inside.grid c.self.inside.sections c.self.inside.tables c.self.inside.spare c.self.invariant.0 c.remove-answer.new.self c.args.c c.remove-answer.ensures.stays.0 c.remove-answer.ensures.stays.2 c.remove-answer.ensures.holds c.remove-answer.ensures.presence _ _ c.self.invariant.1 _ are noted)
 
 pub returns-clause-state : goal.returns-clause-state
 unfolding grid_state grid_of

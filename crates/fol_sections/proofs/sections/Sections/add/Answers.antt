@@ -21,18 +21,19 @@ use Rattle.fol_sections.proofs.sections.Sections.add.Goals.{then-wanted-eq0, els
 pub hold_again-requires : goal.hold_again-requires
 hold_again-requires c =
     let few = rw (← c.self.view_is) at c.requires.few in
-    let is = ap (λ (f : ChunkPos → ℕ). f c.args.c) (table-holds c.self.inside.grid c.self.inside.holds.entries c.self.inside.pages.entries c.self.inside.filled.items c.self.inside.spare) in
+    let is = ap (λ (f : ChunkPos → ℕ). f c.args.c) (table-holds c.self.inside.grid c.self.inside.holds.entries c.self.inside.pages.entries c.self.inside.filled.items c.self.inside.died.items c.self.inside.spare) in
     omega (arith, few, is)
 
 pub invariant_of-self : goal.invariant_of-self
 invariant_of-self c =
     let held = sym c.hold_again.ensures.again ∙ c.if-hold_again.true in
     let spare = rw (← c.self.view_is) at c.requires.spare in (
-      again_kept _ _ _ _ c.self.inside.filled.items c.self.inside.spare c.self.invariant.0 c.args.c held _ (c.hold_again.ensures.counts c.if-hold_again.true),
+      again_kept _ _ _ _ c.self.inside.filled.items c.self.inside.died.items c.self.inside.spare c.self.invariant.0 c.args.c held _ (c.hold_again.ensures.counts c.if-hold_again.true),
       record {
         holds = omega (arith, c.hold_again.ensures.room, c.self.invariant.1.holds);
         pages = omega (arith, c.self.invariant.1.pages, spare);
         filled = omega (arith, c.clear.ensures.capacity, c.self.invariant.1.filled);
+        died = omega (arith, c.clear-2.ensures.capacity, c.self.invariant.1.died);
         fits = omega (arith, c.self.invariant.1.fits);
       },
     )
@@ -40,22 +41,22 @@ invariant_of-self c =
 pub returns-then-hold_again-clause-answer : goal.returns-then-hold_again-clause-answer
 returns-then-hold_again-clause-answer c =
     let held = sym c.hold_again.ensures.again ∙ c.if-hold_again.true in
-    rw (← c.self.view_is) (again_counted _ _ _ c.self.inside.count c.self.inside.filled.items c.self.inside.spare c.self.invariant.0 c.args.c held)
+    rw (← c.self.view_is) (again_counted _ _ _ c.self.inside.count c.self.inside.filled.items c.self.inside.died.items c.self.inside.spare c.self.invariant.0 c.args.c held)
 
 pub returns-then-hold_again-clause-full : goal.returns-then-hold_again-clause-full
 returns-then-hold_again-clause-full c = λ yes.
     let held = sym c.hold_again.ensures.again ∙ c.if-hold_again.true in
     let was = rw (← c.self.view_is) at yes in
-    absurd (true≢false (sym was ∙ again_room _ _ _ c.self.inside.count c.self.inside.filled.items c.self.inside.spare c.self.invariant.0 c.args.c held))
+    absurd (true≢false (sym was ∙ again_room _ _ _ c.self.inside.count c.self.inside.filled.items c.self.inside.died.items c.self.inside.spare c.self.invariant.0 c.args.c held))
 
 pub returns-then-hold_again-clause-room : goal.returns-then-hold_again-clause-room
 returns-then-hold_again-clause-room c = λ _.
     let held = sym c.hold_again.ensures.again ∙ c.if-hold_again.true in
     let spare = rw (← c.self.view_is) at c.requires.spare in
-    rw (← c.self.view_is, c.clear.ensures.items) (again_adds _ _ _ c.self.inside.count c.self.inside.filled.items c.self.inside.spare c.self.invariant.0 c.args.c held _ (c.hold_again.ensures.counts c.if-hold_again.true) _ (omega (arith, spare)))
+    rw (← c.self.view_is, c.clear.ensures.items, c.clear-2.ensures.items) (again_adds _ _ _ c.self.inside.count c.self.inside.filled.items c.self.inside.died.items c.self.inside.spare c.self.invariant.0 c.args.c held _ (c.hold_again.ensures.counts c.if-hold_again.true) _ (omega (arith, spare)))
 
 pub find_missing-requires-clause-near : goal.find_missing-requires-clause-near
-find_missing-requires-clause-near c = rw c.section_of-home.ensures (home_near _ _ _ c.self.inside.count c.self.inside.filled.items c.self.inside.spare c.self.invariant.0 c.args.c c.requires.in_range)
+find_missing-requires-clause-near c = rw c.section_of-home.ensures (home_near _ _ _ c.self.inside.count c.self.inside.filled.items c.self.inside.died.items c.self.inside.spare c.self.invariant.0 c.args.c c.requires.in_range)
 
 pub find_missing-requires-clause-around : goal.find_missing-requires-clause-around
 find_missing-requires-clause-around c = rw c.create_radius-radius.ensures (filled_around c.self.inside.grid c.self.inside.holds.entries c.self.inside.pages.entries c.self.inside.count c.section_of-home.result c.self.invariant.0)
@@ -63,16 +64,16 @@ find_missing-requires-clause-around c = rw c.create_radius-radius.ensures (fille
 pub returns-then-present-wanted-clause-answer : goal.returns-then-present-wanted-clause-answer
 returns-then-present-wanted-clause-answer c =
     let found = rw (c.section_of-home.ensures, c.create_radius-radius.ensures) at c.find_missing.ensures.found in
-    rw (← c.self.view_is) (added_full _ _ _ c.self.inside.count c.self.inside.filled.items c.self.inside.spare c.self.invariant.0 c.args.c c.requires.in_range _ found c.self.inside.count _ refl (omega (arith, c.len-wanted.ensures, c.find_missing.ensures.few)) (omega (arith, c.if-present-wanted.true)))
+    rw (← c.self.view_is) (added_full _ _ _ c.self.inside.count c.self.inside.filled.items c.self.inside.died.items c.self.inside.spare c.self.invariant.0 c.args.c c.requires.in_range _ found c.self.inside.count _ refl (omega (arith, c.len-wanted.ensures, c.find_missing.ensures.few)) (omega (arith, c.if-present-wanted.true)))
 
 pub returns-then-present-wanted-clause-full : goal.returns-then-present-wanted-clause-full
 returns-then-present-wanted-clause-full c = λ _.
-    rw (← c.self.view_is, c.hold_again.ensures.stays c.if-hold_again.false) (table_same _ _ _ _ _ (λ a b. refl) (λ a b. refl) _ c.self.invariant.0 _ _ _ _, c.clear-then-present-wanted.ensures.items, refl)
+    rw (← c.self.view_is, c.hold_again.ensures.stays c.if-hold_again.false) (table_same _ _ _ _ _ (λ a b. refl) (λ a b. refl) _ c.self.invariant.0 _ _ _ _ _ _, c.clear-then-present-wanted.ensures.items, refl)
 
 pub returns-then-present-wanted-clause-room : goal.returns-then-present-wanted-clause-room
 returns-then-present-wanted-clause-room c = λ no.
     let found = rw (c.section_of-home.ensures, c.create_radius-radius.ensures) at c.find_missing.ensures.found in
-    let is = full-is _ _ _ c.self.inside.count c.self.inside.filled.items c.self.inside.spare c.self.invariant.0 c.args.c c.requires.in_range c.find_missing.new.missing.items found in
+    let is = full-is _ _ _ c.self.inside.count c.self.inside.filled.items c.self.inside.died.items c.self.inside.spare c.self.invariant.0 c.args.c c.requires.in_range c.find_missing.new.missing.items found in
     let yes : nat_lt 16384 (c.self.inside.count + length c.find_missing.new.missing.items) ≡ true = lt-ltb _ _ (omega (arith, c.len-wanted.ensures, c.find_missing.ensures.few)) in
     let was = rw (← c.self.view_is) at no in
     absurd (true≢false (sym yes ∙ sym is ∙ was))
@@ -86,20 +87,20 @@ take_hold-requires-clause-room c = let spare = rw (← c.self.view_is) at c.requ
 pub take_hold-requires-clause-pages : goal.take_hold-requires-clause-pages
 take_hold-requires-clause-pages c =
     let found = rw (c.section_of-home.ensures, c.create_radius-radius.ensures) at c.find_missing.ensures.found in
-    rw c.deref.ensures.value (missing_pages _ _ _ c.self.inside.count c.self.inside.filled.items c.self.inside.spare c.self.invariant.0 c.args.c c.requires.in_range _ found)
+    rw c.deref.ensures.value (missing_pages _ _ _ c.self.inside.count c.self.inside.filled.items c.self.inside.died.items c.self.inside.spare c.self.invariant.0 c.args.c c.requires.in_range _ found)
 
 pub take_hold-requires-clause-near : goal.take_hold-requires-clause-near
-take_hold-requires-clause-near c = rw c.section_of-home.ensures (home_near _ _ _ c.self.inside.count c.self.inside.filled.items c.self.inside.spare c.self.invariant.0 c.args.c c.requires.in_range)
+take_hold-requires-clause-near c = rw c.section_of-home.ensures (home_near _ _ _ c.self.inside.count c.self.inside.filled.items c.self.inside.died.items c.self.inside.spare c.self.invariant.0 c.args.c c.requires.in_range)
 
 pub take_hold-requires-clause-absent : goal.take_hold-requires-clause-absent
 take_hold-requires-clause-absent c =
     let found = rw (c.section_of-home.ensures, c.create_radius-radius.ensures) at c.find_missing.ensures.found in
-    rw c.deref.ensures.value (missing_absent _ _ _ c.self.inside.count c.self.inside.filled.items c.self.inside.spare c.self.invariant.0 c.args.c c.requires.in_range _ found)
+    rw c.deref.ensures.value (missing_absent _ _ _ c.self.inside.count c.self.inside.filled.items c.self.inside.died.items c.self.inside.spare c.self.invariant.0 c.args.c c.requires.in_range _ found)
 
 pub take_hold-requires-clause-around : goal.take_hold-requires-clause-around
 take_hold-requires-clause-around c =
     let found = rw (c.section_of-home.ensures, c.create_radius-radius.ensures) at c.find_missing.ensures.found in
-    rw (c.deref.ensures.value, c.section_of-home.ensures, c.create_radius-radius.ensures) (here_around _ _ _ c.self.inside.count c.self.inside.filled.items c.self.inside.spare c.self.invariant.0 c.args.c c.requires.in_range _ found)
+    rw (c.deref.ensures.value, c.section_of-home.ensures, c.create_radius-radius.ensures) (here_around _ _ _ c.self.inside.count c.self.inside.filled.items c.self.inside.died.items c.self.inside.spare c.self.invariant.0 c.args.c c.requires.in_range _ found)
 
 pub take_hold-requires-clause-chunks_high : goal.take_hold-requires-clause-chunks_high
 take_hold-requires-clause-chunks_high c = chunks_few _ _ _ _ c.section_of-home.result c.self.invariant.0
@@ -116,8 +117,8 @@ invariant_of-self-2 c =
     let counts = first_counts _ _ c.args.c new (rw stays at c.take_hold.ensures.counts) in
     let chunks = rw c.section_of-home.ensures at c.take_hold.ensures.chunks in
     let near = rw (c.section_of-home.ensures, c.create_radius-radius.ensures) at c.take_hold.ensures.near in
-    let count = missing_length _ _ _ c.self.inside.count c.self.inside.filled.items c.self.inside.spare c.self.invariant.0 c.args.c c.requires.in_range _ found in
-    let more = here-more _ _ _ c.self.inside.count c.self.inside.filled.items c.self.inside.spare c.self.invariant.0 c.args.c c.requires.in_range _ found in
+    let count = missing_length _ _ _ c.self.inside.count c.self.inside.filled.items c.self.inside.died.items c.self.inside.spare c.self.invariant.0 c.args.c c.requires.in_range _ found in
+    let more = here-more _ _ _ c.self.inside.count c.self.inside.filled.items c.self.inside.died.items c.self.inside.spare c.self.invariant.0 c.args.c c.requires.in_range _ found in
     let home = section_of c.self.inside.grid c.args.c in
     let spare = rw (← c.self.view_is) at c.requires.spare in (
       kept_add _ _ _ _ _ _ _ c.args.c c.self.invariant.0 c.requires.in_range counts (λ s. here s ∙ more s)
@@ -128,6 +129,7 @@ invariant_of-self-2 c =
         holds = let rooms = c.take_hold.ensures.rooms in omega (arith, rooms.0, c.hold_again.ensures.room, c.self.invariant.1.holds);
         pages = let rooms = c.take_hold.ensures.rooms in omega (arith, rooms.1, c.self.invariant.1.pages, spare);
         filled = omega (arith, c.find_missing.ensures.room, c.clear.ensures.capacity, c.self.invariant.1.filled);
+        died = omega (arith, c.take_hold.ensures.space, c.clear-2.ensures.capacity, c.self.invariant.1.died);
         fits = omega (arith, c.self.invariant.1.fits);
       },
     )
@@ -138,14 +140,14 @@ returns-clause-answer c =
     let wanted : c.len-wanted.result % 4294967296 ≡ length c.find_missing.new.missing.items = omega (arith, c.len-wanted.ensures, c.find_missing.ensures.few) in
     let low : c.self.inside.count + length c.find_missing.new.missing.items ≤ 16384 = omega (arith, wanted, c.if-present-wanted.false) in
     elim c.if-wanted-eq0.branch [
-      | then-wanted-eq0 w ↦ rw (w.result-is, ← c.self.view_is) (added_counted _ _ _ c.self.inside.count c.self.inside.filled.items c.self.inside.spare c.self.invariant.0 c.args.c c.requires.in_range _ found _ wanted low (omega (arith, w.if-wanted-eq0.true)))
-      | else-wanted-eq0 w ↦ rw (w.result-is, ← c.self.view_is) (added_filled _ _ _ c.self.inside.count c.self.inside.filled.items c.self.inside.spare c.self.invariant.0 c.args.c c.requires.in_range _ found _ wanted low (omega (arith, w.if-wanted-eq0.false)))
+      | then-wanted-eq0 w ↦ rw (w.result-is, ← c.self.view_is) (added_counted _ _ _ c.self.inside.count c.self.inside.filled.items c.self.inside.died.items c.self.inside.spare c.self.invariant.0 c.args.c c.requires.in_range _ found _ wanted low (omega (arith, w.if-wanted-eq0.true)))
+      | else-wanted-eq0 w ↦ rw (w.result-is, ← c.self.view_is) (added_filled _ _ _ c.self.inside.count c.self.inside.filled.items c.self.inside.died.items c.self.inside.spare c.self.invariant.0 c.args.c c.requires.in_range _ found _ wanted low (omega (arith, w.if-wanted-eq0.false)))
     ]
 
 pub returns-clause-full : goal.returns-clause-full
 returns-clause-full c = λ yes.
     let found = rw (c.section_of-home.ensures, c.create_radius-radius.ensures) at c.find_missing.ensures.found in
-    let is = full-is _ _ _ c.self.inside.count c.self.inside.filled.items c.self.inside.spare c.self.invariant.0 c.args.c c.requires.in_range c.find_missing.new.missing.items found in
+    let is = full-is _ _ _ c.self.inside.count c.self.inside.filled.items c.self.inside.died.items c.self.inside.spare c.self.invariant.0 c.args.c c.requires.in_range c.find_missing.new.missing.items found in
     let no : nat_lt 16384 (c.self.inside.count + length c.find_missing.new.missing.items) ≡ false = le-ltb _ _ (omega (arith, c.len-wanted.ensures, c.find_missing.ensures.few, c.if-present-wanted.false)) in
     let was = rw (← c.self.view_is) at yes in
     absurd (true≢false (sym was ∙ is ∙ no))
@@ -157,13 +159,13 @@ returns-clause-room c = λ _.
     let new = sym c.hold_again.ensures.again ∙ c.if-hold_again.false in
     let counts = first_counts _ _ c.args.c new (rw (c.hold_again.ensures.stays c.if-hold_again.false) at c.take_hold.ensures.counts) in
     let limits = c.self.invariant.0.section_limits in
-    let holds = table-holds c.self.inside.grid c.self.inside.holds.entries c.self.inside.pages.entries c.self.inside.filled.items c.self.inside.spare in
-    let presence = table-presence c.self.inside.grid c.self.inside.holds.entries c.self.inside.pages.entries c.self.inside.filled.items c.self.inside.spare limits in
-    let more = presence-more _ _ _ c.self.inside.count c.self.inside.filled.items c.self.inside.spare c.self.invariant.0 c.args.c c.requires.in_range _ found in
+    let holds = table-holds c.self.inside.grid c.self.inside.holds.entries c.self.inside.pages.entries c.self.inside.filled.items c.self.inside.died.items c.self.inside.spare in
+    let presence = table-presence c.self.inside.grid c.self.inside.holds.entries c.self.inside.pages.entries c.self.inside.filled.items c.self.inside.died.items c.self.inside.spare limits in
+    let more = presence-more _ _ _ c.self.inside.count c.self.inside.filled.items c.self.inside.died.items c.self.inside.spare c.self.invariant.0 c.args.c c.requires.in_range _ found in
     let spare = rw (← c.self.view_is) at c.requires.spare in
     rw (← c.self.view_is) (record {
-      holds = table-holds _ _ _ _ _ ∙ fun_ext counts ∙ ap (λ (f : ChunkPos → ℕ). at_chunk f c.args.c (f c.args.c + 1)) (sym holds);
-      presence = table-presence _ _ _ _ _ (λ s h. limits_more _ _ _ c.self.inside.count c.self.inside.filled.items c.self.inside.spare c.self.invariant.0 c.args.c c.requires.in_range _ found s (sym (here s) ∙ h)) ∙ fun_ext (λ s. here s ∙ more s ∙ ap (λ (f : SectionPos → Bool). f s || is_missing (table c.self.inside.grid c.self.inside.holds.entries c.self.inside.pages.entries c.self.inside.filled.items c.self.inside.spare) c.args.c s) (sym presence));
-      filled = missing_rows _ _ _ c.self.inside.count c.self.inside.filled.items c.self.inside.spare c.self.invariant.0 c.args.c c.requires.in_range _ found;
+      holds = table-holds _ _ _ _ _ _ ∙ fun_ext counts ∙ ap (λ (f : ChunkPos → ℕ). at_chunk f c.args.c (f c.args.c + 1)) (sym holds);
+      presence = table-presence _ _ _ _ _ _ (λ s h. limits_more _ _ _ c.self.inside.count c.self.inside.filled.items c.self.inside.died.items c.self.inside.spare c.self.invariant.0 c.args.c c.requires.in_range _ found s (sym (here s) ∙ h)) ∙ fun_ext (λ s. here s ∙ more s ∙ ap (λ (f : SectionPos → Bool). f s || is_missing (table c.self.inside.grid c.self.inside.holds.entries c.self.inside.pages.entries c.self.inside.filled.items c.self.inside.died.items c.self.inside.spare) c.args.c s) (sym presence));
+      filled = missing_rows _ _ _ c.self.inside.count c.self.inside.filled.items c.self.inside.died.items c.self.inside.spare c.self.invariant.0 c.args.c c.requires.in_range _ found;
       spare = omega (arith, spare);
     })

@@ -17,7 +17,8 @@ invariant_of-result c =
       record {
         holds = c.in_ok-reserve.ensures.ok;
         pages = omega (arith, c.in_ok-reserve-2.ensures.ok);
-        filled = omega (arith, c.extend_from_slice.ensures.capacity, c.in_ok-filled.ensures.exact);
+        filled = c.in_ok-filled.ensures.room;
+        died = c.in_ok-died.ensures.room;
         fits = c.self.invariant.1.fits;
       },
     )
@@ -30,4 +31,4 @@ returns-clause-same c =
     let holds = c.reserve.ensures.entries in
     let pages = c.reserve-2.ensures.entries in
     rw (← c.self.view_is) (table_same c.self.inside.grid c.self.inside.holds.entries _ c.self.inside.pages.entries _
-    (λ a b. holds.2 (a, b) ∙ ap (λ es. number_at es a b) h) (λ a b. pages.2 (a, b) ∙ ap (λ es. page_at es a b) k) _ c.self.invariant.0 _ _ _ _)
+    (λ a b. holds.2 (a, b) ∙ ap (λ es. number_at es a b) h) (λ a b. pages.2 (a, b) ∙ ap (λ es. page_at es a b) k) _ c.self.invariant.0 _ _ _ _ _ _)

@@ -10,7 +10,7 @@ use Rattle.fol_sections.proofs.sections.Sections.drop_dead.Goals as goal
 
 pub overflow_cast-self : goal.overflow_cast-self
 overflow_cast-self c =
-    let presence = table-presence c.self.inside.grid c.self.inside.holds.entries c.self.inside.pages.entries c.self.inside.filled.items c.self.inside.spare c.self.invariant.0.section_limits in
+    let presence = table-presence c.self.inside.grid c.self.inside.holds.entries c.self.inside.pages.entries c.self.inside.filled.items c.self.inside.died.items c.self.inside.spare c.self.invariant.0.section_limits in
     let present = rw (← c.self.view_is, presence) at c.requires.present in
     let same = c.deref.ensures.value in
     let out = rw same at c.drop_list-dropped.ensures.out in
@@ -19,7 +19,7 @@ overflow_cast-self c =
 
 pub overflow_sub-self : goal.overflow_sub-self
 overflow_sub-self c =
-    let presence = table-presence c.self.inside.grid c.self.inside.holds.entries c.self.inside.pages.entries c.self.inside.filled.items c.self.inside.spare c.self.invariant.0.section_limits in
+    let presence = table-presence c.self.inside.grid c.self.inside.holds.entries c.self.inside.pages.entries c.self.inside.filled.items c.self.inside.died.items c.self.inside.spare c.self.invariant.0.section_limits in
     let present = rw (← c.self.view_is, presence) at c.requires.present in
     let same = c.deref.ensures.value in
     let out = rw same at c.drop_list-dropped.ensures.out in
@@ -28,7 +28,7 @@ overflow_sub-self c =
 
 pub keep_present-requires : goal.keep_present-requires
 keep_present-requires c =
-    let presence = table-presence c.self.inside.grid c.self.inside.holds.entries c.self.inside.pages.entries c.self.inside.filled.items c.self.inside.spare c.self.invariant.0.section_limits in
+    let presence = table-presence c.self.inside.grid c.self.inside.holds.entries c.self.inside.pages.entries c.self.inside.filled.items c.self.inside.died.items c.self.inside.spare c.self.invariant.0.section_limits in
     let present = rw (← c.self.view_is, presence) at c.requires.present in
     let same = c.deref.ensures.value in
     let out = rw same at c.drop_list-dropped.ensures.out in
@@ -37,7 +37,7 @@ keep_present-requires c =
 
 pub invariant_of-self : goal.invariant_of-self
 invariant_of-self c =
-    let presence = table-presence c.self.inside.grid c.self.inside.holds.entries c.self.inside.pages.entries c.self.inside.filled.items c.self.inside.spare c.self.invariant.0.section_limits in
+    let presence = table-presence c.self.inside.grid c.self.inside.holds.entries c.self.inside.pages.entries c.self.inside.filled.items c.self.inside.died.items c.self.inside.spare c.self.invariant.0.section_limits in
     let present = rw (← c.self.view_is, presence) at c.requires.present in
     let same = c.deref.ensures.value in
     let out = rw same at c.drop_list-dropped.ensures.out in
@@ -47,20 +47,21 @@ invariant_of-self c =
         holds = c.self.invariant.1.holds;
         pages = omega (arith, c.drop_list-dropped.ensures.room, c.self.invariant.1.pages);
         filled = c.self.invariant.1.filled;
+        died = c.self.invariant.1.died;
         fits = c.self.invariant.1.fits;
       },
     )
 
 pub returns-clause-list : goal.returns-clause-list
 returns-clause-list c =
-    let presence = table-presence c.self.inside.grid c.self.inside.holds.entries c.self.inside.pages.entries c.self.inside.filled.items c.self.inside.spare c.self.invariant.0.section_limits in
+    let presence = table-presence c.self.inside.grid c.self.inside.holds.entries c.self.inside.pages.entries c.self.inside.filled.items c.self.inside.died.items c.self.inside.spare c.self.invariant.0.section_limits in
     let present = rw (← c.self.view_is, presence) at c.requires.present in
     let same = c.deref.ensures.value in
     let out = rw same at c.drop_list-dropped.ensures.out in
     rw (← c.self.view_is) (c.keep_present.ensures.list ∙ filter-like _ _ c.args.list.now.items (λ s h.
     stays_where c.self.inside.grid c.self.inside.holds.entries c.self.inside.pages.entries c.drop_list-dropped.new.pages.entries c.self.inside.count c.self.invariant.0 c.args.list.now.items present c.requires.distinct out s h
-    ∙ ap not (lonely-is c.self.inside.grid c.self.inside.holds.entries c.self.inside.pages.entries c.self.inside.count c.self.inside.filled.items c.self.inside.spare c.self.invariant.0 s)
-    ∙ twice (in_margin_of (table c.self.inside.grid c.self.inside.holds.entries c.self.inside.pages.entries c.self.inside.filled.items c.self.inside.spare) s)))
+    ∙ ap not (lonely-is c.self.inside.grid c.self.inside.holds.entries c.self.inside.pages.entries c.self.inside.count c.self.inside.filled.items c.self.inside.died.items c.self.inside.spare c.self.invariant.0 s)
+    ∙ twice (in_margin_of (table c.self.inside.grid c.self.inside.holds.entries c.self.inside.pages.entries c.self.inside.filled.items c.self.inside.died.items c.self.inside.spare) s)))
   where
     twice : (b : Bool) → not (not b) ≡ b
     twice true = refl
@@ -68,17 +69,17 @@ returns-clause-list c =
 
 pub returns-clause-presence : goal.returns-clause-presence
 returns-clause-presence c =
-    let presence = table-presence c.self.inside.grid c.self.inside.holds.entries c.self.inside.pages.entries c.self.inside.filled.items c.self.inside.spare c.self.invariant.0.section_limits in
+    let presence = table-presence c.self.inside.grid c.self.inside.holds.entries c.self.inside.pages.entries c.self.inside.filled.items c.self.inside.died.items c.self.inside.spare c.self.invariant.0.section_limits in
     let present = rw (← c.self.view_is, presence) at c.requires.present in
     let same = c.deref.ensures.value in
     let out = rw same at c.drop_list-dropped.ensures.out in
     let dead = rw same at c.drop_list-dropped.ensures.dead in
     let kept = kept_left c.self.inside.grid c.self.inside.holds.entries c.self.inside.pages.entries c.drop_list-dropped.new.pages.entries c.self.inside.count c.self.invariant.0 c.args.list.now.items present c.requires.distinct out c.drop_list-dropped.ensures.used in
-    rw (← c.self.view_is) (table-presence c.self.inside.grid c.self.inside.holds.entries c.drop_list-dropped.new.pages.entries c.self.inside.filled.items c.self.inside.spare kept.section_limits ∙ fun_ext (λ s.
+    rw (← c.self.view_is) (table-presence c.self.inside.grid c.self.inside.holds.entries c.drop_list-dropped.new.pages.entries c.self.inside.filled.items c.self.inside.died.items c.self.inside.spare kept.section_limits ∙ fun_ext (λ s.
     here_left c.self.inside.grid c.self.inside.holds.entries c.self.inside.pages.entries c.drop_list-dropped.new.pages.entries c.self.inside.count c.self.invariant.0 c.args.list.now.items present c.requires.distinct out s
-    ∙ ap (λ b. is_here c.self.inside.pages.entries s && not (is_among c.args.list.now.items s && b)) (lonely-is c.self.inside.grid c.self.inside.holds.entries c.self.inside.pages.entries c.self.inside.count c.self.inside.filled.items c.self.inside.spare c.self.invariant.0 s)
-    ∙ ap (λ (f : SectionPos → Bool). f s && not (is_among c.args.list.now.items s && not (in_margin_of (table c.self.inside.grid c.self.inside.holds.entries c.self.inside.pages.entries c.self.inside.filled.items c.self.inside.spare) s))) (sym presence)))
+    ∙ ap (λ b. is_here c.self.inside.pages.entries s && not (is_among c.args.list.now.items s && b)) (lonely-is c.self.inside.grid c.self.inside.holds.entries c.self.inside.pages.entries c.self.inside.count c.self.inside.filled.items c.self.inside.died.items c.self.inside.spare c.self.invariant.0 s)
+    ∙ ap (λ (f : SectionPos → Bool). f s && not (is_among c.args.list.now.items s && not (in_margin_of (table c.self.inside.grid c.self.inside.holds.entries c.self.inside.pages.entries c.self.inside.filled.items c.self.inside.died.items c.self.inside.spare) s))) (sym presence)))
 
 pub returns-clause-holds : goal.returns-clause-holds
 returns-clause-holds c =
-    rw (← c.self.view_is) (table-holds c.self.inside.grid c.self.inside.holds.entries c.drop_list-dropped.new.pages.entries c.self.inside.filled.items c.self.inside.spare ∙ sym (table-holds c.self.inside.grid c.self.inside.holds.entries c.self.inside.pages.entries c.self.inside.filled.items c.self.inside.spare))
+    rw (← c.self.view_is) (table-holds c.self.inside.grid c.self.inside.holds.entries c.drop_list-dropped.new.pages.entries c.self.inside.filled.items c.self.inside.died.items c.self.inside.spare ∙ sym (table-holds c.self.inside.grid c.self.inside.holds.entries c.self.inside.pages.entries c.self.inside.filled.items c.self.inside.died.items c.self.inside.spare))

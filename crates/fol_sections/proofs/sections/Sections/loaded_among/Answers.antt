@@ -13,7 +13,7 @@ count_list-requires c =
 
 pub returns-clause-value : goal.returns-clause-value
 returns-clause-value c = rw (← c.self.view_is) (c.count_list.ensures ∙ ap (λ f. sum_by f c.args.list.now) (fun_ext (λ s. c.self.invariant.0.chunks s
-    ∙ sym (table-loaded c.self.inside.grid c.self.inside.holds.entries c.self.inside.pages.entries c.self.inside.filled.items c.self.inside.spare s).1)))
+    ∙ sym (table-loaded c.self.inside.grid c.self.inside.holds.entries c.self.inside.pages.entries c.self.inside.filled.items c.self.inside.died.items c.self.inside.spare s).1)))
 
 pub returns-clause-few : goal.returns-clause-few
 returns-clause-few c =

@@ -14,6 +14,7 @@ invariant_of-self-in_err-reserve-2 c =
         holds = omega (arith, c.reserve.ensures.spare, c.self.invariant.1.holds);
         pages = omega (arith, c.reserve-then-n-self.ensures.spare, c.self.invariant.1.pages);
         filled = c.self.invariant.1.filled;
+        died = c.self.invariant.1.died;
         fits = c.self.invariant.1.fits;
       },
     )
@@ -23,7 +24,7 @@ unfolding number_at page_at
 returns-in_err-reserve-2-clause-same c =
     let h = c.reserve.ensures.entries in
     let k = c.reserve-then-n-self.ensures.entries in
-    rw (← c.self.view_is) (table_same _ _ _ _ _ (λ a b. h.2 (a, b)) (λ a b. k.2 (a, b)) _ c.self.invariant.0 _ _ _ _)
+    rw (← c.self.view_is) (table_same _ _ _ _ _ (λ a b. h.2 (a, b)) (λ a b. k.2 (a, b)) _ c.self.invariant.0 _ _ _ _ _ _)
 
 pub invariant_of-self-then-n-self : goal.invariant_of-self-then-n-self
 unfolding number_at page_at
@@ -35,6 +36,7 @@ invariant_of-self-then-n-self c =
         holds = omega (arith, c.in_ok-reserve.ensures.ok);
         pages = omega (arith, c.in_ok-reserve-2.ensures.ok);
         filled = c.self.invariant.1.filled;
+        died = c.self.invariant.1.died;
         fits = omega arith;
       },
     )
@@ -44,4 +46,4 @@ unfolding number_at page_at
 returns-in_ok-reserve-2-clause-same c =
     let h = c.reserve.ensures.entries in
     let k = c.reserve-then-n-self.ensures.entries in
-    rw (← c.self.view_is) (table_same _ _ _ _ _ (λ a b. h.2 (a, b)) (λ a b. k.2 (a, b)) _ c.self.invariant.0 _ _ _ _)
+    rw (← c.self.view_is) (table_same _ _ _ _ _ (λ a b. h.2 (a, b)) (λ a b. k.2 (a, b)) _ c.self.invariant.0 _ _ _ _ _ _)

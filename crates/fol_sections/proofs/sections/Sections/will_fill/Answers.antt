@@ -14,7 +14,7 @@ use Rattle.fol_sections.proofs.NumberSteps.{filled_around}
 use Rattle.fol_sections.proofs.sections.Sections.will_fill.Goals as goal
 
 pub count_missing-wanted-requires-clause-near : goal.count_missing-wanted-requires-clause-near
-count_missing-wanted-requires-clause-near c = rw c.section_of-home.ensures (home_near _ _ _ c.self.inside.count c.self.inside.filled.items c.self.inside.spare c.self.invariant.0 c.args.c c.requires)
+count_missing-wanted-requires-clause-near c = rw c.section_of-home.ensures (home_near _ _ _ c.self.inside.count c.self.inside.filled.items c.self.inside.died.items c.self.inside.spare c.self.invariant.0 c.args.c c.requires)
 
 pub count_missing-wanted-requires-clause-around : goal.count_missing-wanted-requires-clause-around
 count_missing-wanted-requires-clause-around c = rw c.create_radius.ensures (filled_around c.self.inside.grid c.self.inside.holds.entries c.self.inside.pages.entries c.self.inside.count c.section_of-home.result c.self.invariant.0)
@@ -42,7 +42,7 @@ returns-then-wanted-gt0 c =
     let missing = filter (λ q. not (is_here c.self.inside.pages.entries q)) (square (section_of g c.args.c) g.create) in
     let n = length missing in
     let wanted : c.count_missing-wanted.result ≡ n = counted _ _ _ _ _ _ c.section_of-home.ensures c.create_radius.ensures c.count_missing-wanted.ensures.count in
-    let is = fills-is _ _ _ c.self.inside.count c.self.inside.filled.items c.self.inside.spare c.self.invariant.0 c.args.c c.requires missing refl in
+    let is = fills-is _ _ _ c.self.inside.count c.self.inside.filled.items c.self.inside.died.items c.self.inside.spare c.self.invariant.0 c.args.c c.requires missing refl in
     rw (← c.self.view_is) (ap (λ k. nat_le (c.self.inside.count + k) 16384) wanted ∙ some_fill c.self.inside.count n (omega (arith, wanted, c.if-wanted-gt0.true)) ∙ sym is)
 
 pub returns-else-wanted-gt0 : goal.returns-else-wanted-gt0
@@ -51,5 +51,5 @@ returns-else-wanted-gt0 c =
     let missing = filter (λ q. not (is_here c.self.inside.pages.entries q)) (square (section_of g c.args.c) g.create) in
     let n = length missing in
     let wanted : c.count_missing-wanted.result ≡ n = counted _ _ _ _ _ _ c.section_of-home.ensures c.create_radius.ensures c.count_missing-wanted.ensures.count in
-    let is = fills-is _ _ _ c.self.inside.count c.self.inside.filled.items c.self.inside.spare c.self.invariant.0 c.args.c c.requires missing refl in
+    let is = fills-is _ _ _ c.self.inside.count c.self.inside.filled.items c.self.inside.died.items c.self.inside.spare c.self.invariant.0 c.args.c c.requires missing refl in
     rw (← c.self.view_is) (ap (nat_lt 0) wanted ∙ none_fill (not (nat_lt 16384 (c.self.inside.count + n))) n (omega (arith, wanted, c.if-wanted-gt0.false)) ∙ sym is)
