@@ -1,12 +1,10 @@
 -- The events of a legal history are in range, where its report is short enough.
-use Rattle.std.proofs.Common.{◌≡◌, ℕ, ◌+◌, ◌*◌, ◌<◌, ◌≤◌, ◌^◌, suc, refl, sym, ◌∙◌, ap, subst, arith, true, ◌&&◌, not, inl, inr, None, Some, List, [], ◌∷◌, ◌++◌, length, append_assoc, length-append}
+use Rattle.std.proofs.Common.{◌≡◌, ℕ, ◌+◌, ◌*◌, ◌<◌, ◌≤◌, ◌^◌, suc, refl, sym, ◌∙◌, ap, subst, arith, true, ◌&&◌, inl, inr, None, Some, List, [], ◌∷◌, ◌++◌, length, append_assoc, length-append}
 use Rattle.std.specs.Prelude.{Option, cond, nat_eq, nat_le, count_by, flat_map, codes, decimal}
 use Rattle.std.specs.List.{AllByRecursion, join_with_byte, list_all}
 use Rattle.std.proofs.lemmas.Bool.{and_parts, cases_Bool, cases_lt, eq-eqb, leb-true}
 use Rattle.std.proofs.lemmas.List.Concat.{flat_map-cons}
-use Rattle.std.proofs.lemmas.List.Sums.{count_by-le-length}
 use Rattle.fol_model.specs.declared.places.ChunkPos.{ChunkPos}
-use Rattle.fol_model.specs.declared.places.SectionPos.{SectionPos}
 use Rattle.fol_model.specs.declared.places.BlockPos.{BlockPos}
 use Rattle.fol_model.specs.declared.actions.Action.{Action}
 use Rattle.fol_model.specs.declared.actions.Action.TheVariants as action
@@ -22,30 +20,26 @@ use Rattle.fol_model.specs.declared.events.Event.{Event}
 use Rattle.fol_model.specs.declared.events.Event.TheVariants as events
 use Rattle.fol_model.specs.declared.events.Entry.{Entry}
 use Rattle.fol_model.specs.ActionStep.{Recorded}
-use Rattle.fol_model.specs.Add.{is_full, wanted}
+use Rattle.fol_model.specs.Add.{is_full}
 use Rattle.fol_model.specs.End.{accepted, answers, dropped, put_back, run_down, ticked}
-use Rattle.fol_model.specs.Geometry.{is_chunk, section_of}
+use Rattle.fol_model.specs.Geometry.{is_chunk}
 use Rattle.fol_model.specs.GridNumbers.{IsGrid}
-use Rattle.fol_model.specs.GridState.{GridState, is_present}
 use Rattle.fol_model.specs.Holds.{posted, posting}
 use Rattle.fol_model.specs.Legal.{is_of}
 use Rattle.fol_model.specs.LineWords.{Word, line, lines_of}
 use Rattle.fol_model.specs.ReportWords.{accept_words, end_words, entry_words, event_words, ran_words}
 use Rattle.fol_model.specs.Run.{Allowed, RunFrom, after, after_all, load_answer, unload_answer}
 use Rattle.fol_model.specs.World.{World, start}
-use Rattle.fol_model.specs.Universe.{square}
 use Rattle.fol_laws.specs.Growth.{answered, answers_in, ends, ends_in}
 use Rattle.fol_laws.proofs.DueNames.{ended_new}
-use Rattle.fol_laws.proofs.FloorDivision.{around_in_limits}
 use Rattle.fol_laws.proofs.ListCounts.{count_by-cons}
 use Rattle.fol_laws.proofs.NumberGrowth.{ids_grow, jobs_grow}
-use Rattle.fol_laws.proofs.SectionOrder.{near_rows}
 use Rattle.fol_laws.proofs.SoundRuns.{Ending, accepted_ending, run_down_ending, wishes_ok}
 use Rattle.fol_laws.proofs.SoundState.{SoundWorld}
 use Rattle.fol_laws.proofs.WholeRuns.{counters_most, good_run}
 use Rattle.fol_laws.proofs.WishLimits.{WishOk}
-use Rattle.fol_sections.proofs.Lengths.{length-square}
 use Rattle.fol_events.specs.InRange.{AcceptInRange, AllInRange, InRange, LoadedInRange, RanInRange, UnloadedInRange}
+use Rattle.fol_world.proofs.MostParts.{wanted_few}
 use Rattle.fol_check.specs.Laws.{PostIsShort}
 
 -- ---- how long lines are
@@ -96,13 +90,6 @@ event_least events.Finish = line_some (event_words events.Finish)
 event_least (events.Stop k) = line_some (event_words (events.Stop k))
 
 -- ---- answers
-
-wanted_few : (g : GridState) (c : ChunkPos) → IsGrid g.grid → is_chunk c ≡ true → wanted g c ≤ 289
-unfolding wanted
-wanted_few g c grid within =
-    let n = section_of g.grid c in
-    let near = (near_rows n g.grid.create (λ (s : SectionPos). not (is_present g s)) (λ s h. around_in_limits g.grid c s grid within (leb-true _ _ h))).1 in
-    omega (arith, near, count_by-le-length (λ (s : SectionPos). not (is_present g s)) (square n g.grid.create), length-square n g.grid.create grid.create_high)
 
 loaded_in : (w : World) (c : ChunkPos) → SoundWorld w → is_chunk c ≡ true → LoadedInRange (load_answer w c)
 loaded_in w c sound within = elim (cases_Bool (is_full w.grid c)) [

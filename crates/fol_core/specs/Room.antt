@@ -14,6 +14,7 @@ use Rattle.fol_world.specs.declared.tables.Tables.{Tables}
 use Rattle.fol_core.specs.declared.machine.Room.{Room}
 use Rattle.fol_core.specs.declared.machine.Room.TheVariants.{Begin, End}
 use Rattle.fol_world.specs.Agenda.{IsTop, owes}
+use Rattle.fol_world.specs.MostParts.{parts_at_most}
 use Rattle.fol_core.specs.Meaning.{Reserved, Nothing, ForBegin, ForEnd}
 use Rattle.fol_data.specs.declared.tick.Tick.{Tick}
 
@@ -60,9 +61,9 @@ pub record EndRoom (wishes : ℕ) (accepts : Vec Accept) (t : Tables) (h : Vec E
   pub history : vec_len h + 2 + early ≤ vec_capacity h
   pub regions : wishes + 1 ≤ t.regions.spare
   pub tasks : wishes ≤ t.store.spare
-  pub slots : wishes + 1820 ≤ t.store.slots
+  pub slots : wishes + parts_at_most (grid_state t.regions) wishes ≤ t.store.slots
   pub tickets : 1 ≤ room_in t.tickets
-  pub places : vec_len t.agenda + (wishes + 1820) + early ≤ vec_capacity t.agenda
+  pub places : vec_len t.agenda + (wishes + parts_at_most (grid_state t.regions) wishes) + early ≤ vec_capacity t.agenda
   pub empty : accepts.items ≡ []
   pub answers : wishes ≤ vec_capacity accepts
 

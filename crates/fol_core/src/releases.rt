@@ -4,22 +4,28 @@ ghost use Rattle.std.specs.Prelude.{◌≡◌, ◌+◌, ◌≤◌, ◌<◌, ◌^
 ghost use Rattle.fol_model.specs.End.{run_down};
 ghost use Rattle.fol_laws.specs.LateBegin.{wishes_touch};
 ghost use Rattle.fol_core.specs.Ahead.{Spares};
+ghost use Rattle.fol_regions.specs.Table.{grid_state};
 ghost use Rattle.fol_world.specs.AtEnd.{end_event};
 ghost use Rattle.fol_core.specs.Meaning.{ForEnd, Records, Stays, world_of};
 ghost use Rattle.fol_core.specs.Room.{HasGrownToEnd, HasEndRoom, room_of};
+ghost use Rattle.fol_world.specs.MostParts.{parts_at_most as most_parts};
 ghost use Rattle.fol_world.specs.Same.{SameTables};
 ghost use Rattle.fol_core.specs.Ticks.{IsOut, IsReadyToRelease, SameTick};
 
 use crate::entries::{Answers, EventBox, record_in};
 use crate::machine::{Core, Room};
 use fol_data::Tick;
-use fol_model::PackedEntry;
+use fol_model::{MOST_SECTIONS, PackedEntry};
+use fol_regions::Regions;
 use fol_world::ends::end_tick;
 use fol_world::tables::{MOST, Tables, grow_store, grow_tickets};
 use std::alloc::{AllocError, Global};
 
-/// How many parts a region can fall into at most.
-const PARTS: u64 = 1820;
+/// How many sections a hold adds at most: those of a square with 17 a side.
+const SQUARE: u64 = 289;
+
+/// How many sections a part of a region has at least.
+const LEAST: u64 = 9;
 
 /// How many wishes a tick may have, so that the regions that they make can be counted.
 const WISHES: u64 = u32::MAX as u64;
@@ -166,8 +172,8 @@ fn answers_for(room: Option<Room>, tick: &Tick) -> Option<Answers>
     }
 }
 
-/// Takes the memory for the End of a tick, for a Stop after it, and for the Begins of so many prepared regions: that of the entries, and
-/// of what its wishes make.
+/// Takes the memory for the End of a tick, for a Stop after it, and for the Begins of so many prepared regions: that of the entries, of
+/// what its wishes make, and of the parts into which its region can fall.
 fn grow_to_end(
     alloc: Global,
     tables: &mut Tables,
@@ -195,13 +201,23 @@ fn grow_to_end(
     history.reserve(2 + early as usize)?;
     let accepts = Answers::with_capacity(alloc, left, asked)?;
     tables.regions.reserve(asked as u32 + 1)?;
-    grow_store(&mut tables.store, asked as u64, asked as u64 + PARTS)?;
+    let parts = parts_at_most(&tables.regions, asked as u32);
+    grow_store(&mut tables.store, asked as u64, asked as u64 + parts)?;
     grow_tickets(&mut tables.tickets)?;
     tables
         .agenda
-        .reserve(asked + PARTS as usize + early as usize)?;
+        .reserve(asked + parts as usize + early as usize)?;
     if asked > 0 {
         tick.body.chunks.reserve(asked as u64)?;
     }
     Ok(accepts)
+}
+
+/// How many parts the release of a region makes at most, after so many more holds.
+fn parts_at_most(regions: &Regions, holds: u32) -> u64
+    ensures few { result ≤ 1820 }
+    ensures parts { result ≡ most_parts (grid_state regions.now) holds }
+{
+    let sections = regions.present_count() as u64 + SQUARE * holds as u64;
+    sections.min(MOST_SECTIONS as u64) / LEAST
 }

@@ -20,6 +20,17 @@ use Rattle.fol_laws.proofs.AddTarget.{near_has, target_pos, target_below, extend
 use Rattle.fol_laws.proofs.AddEffect.{state_target, state_stays, waits_target, waits_stays, lives_after, owner_after, target_awaits, ticking_stays, target_transient, target_lives, waits_after, stays_owner, size_grows, target_owner, loaded_after, present_after, around_present, around_target, beside}
 
 module _ (g : GridState) (c : ChunkPos) (rules : Rules g) (ok : IsGrid g.grid) (limits : is_chunk c ≡ true) where
+  -- the wanted sections come, and no other
+  present_extended : present_count (extended g c) ≤ present_count g + wanted g c
+  unfolding wanted
+  present_extended = count_by-or (is_present (extended g c)) (is_present g) (is_wanted g c) (λ s h. elim (cases_Bool (is_wanted g c s)) [
+    | inl w ↦ or_right _ _ w
+    | inr w ↦ or_left _ _ (elim (cases_Bool (is_near_calm g c (g.owner s))) [
+      | inl k ↦ lt-ltb 0 _ (near_has g c rules ok limits (g.owner s) (and_parts (is_near g c (g.owner s)) _ k).0).0
+      | inr k ↦ let same : (extended g c).owner s ≡ g.owner s = rw (w, k) refl in rw same at h
+    ])
+  ]) all_sections
+
   pub extended_keeps : is_full g c ≡ false → 0 < wanted g c → Rules (extended g c)
   unfolding is_full wanted
   extended_keeps room some = record {
@@ -42,16 +53,7 @@ module _ (g : GridState) (c : ChunkPos) (rules : Rules g) (ok : IsGrid g.grid) (
           let e = eqb-true _ _ s.1 in
           some_section-is _ s.0 (rules.section_limits s.0 (rw e p)) (eq-eqb _ _ (stays_owner g c rules ok limits s.0 r e p k.0))
     ];
-    count = let a = count_by-or (is_present (extended g c)) (is_present g) (is_wanted g c) (λ s h. elim (cases_Bool (is_wanted g c s)) [
-      | inl w ↦ or_right _ _ w
-      | inr w ↦ or_left _ _ (elim (owner_after g c rules ok limits s (ltb-true _ _ h)) [
-        | inl e ↦ elim (cases_Bool (is_near_calm g c (g.owner s))) [
-          | inl k ↦ lt-ltb 0 _ (near_has g c rules ok limits (g.owner s) (and_parts (is_near g c (g.owner s)) _ k).0).0
-          | inr k ↦ let same : (extended g c).owner s ≡ g.owner s = rw (w, k) refl in rw same at h
-        ]
-        | inr k ↦ lt-ltb 0 _ k.present
-      ])
-    ]) all_sections in
+    count = let a = present_extended in
         let b : present_count g + wanted g c ≤ 16384 = ltb-false 16384 (present_count g + wanted g c) room in
         omega arith;
     margin = λ q s h d. elim (loaded_after g c rules ok limits q h) [
@@ -145,4 +147,11 @@ module _ (g : GridState) (c : ChunkPos) (rules : Rules g) (ok : IsGrid g.grid) (
       | inl n ↦ let k : nat_eq (wanted g c) 0 ≡ true = eq-eqb _ _ n in rw (e, k) (counted_keeps n)
       | inr n ↦ let k : nat_eq (wanted g c) 0 ≡ false = ne_eqb _ _ n in rw (e, k) (extended_keeps e (omega arith))
     ]
+  ]
+
+  pub present_add : present_count (add g c) ≤ present_count g + wanted g c
+  unfolding add
+  present_add = elim (cases_Bool (is_full g c)) [
+    | inl f ↦ rw f (omega arith)
+    | inr f ↦ elim (cases_Bool (nat_eq (wanted g c) 0)) [ inl k ↦ rw (f, k) (omega arith) | inr k ↦ rw (f, k) present_extended ]
   ]

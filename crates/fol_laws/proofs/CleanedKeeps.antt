@@ -1,11 +1,11 @@
 -- The end of a tick keeps the rules where dead sections leave and what is left falls into parts.
-use Rattle.std.proofs.Common.{◌≡◌, ℕ, sym, ◌∙◌, arith, true, false, inl, inr}
+use Rattle.std.proofs.Common.{◌≡◌, ℕ, ◌≤◌, sym, ◌∙◌, arith, true, false, inl, inr}
 use Rattle.std.specs.Prelude.{nat_eq}
 use Rattle.std.proofs.lemmas.Bool.{or_left, true≢false, and_from, eqb-true, eq-eqb, ne_eqb, ltb-true, lt-ltb}
 use Rattle.fol_model.specs.declared.regions.State.TheVariants.{Ready, Ticking}
 use Rattle.fol_model.specs.GridNumbers.{IsGrid}
 use Rattle.fol_model.specs.Universe.{all_sections}
-use Rattle.fol_model.specs.GridState.{GridState, is_present}
+use Rattle.fol_model.specs.GridState.{GridState, is_present, present_count}
 use Rattle.fol_model.specs.Release.{joined_owner, joined_waits, must_wait, remains, cleaned}
 use Rattle.fol_model.specs.Rules.{Rules}
 use Rattle.fol_laws.proofs.Distances.{distance_swap}
@@ -16,6 +16,10 @@ use Rattle.fol_laws.proofs.Joins as joins
 use Rattle.fol_laws.proofs.CleanedGrid.{none_pass, grows, margin_from, remains_owner, part_id_same, part_pos, part_below_next, cleaned_next, part_ready, state_apart, lives_cleaned, stays_in_part, stays_apart, owner_cleaned, was_present, part_nine, apart_size}
 
 module _ (g : GridState) (t : ℕ) (rules : Rules g) (ok : IsGrid g.grid) (ticks : g.state t ≡ Ticking) (free : must_wait g t ≡ false) where
+  -- no section comes
+  pub present_cleaned : present_count (cleaned g t) ≤ present_count g
+  present_cleaned = count_by-mono (is_present (cleaned g t)) (is_present g) (λ s h. lt-ltb 0 _ (was_present g t rules ok ticks free s (ltb-true _ _ h))) all_sections
+
   pub cleaned_keeps : Rules (cleaned g t)
   cleaned_keeps = record {
     section_limits = λ s p. rules.section_limits s (was_present g t rules ok ticks free s p);
@@ -32,7 +36,7 @@ module _ (g : GridState) (t : ℕ) (rules : Rules g) (ok : IsGrid g.grid) (ticks
           let n : nat_eq (joined_owner g t s.0) t ≡ false = ne_eqb _ _ (λ x. k.0.differs (sym o ∙ x)) in
           some_section-is (λ s. nat_eq ((cleaned g t).owner s) r) s.0 (rules.section_limits s.0 (rw e (rules.given r k.1))) (eq-eqb _ _ (rw n e))
     ];
-    count = let m = count_by-mono (is_present (cleaned g t)) (is_present g) (λ s h. lt-ltb 0 _ (was_present g t rules ok ticks free s (ltb-true _ _ h))) all_sections in let c = rules.count in omega arith;
+    count = let m = present_cleaned in let c = rules.count in omega arith;
     margin = λ q s h d.
         let p = rules.margin q s h d in
         elim (joins.owner_joined g t rules ticks s) [

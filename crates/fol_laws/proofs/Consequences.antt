@@ -9,7 +9,7 @@ use Rattle.fol_model.specs.declared.regions.State.TheVariants.{Transient, Ready,
 use Rattle.fol_model.specs.Geometry.{distance, section_of}
 use Rattle.fol_model.specs.GridNumbers.{IsGrid}
 use Rattle.fol_model.specs.Universe.{all_sections, count_sections}
-use Rattle.fol_model.specs.GridState.{GridState, is_ready, is_ticking, is_present, size}
+use Rattle.fol_model.specs.GridState.{GridState, is_ready, is_ticking, is_present, present_count, size}
 use Rattle.fol_model.specs.Counting.{count_below}
 use Rattle.fol_model.specs.Rules.{Rules}
 use Rattle.fol_laws.specs.Consequences.{ReadyHasMargin, TickingApart, NoneWaits, FewLive}
@@ -84,7 +84,10 @@ module _ (g : GridState) (rules : Rules g) where
         rw e (omega (arith, nine_each n))
   ]
 
+  -- the regions that are Ready or Ticking have nine sections each
+  pub nine_live : 9 * count_below (λ r. is_ready (g.state r) || is_ticking (g.state r)) g.next ≤ present_count g
+  nine_live = let a = nine_each g.next in
+      let b = count_by-mono (λ s. nat_lt 0 (g.owner s) && nat_lt (g.owner s) g.next) (is_present g) (λ s h. (and_parts (nat_lt 0 (g.owner s)) _ h).0) all_sections in omega arith
+
   pub few_live : FewLive g
-  few_live = let a = nine_each g.next in
-      let b = count_by-mono (λ s. nat_lt 0 (g.owner s) && nat_lt (g.owner s) g.next) (is_present g) (λ s h. (and_parts (nat_lt 0 (g.owner s)) _ h).0) all_sections in
-      let c = rules.count in omega arith
+  few_live = let a = nine_live in let c = rules.count in omega arith

@@ -86,7 +86,7 @@ next_begun : (w : World) (worker r : ℕ) → w.grid.next ≤ (begun w worker r)
 unfolding begun begin
 next_begun w worker r = omega arith
 
-grid_put_back : (w : World) (a : Action) (b : Option BlockPos) → (put_back w a b).grid ≡ w.grid
+pub grid_put_back : (w : World) (a : Action) (b : Option BlockPos) → (put_back w a b).grid ≡ w.grid
 grid_put_back w (action.Set at id) b = refl
 grid_put_back w (action.Copy at to) b = refl
 grid_put_back w (action.Load c) b = refl

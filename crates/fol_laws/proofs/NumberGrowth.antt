@@ -15,7 +15,7 @@ use Rattle.fol_model.specs.declared.events.Event.TheVariants.{Load, Unload, Post
 use Rattle.fol_model.specs.declared.events.Entry.{Entry}
 use Rattle.fol_model.specs.declared.openings.Opening.{Opening}
 use Rattle.fol_model.specs.GridNumbers.{IsGrid}
-use Rattle.fol_model.specs.GridState.{GridState, is_ready, is_ticking}
+use Rattle.fol_model.specs.GridState.{GridState, is_ready, is_ticking, present_count}
 use Rattle.fol_model.specs.Counting.{count_below}
 use Rattle.fol_model.specs.Add.{add, is_full, wanted, target}
 use Rattle.fol_model.specs.Begin.{begin}
@@ -28,7 +28,7 @@ use Rattle.fol_model.specs.QueuedTask.{begun}
 use Rattle.fol_model.specs.End.{dropped, ticked, put_back, accepted, all_accepted, answers, released, run_down, ended}
 use Rattle.fol_model.specs.Run.{after, after_all, Allowed, RunFrom}
 use Rattle.fol_laws.specs.Growth.{ends_in, ends, answers_in, answered}
-use Rattle.fol_laws.proofs.Consequences.{few_live}
+use Rattle.fol_laws.proofs.Consequences.{nine_live}
 use Rattle.fol_laws.proofs.ReleaseKeeps.{release_keeps}
 use Rattle.fol_laws.proofs.SoundState.{SoundWorld}
 use Rattle.fol_laws.proofs.SoundRuns.{Ending, all_accepted_ending, run_down_ending, wishes_ok, after_keeps, start_sound}
@@ -54,15 +54,16 @@ module _ (g : GridState) (t : ℕ) (free : must_wait g t ≡ false) (cleaning : 
   unfolding release
   part_ready i l m = let p : is_part_id g t i ≡ true = and_from _ _ several (and_from (nat_le g.next i) _ (le-leb _ _ l) (lt-ltb _ _ m)) in rw (free, cleaning, p) refl
 
-  parts_few : Rules (release g t) → parts g t ≤ 1820
-  parts_few rules =
+  -- each part has nine sections
+  pub nine_parts : Rules (release g t) → 9 * parts g t ≤ present_count (release g t)
+  nine_parts rules =
       let live : ℕ → Bool = λ r. is_ready ((release g t).state r) || is_ticking ((release g t).state r) in
-      let few : count_below live (release g t).next ≤ 1820 = few_live (release g t) rules in
-      let here : count_below live (g.next + parts g t) ≤ 1820 = rw next_is at few in
+      let few : 9 * count_below live (release g t).next ≤ present_count (release g t) = nine_live (release g t) rules in
+      let here : 9 * count_below live (g.next + parts g t) ≤ present_count (release g t) = rw next_is at few in
       let k = count_last live g.next (parts g t) (λ i l m. let e = part_ready i l m in rw e refl) in omega arith
 
   several_next : Rules (release g t) → (release g t).next ≤ g.next + 1820
-  several_next rules = let a = next_is in let b = parts_few rules in omega arith
+  several_next rules = let a = next_is in let b = nine_parts rules in let c = rules.count in omega arith
 
 held_next : (g : GridState) (t : ℕ) → must_wait g t ≡ true → (release g t).next ≤ g.next + 1820
 unfolding release

@@ -61,11 +61,11 @@ module _ (f : Bool) (p w : ℕ) where
     ]
   ]
 
-module _ (s : sections.Table) (b : Book) (presence : IsPresence s b) (c : ChunkPos) where
-  pub present_same : sections.present_count s ≡ grid.present_count (grid_of s b)
-  unfolding grid_of sections.present_count
-  present_same = count_like (presence_of s) (λ q. nat_lt 0 (owner_of b q)) presence all_sections
+pub present_same : (s : sections.Table) (b : Book) → IsPresence s b → sections.present_count s ≡ grid.present_count (grid_of s b)
+unfolding grid_of sections.present_count
+present_same s b presence = count_like (presence_of s) (λ q. nat_lt 0 (owner_of b q)) presence all_sections
 
+module _ (s : sections.Table) (b : Book) (presence : IsPresence s b) (c : ChunkPos) where
   pub missing_same : (q : SectionPos) → is_missing s c q ≡ is_wanted (grid_of s b) c q
   unfolding grid_of is_missing
   missing_same q = ap (λ x. not x && is_within (section_of s.grid c) s.grid.create q) (presence q)
@@ -76,12 +76,12 @@ module _ (s : sections.Table) (b : Book) (presence : IsPresence s b) (c : ChunkP
 
   pub full_same : is_full_for s c ≡ is_full (grid_of s b) c
   unfolding is_full_for is_full
-  full_same = λ i. nat_lt 16384 (present_same i + wanted_same i)
+  full_same = λ i. nat_lt 16384 (present_same s b presence i + wanted_same i)
 
   -- ---- what the answers say
   pub full_says : (p w : ℕ) → added s c ≡ answers.Full p w → (is_full (grid_of s b) c ≡ true) × ((p ≡ grid.present_count (grid_of s b)) × (w ≡ wanted (grid_of s b) c))
   unfolding added
-  full_says p w e = let x = was_full (is_full_for s c) (sections.present_count s) (missing_count s c) p w e in (sym full_same ∙ x.0, (x.1.0 ∙ present_same, x.1.1 ∙ wanted_same))
+  full_says p w e = let x = was_full (is_full_for s c) (sections.present_count s) (missing_count s c) p w e in (sym full_same ∙ x.0, (x.1.0 ∙ present_same s b presence, x.1.1 ∙ wanted_same))
 
   pub counted_says : added s c ≡ answers.Counted → (is_full (grid_of s b) c ≡ false) × (nat_eq (wanted (grid_of s b) c) 0 ≡ true)
   unfolding added

@@ -4,7 +4,7 @@ ghost use Rattle.std.specs.Prelude.{◌≡◌, ℕ, ◌+◌, ◌≤◌, ◌<◌,
 ghost use Rattle.std.specs.Vec.{vec_capacity};
 ghost use Rattle.fol_model.specs.declared.regions.State.TheVariants.{Ready, Ticking};
 ghost use Rattle.fol_model.specs.Geometry.{is_chunk, is_section};
-ghost use Rattle.fol_model.specs.GridState.{empty, is_dead};
+ghost use Rattle.fol_model.specs.GridState.{empty, is_dead, present_count};
 ghost use Rattle.fol_model.specs.Universe.{all_sections, all_chunks, numbers_below};
 ghost use Rattle.fol_model.specs.Add.{add};
 ghost use Rattle.fol_model.specs.Begin.{begin};
@@ -158,6 +158,13 @@ impl Regions {
         ensures { result ≡ self.now.spare }
     {
         self.spare
+    }
+
+    /// How many sections are present.
+    pub fn present_count(&self) -> u32
+        ensures { result ≡ present_count (grid_state self.now) }
+    {
+        self.sections.count()
     }
 
     /// Adds a hold on a chunk, which has at most 2^62 holds; `spare` is at least 1. Takes no memory.

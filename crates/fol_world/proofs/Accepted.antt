@@ -38,11 +38,13 @@ use Rattle.fol_world.specs.Agenda.{Covers}
 use Rattle.fol_world.specs.Bags.{IsBagOf, StoredIn}
 use Rattle.fol_world.specs.Follows.{Holds}
 use Rattle.fol_world.specs.Hands.{at_rest, in_hands}
+use Rattle.fol_world.specs.MostParts.{parts_at_most}
 use Rattle.fol_world.specs.Posts.{CanQueue, LeavesRoom, Queues}
 use Rattle.fol_world.specs.Returned.{StandsNowhere, returned}
 use Rattle.fol_world.specs.Underway.{HasRoomFor, IsFree, Underway}
 use Rattle.fol_world.proofs.Accepting.{covers_stirred, few_made, grid_stays, held_bags, held_next, new_next, next_grows, post_hands, post_jobs, post_kept, stirred_bag}
 use Rattle.fol_world.proofs.Flats.{flat_ext}
+use Rattle.fol_world.proofs.MostParts.{added_few, parts_less}
 use Rattle.fol_world.proofs.ReleasedHands.{in_hands_there}
 use Rattle.fol_world.proofs.RunDown.{outside_same}
 
@@ -96,13 +98,13 @@ unfolding owed_after_add
 owed_full g c owed f = fun_ext (λ r. rw f refl)
 
 -- ---- the memory that is left
-pub room_less : (t u : Tables) (v k : Contents) (made n : ℕ) → HasRoomFor t v (n + 1) → LeavesRoom t u made → made ≤ 1 → u.tickets ≡ t.tickets → t.store.spare ≤ u.store.spare → v.spare ≤ k.spare + 1 → HasRoomFor u k n
-room_less t u v k made n room left few tickets spare entities = record {
+pub room_less : (t u : Tables) (v k : Contents) (made n : ℕ) → HasRoomFor t v (n + 1) → LeavesRoom t u made → made ≤ 1 → parts_at_most (grid_state u.regions) n ≤ parts_at_most (grid_state t.regions) (n + 1) → u.tickets ≡ t.tickets → t.store.spare ≤ u.store.spare → v.spare ≤ k.spare + 1 → HasRoomFor u k n
+room_less t u v k made n room left few parts tickets spare entities = record {
   regions = omega (arith, room.regions, left.regions);
   tasks = omega (arith, room.tasks, spare);
-  slots = omega (arith, room.slots, left.slots, few);
+  slots = omega (arith, room.slots, left.slots, few, parts);
   tickets = rw tickets room.tickets;
-  agenda = omega (arith, room.agenda, left.agenda.len, left.agenda.capacity);
+  agenda = omega (arith, room.agenda, left.agenda.len, left.agenda.capacity, parts);
   entities = omega (arith, room.entities, entities);
 }
 
@@ -122,6 +124,10 @@ module _ (t : Tables) (v : Contents) (w : World) (since : ℕ → ℕ) (r n : �
 
   now : grid_state t'.regions ≡ add w.grid x.chunk
   now = holds.regions ∙ ap (λ (g : GridState). add g x.chunk) u.midway.regions
+
+  few_parts : parts_at_most (grid_state t'.regions) n ≤ parts_at_most (grid_state t.regions) (n + 1)
+  few_parts = let added = added_few w.grid x.chunk u.ends.ending.sound.rules u.ends.ending.sound.grid ok.chunk in
+      rw (now, u.midway.regions) (parts_less w.grid (add w.grid x.chunk) n (n + 1) (omega (arith, added)))
 
   bags_now : (q : ℕ) → IsBagOf (add w.grid x.chunk) w.tick (owed_after_add w.grid x.chunk w.owed) w.recorded q (bag_of t'.store q)
   bags_now = held_bags t v w since r n u x.chunk ok.chunk (bag_of t'.store) (rw holds.regions at holds.bags)
@@ -181,7 +187,7 @@ module _ (t : Tables) (v : Contents) (w : World) (since : ℕ → ℕ) (r n : �
         few_jobs = omega (arith, u.ends.few_jobs);
         few_tickets = u.ends.few_tickets;
       };
-      room = room_less t t' v v' _ n u.room left few tickets holds.spare spare;
+      room = room_less t t' v v' _ n u.room left few few_parts tickets holds.spare spare;
       contents = back ∙ ap (λ (f : Flat). returned f x.action x.back) u.contents ∙ back_within rec w.flat x.action x.back ok.back;
     }
 
@@ -254,9 +260,9 @@ module _ (t : Tables) (v : Contents) (w : World) (since : ℕ → ℕ) (r n : �
       room = record {
         regions = let e = queues.regions in rw e (omega (arith, u.room.regions, left.regions));
         tasks = omega (arith, u.room.tasks, holds.spare, queues.spare);
-        slots = omega (arith, u.room.slots, left.slots, few, queues.slots);
+        slots = let e = queues.regions in rw e (omega (arith, u.room.slots, left.slots, few, few_parts, queues.slots));
         tickets = let e = queues.tickets ∙ tickets in rw e u.room.tickets;
-        agenda = let e = queues.agenda in rw e (omega (arith, u.room.agenda, left.agenda.len, left.agenda.capacity));
+        agenda = let e = queues.agenda in let q = queues.regions in rw (e, q) (omega (arith, u.room.agenda, left.agenda.len, left.agenda.capacity, few_parts));
         entities = omega (arith, u.room.entities);
       };
       contents = u.contents;

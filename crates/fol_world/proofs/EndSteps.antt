@@ -1,5 +1,5 @@
 -- The steps of an End: what each needs, and what the tables stand for after it.
-use Rattle.std.proofs.Common.{◌≡◌, ℕ, ◌+◌, ◌≤◌, ◌<◌, ◌^◌, refl, sym, ◌∙◌, ap, arith, true, inl, inr, List, [], ◌∷◌, ◌++◌, length, ◌||◌, vec_len, vec_capacity}
+use Rattle.std.proofs.Common.{◌≡◌, ℕ, ◌+◌, ◌*◌, ◌≤◌, ◌<◌, ◌^◌, refl, sym, ◌∙◌, ap, arith, true, inl, inr, List, [], ◌∷◌, ◌++◌, length, ◌||◌, vec_len, vec_capacity}
 use Rattle.std.specs.Prelude.{nat_eq, nat_lt, if◌then◌else◌, filter, Option, Some, None, IsTrue}
 use Rattle.std.specs.List.{AllByRecursion}
 use Rattle.std.specs.Option.{ForSome, is_none, option_or}
@@ -14,7 +14,7 @@ use Rattle.fol_model.specs.declared.events.Accept.{Accept}
 use Rattle.fol_model.specs.declared.events.Entry.{Entry}
 use Rattle.fol_model.specs.declared.events.Event.TheVariants.{End}
 use Rattle.fol_model.specs.Geometry.{chunk_of}
-use Rattle.fol_model.specs.GridState.{GridState, is_ticking}
+use Rattle.fol_model.specs.GridState.{GridState, is_ticking, present_count}
 use Rattle.fol_model.specs.Universe.{all_chunks}
 use Rattle.fol_model.specs.Outputs.{is_chunk_of}
 use Rattle.fol_model.specs.Counters.{owed_after_release, tick_after_release}
@@ -51,6 +51,7 @@ use Rattle.fol_world.specs.AtEnd.{end_event, AtEnd}
 use Rattle.fol_world.specs.Bags.{KeepsUp}
 use Rattle.fol_world.specs.CatchingUp.{AreHeld}
 use Rattle.fol_world.specs.Hands.{at_rest, in_hands, since}
+use Rattle.fol_world.specs.MostParts.{parts_at_most}
 use Rattle.fol_world.specs.Follows.{Settle}
 use Rattle.fol_world.specs.Released.{CanEnd, CanRelease, DropsHolds, EndsRegion, Loosens, heirs, parts_in, released_bags}
 use Rattle.fol_world.proofs.ReturnedBags.{back_joins, back_order, returned_settle}
@@ -61,6 +62,7 @@ use Rattle.fol_world.proofs.BackTasks.{apart, end_queue, in_time, tasks_apart}
 use Rattle.fol_world.proofs.Flats.{flat_ext}
 use Rattle.fol_world.proofs.Held.{ends_most}
 use Rattle.fol_world.proofs.Longer.{good_of}
+use Rattle.fol_world.proofs.MostParts.{all_wished_few, parts_enough, parts_less}
 use Rattle.fol_laws.proofs.ReleaseKeeps.{grid_release}
 use Rattle.fol_world.proofs.OwedKept.{all_owe}
 use Rattle.fol_world.proofs.ReleasedHands.{flat_back, in_hands_there, jobs_back}
@@ -198,6 +200,10 @@ module _ (t : Tables) (tick : Tick) (o : Opening) (h : List Entry) (s : Stands o
         course = let e = drops.course in rw e (record { next_job = s.fits.course.next_job; in_phase = s.fits.course.in_phase; sum = s.fits.course.sum; stopped = s.fits.course.stopped; finished = s.fits.course.finished });
       }
 
+      few_parts : parts_at_most (grid_state t1.regions) (length tick.log.wishes + 0) ≤ parts_at_most (grid_state t.regions) (length tick.log.wishes)
+      unfolding dropped
+      few_parts = let e = now in let f = s.fits.regions in rw (e, f) (parts_less w.grid v.grid _ _ (omega arith))
+
       pub first : Underway t1 tick.body.chunks v (since o h) r (length tick.log.wishes + 0)
       unfolding dropped
       first = record {
@@ -206,9 +212,9 @@ module _ (t : Tables) (tick : Tick) (o : Opening) (h : List Entry) (s : Stands o
         room = record {
           regions = omega (arith, memory.regions, drops.spare);
           tasks = omega (arith, memory.tasks, drops.tasks);
-          slots = omega (arith, memory.slots, drops.slots);
+          slots = omega (arith, memory.slots, drops.slots, few_parts);
           tickets = let e = drops.tickets in rw e memory.tickets;
-          agenda = let e = drops.agenda in rw e (omega (arith, memory.agenda));
+          agenda = let e = drops.agenda in rw e (omega (arith, memory.agenda, few_parts));
           entities = omega (arith, memory.entities);
         };
         contents = at.contents;
@@ -322,13 +328,16 @@ module _ (t : Tables) (tick : Tick) (o : Opening) (h : List Entry) (s : Stands o
     back_follows : (bag_of t2.store r).listed ≡ true → KeepsUp (bag_of t2.store r) (filter (is_chunk_of g r) all_chunks)
     back_follows w = (u.midway.stored.bags r).listed (λ d. let x : Ticking ≡ Dead = sym u.ends.ending.ticks ∙ d in absurd (cc)) w
 
+    parts_few : length (parts_in (release g r) (release_change g r) r) ≤ parts_at_most (grid_state t2.regions) 0
+    parts_few = rw u.midway.regions (parts_enough g g _ 0 to.few u.ends.ending.sound.rules (omega arith))
+
     can_now : CanRelease t2.store t2.agenda.items g r (z.tick r) (z.owed r)
     can_now = record {
       joins = λ b is. back_joins g r u.ends.ending.sound.rules u.ends.ending.sound.grid u.ends.ending.ticks z.tick z.owed z.recorded (bag_of t2.store) u.midway.stored.bags b is (release_change g r).merges to.joins;
       order = back_order g r u.ends.ending.sound.rules u.ends.ending.sound.grid u.ends.ending.ticks z.tick z.owed z.recorded (bag_of t2.store) u.midway.stored.bags;
       settles = returned_settle g r u.ends.ending.sound.rules u.ends.ending.sound.grid u.ends.ending.ticks z.tick z.owed z.recorded (bag_of t2.store) u.midway.stored.bags;
       follow = rw u.midway.stored.next to.follow;
-      slots = omega (arith, to.few, u.room.slots);
+      slots = omega (arith, parts_few, u.room.slots);
       bags = have_bags (release g r) (tick_after_release g r z.tick) (owed_after_release g r z.owed) z.recorded (released_bags (release g r) (release_change g r) r (z.tick r) (z.owed r) (bag_of t2.store)) to.bags;
       covers = to.covers t2.agenda.items u.midway.covers;
     }
@@ -336,8 +345,16 @@ module _ (t : Tables) (tick : Tick) (o : Opening) (h : List Entry) (s : Stands o
     pub can_release : CanRelease t2.store t2.agenda.items (grid_state t2.regions) r (tick.body.tick + 1) tick.body.owed
     can_release = rw (u.midway.regions, counter_now, owed_now) can_now
 
-    pub heirs_few : length (heirs (release (grid_state t2.regions) r) (release_change (grid_state t2.regions) r) r) ≤ 1820
-    heirs_few = rw u.midway.regions to.few_heirs
+    heirs_few : length (heirs (release (grid_state t2.regions) r) (release_change (grid_state t2.regions) r) r) ≤ parts_at_most (grid_state t2.regions) 0
+    heirs_few = rw u.midway.regions (parts_enough g g _ 0 to.few_heirs u.ends.ending.sound.rules (omega arith))
+
+    -- the sections are those that were there before, and those that the wishes added
+    present_now : present_count g ≤ present_count w.grid + 289 * length tick.log.wishes
+    unfolding dropped
+    present_now = all_wished_few (w.recorded r) v tick.log.wishes r down_ending all_ok
+
+    pub heirs_foreseen : length (heirs (release (grid_state t2.regions) r) (release_change (grid_state t2.regions) r) r) ≤ parts_at_most (grid_state t.regions) (length tick.log.wishes)
+    heirs_foreseen = rw (u.midway.regions, s.fits.regions) (parts_enough w.grid g _ _ to.few_heirs u.ends.ending.sound.rules present_now)
 
     pub agenda_room : vec_len t2.agenda + length (heirs (release (grid_state t2.regions) r) (release_change (grid_state t2.regions) r) r) ≤ vec_capacity t2.agenda
     agenda_room = omega (arith, heirs_few, u.room.agenda)

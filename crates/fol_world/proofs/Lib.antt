@@ -13,6 +13,7 @@ pub mod OpenedBags
 pub mod ReleasedHands
 pub mod ReleasedBags
 pub mod PartIds
+pub mod MostParts
 pub mod Added
 pub mod HeldAgain
 pub mod SinceRuns

@@ -1,18 +1,17 @@
--- The ids of the parts follow one another, and are few.
-use Rattle.std.proofs.Common.{◌≡◌, ℕ, zero, suc, ◌+◌, ◌≤◌, ◌<◌, refl, ◌∙◌, ap, arith, Bool, true, false, ◌||◌, ◌&&◌, inl, inr, List, [], ◌∷◌, ◌++◌, length, length-append}
-use Rattle.std.specs.Prelude.{nat_le, nat_lt, filter, if◌then◌else◌}
-use Rattle.std.proofs.lemmas.Bool.{cases_Bool, and_from, le-leb, lt-ltb, leb-true, false_from_ne_true, and_parts}
+-- The ids of the parts follow one another, and each part has nine sections.
+use Rattle.std.proofs.Common.{◌≡◌, ℕ, zero, suc, ◌+◌, ◌*◌, ◌≤◌, ◌<◌, refl, ◌∙◌, ap, arith, Bool, true, false, ◌||◌, ◌&&◌, inl, inr, List, [], ◌∷◌, ◌++◌, length, length-append}
+use Rattle.std.specs.Prelude.{nat_eq, nat_le, nat_lt, filter, if◌then◌else◌}
+use Rattle.std.proofs.lemmas.Bool.{cases_Bool, and_from, le-leb, lt-ltb, eqb-true, leb-true, false_from_ne_true, and_parts}
 use Rattle.std.proofs.lemmas.List.Elements.{filter-append}
-use Rattle.fol_model.specs.Counting.{count_below}
 use Rattle.fol_model.specs.GridNumbers.{IsGrid}
-use Rattle.fol_model.specs.GridState.{GridState, is_ready, is_ticking}
-use Rattle.fol_model.specs.declared.regions.State.TheVariants.{Ready, Ticking}
+use Rattle.fol_model.specs.GridState.{GridState, is_present, present_count}
+use Rattle.fol_model.specs.declared.regions.State.TheVariants.{Ticking}
 use Rattle.fol_model.specs.Release.{release, must_wait, cleans, is_part_id, parts}
 use Rattle.fol_model.specs.Rules.{Rules}
-use Rattle.fol_model.specs.Universe.{numbers_below}
-use Rattle.fol_laws.proofs.Consequences.{few_live}
-use Rattle.fol_laws.proofs.CountBelow.{count_last}
-use Rattle.fol_laws.proofs.NumberGrowth.{next_is}
+use Rattle.fol_model.specs.Universe.{all_sections, numbers_below}
+use Rattle.fol_laws.proofs.CleanedKeeps.{present_cleaned}
+use Rattle.fol_laws.proofs.ListCounts.{count_by-mono}
+use Rattle.fol_laws.proofs.NumberGrowth.{nine_parts}
 use Rattle.fol_laws.proofs.ReleaseKeeps.{release_keeps}
 use Rattle.fol_regions.specs.Changes.{part_ids}
 use Rattle.fol_world.specs.Bags.{Follow}
@@ -71,18 +70,23 @@ module _ (g : GridState) (r : ℕ) where
     | inr two ↦ rw (two, none_at_all two) refl
   ]
 
-  part_ready : must_wait g r ≡ false → cleans g r ≡ true → nat_le 2 (parts g r) ≡ true → (i : ℕ) → g.next ≤ i → i < g.next + parts g r → (release g r).state i ≡ Ready
+  released_few : Rules g → IsGrid g.grid → g.state r ≡ Ticking → must_wait g r ≡ false → cleans g r ≡ true → present_count (release g r) ≤ present_count g
   unfolding release
-  part_ready free cleaning two i l m = let p : is_part_id g r i ≡ true = and_from _ _ two (and_from (nat_le g.next i) _ (le-leb _ _ l) (lt-ltb _ _ m)) in rw (free, cleaning, p) refl
+  released_few rules ok ticks free cleaning = rw (free, cleaning) (present_cleaned g r rules ok ticks free)
 
-  -- a release makes at most so many parts as regions can be Ready or Ticking
-  pub parts_few : Rules g → IsGrid g.grid → g.state r ≡ Ticking → must_wait g r ≡ false → cleans g r ≡ true → length (part_ids g r) ≤ 1820
-  parts_few rules ok ticks free cleaning = elim (cases_Bool (nat_le 2 (parts g r))) [
+  -- each part that a release makes has nine sections
+  pub nine_each : Rules g → IsGrid g.grid → g.state r ≡ Ticking → must_wait g r ≡ false → cleans g r ≡ true → 9 * length (part_ids g r) ≤ present_count g
+  nine_each rules ok ticks free cleaning = elim (cases_Bool (nat_le 2 (parts g r))) [
     | inl two ↦
-        let live : ℕ → Bool = λ q. is_ready ((release g r).state q) || is_ticking ((release g r).state q) in
-        let few : count_below live (release g r).next ≤ 1820 = few_live (release g r) (release_keeps g r rules ok ticks) in
-        let here : count_below live (g.next + parts g r) ≤ 1820 = rw (next_is g r free cleaning two) at few in
-        let k = count_last live g.next (parts g r) (λ i l m. let e = part_ready free cleaning two i l m in rw e refl) in
+        let nine = nine_parts g r free cleaning two (release_keeps g r rules ok ticks) in
+        let less = released_few rules ok ticks free cleaning in
         let c : length (part_ids g r) ≡ parts g r = parts_count ∙ rw two refl in omega arith
     | inr two ↦ let c : length (part_ids g r) ≡ 0 = parts_count ∙ rw two refl in omega arith
   ]
+
+  -- and so has the region itself
+  pub nine_own : Rules g → g.state r ≡ Ticking → 9 ≤ present_count g
+  nine_own rules ticks =
+      let some : 0 < r = rules.given r (λ d. cc) in
+      let nine = rules.nine_ticking r ticks in
+      let own = count_by-mono (λ s. nat_eq (g.owner s) r) (is_present g) (λ s h. let e : g.owner s ≡ r = eqb-true _ _ h in lt-ltb 0 _ (omega arith)) all_sections in omega arith

@@ -1,12 +1,12 @@
 -- All that follows in the store and in the stack when a region is released.
-use Rattle.std.proofs.Common.{◌≡◌, ◌≢◌, ℕ, ◌+◌, ◌≤◌, refl, sym, ◌∙◌, ap, arith, true, false, inl, inr, List, [], ◌∷◌, ◌++◌, length}
+use Rattle.std.proofs.Common.{◌≡◌, ◌≢◌, ℕ, ◌+◌, ◌*◌, ◌≤◌, refl, sym, ◌∙◌, ap, arith, true, false, inl, inr, List, [], ◌∷◌, ◌++◌, length}
 use Rattle.std.specs.Prelude.{nat_eq, nat_lt, nat_le}
 use Rattle.std.proofs.lemmas.Bool.{cases_Bool, cases_eq, eqb-true, eq-eqb, ne_eqb, and_parts, and_from, true≢false}
 use Rattle.fol_model.specs.declared.regions.State.{State}
 use Rattle.fol_model.specs.declared.regions.State.TheVariants.{Ticking, Dead}
 use Rattle.fol_model.specs.GridNumbers.{IsGrid}
 use Rattle.fol_model.specs.Counters.{owed_after_release, tick_after_release}
-use Rattle.fol_model.specs.GridState.{GridState, is_dead, is_ready}
+use Rattle.fol_model.specs.GridState.{GridState, is_dead, is_ready, present_count}
 use Rattle.fol_model.specs.Release.{release, must_wait, cleans, is_part_id, parts}
 use Rattle.fol_model.specs.ActionStep.{Recorded, at_id}
 use Rattle.fol_model.specs.Rules.{Rules}
@@ -16,15 +16,16 @@ use Rattle.fol_world.specs.Agenda.{Covers, owes}
 use Rattle.fol_world.specs.Bags.{CanJoin, Follow, IsBagOf, joined_bags}
 use Rattle.fol_world.specs.Released.{heirs, parted, parts_in, released_bags, returned_bag}
 use Rattle.fol_world.proofs.JoinedBags.{behind, in_front}
-use Rattle.fol_world.proofs.PartIds.{parts_count, parts_few, parts_follow}
+use Rattle.fol_world.proofs.PartIds.{nine_each, nine_own, parts_count, parts_follow}
 use Rattle.fol_world.proofs.ReleasedBags as rb
 
 -- ---- what holds of the bags k after the release of r, by which g became h
 pub record ReleasedTo (g h : GridState) (r : ℕ) (ch : Changes) (tick owed later left : ℕ → ℕ) (recorded : ℕ → Recorded) (f : ℕ → Bag) : Type 0 where
   pub joins : CanJoin ch.merges (at_id f r (returned_bag (tick r) (owed r) (f r)))
   pub follow : Follow g.next (parts_in h ch r)
-  pub few : length (parts_in h ch r) ≤ 1820
-  pub few_heirs : length (heirs h ch r) ≤ 1820
+  -- nine sections for each
+  pub few : 9 * length (parts_in h ch r) ≤ present_count g
+  pub few_heirs : 9 * length (heirs h ch r) ≤ present_count g
   pub next : h.next ≡ g.next + length (parts_in h ch r)
   pub bags : (q : ℕ) → IsBagOf h later left recorded q (released_bags h ch r (tick r) (owed r) f q)
   pub covers : (xs : List ℕ) → Covers xs g f → Covers (xs ++ heirs h ch r) h (released_bags h ch r (tick r) (owed r) f)
@@ -61,7 +62,7 @@ module _ (g : GridState) (r : ℕ) (rules : Rules g) (ok : IsGrid g.grid) (ticks
         joins = rw m (rb.all_can_join g r rules ok ticks tick owed recorded f bags);
         follow = rw d tt;
         few = rw d (omega arith);
-        few_heirs = rw d (omega arith);
+        few_heirs = rw d (nine_own g r rules ticks);
         next = rw d (n ∙ (omega arith));
         bags = λ q. rw same (is q);
         covers = λ xs cov q o. rw d (let o : owes h all q ≡ true = rw same at o in elim (cases_eq q r) [
@@ -120,8 +121,8 @@ module _ (g : GridState) (r : ℕ) (rules : Rules g) (ok : IsGrid g.grid) (ticks
       record {
         joins = rw merges (rb.all_can_join g r rules ok ticks tick owed recorded f bags);
         follow = rw (dead, ids) (parts_follow g r);
-        few = rw (dead, ids) (parts_few g r rules ok ticks w k);
-        few_heirs = rw (dead, ids) (parts_few g r rules ok ticks w k);
+        few = rw (dead, ids) (nine_each g r rules ok ticks w k);
+        few_heirs = rw (dead, ids) (nine_each g r rules ok ticks w k);
         next = rw (dead, ids) (elim (cases_Bool (nat_le 2 (parts g r))) [
           | inl two ↦ let c : length (part_ids g r) ≡ parts g r = count ∙ rw two refl in rw (w, k, two) (omega arith)
           | inr two ↦ let c : length (part_ids g r) ≡ 0 = count ∙ rw two refl in rw (w, k, two) (omega arith)

@@ -9,6 +9,7 @@ pub mod CatchingUp
 pub mod Released
 pub mod Parts
 pub mod Posts
+pub mod MostParts
 pub mod Underway
 pub mod Returned
 pub mod AtEnd

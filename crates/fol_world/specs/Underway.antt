@@ -15,6 +15,7 @@ use Rattle.fol_chunks.specs.Contents.{Contents, flat_of, within}
 use Rattle.fol_store.specs.Stock.{bag_of}
 use Rattle.fol_world.specs.declared.tables.Tables.{Tables}
 use Rattle.fol_world.specs.Hands.{owner_of}
+use Rattle.fol_world.specs.MostParts.{parts_at_most}
 use Rattle.fol_world.specs.Bags.{StoredIn}
 use Rattle.fol_world.specs.Agenda.{Covers}
 use Rattle.fol_world.specs.Stands.{AreTickets, IsCourse}
@@ -42,9 +43,9 @@ pub record Ends (w : World) (since : ℕ → ℕ) (r n : ℕ) : Type 0 where
 pub record HasRoomFor (t : Tables) (v : Contents) (n : ℕ) : Type 0 where
   pub regions : n + 1 ≤ t.regions.spare
   pub tasks : n ≤ t.store.spare
-  pub slots : n + 1820 ≤ t.store.slots
+  pub slots : n + parts_at_most (grid_state t.regions) n ≤ t.store.slots
   pub tickets : 1 ≤ room_in t.tickets
-  pub agenda : vec_len t.agenda + n + 1820 ≤ vec_capacity t.agenda
+  pub agenda : vec_len t.agenda + n + parts_at_most (grid_state t.regions) n ≤ vec_capacity t.agenda
   pub entities : n ≤ v.spare
 
 -- tables and contents are those of the world w, in which r ends its tick

@@ -25,6 +25,7 @@ ghost use Rattle.fol_world.specs.Bags.{AreInOrder, CanJoin, Joins};
 ghost use Rattle.fol_world.specs.AtEnd.{end_event, AtEnd};
 ghost use Rattle.fol_world.specs.Hands.{since};
 ghost use Rattle.fol_world.specs.MayEnd.{MayEnd};
+ghost use Rattle.fol_world.specs.MostParts.{parts_at_most};
 ghost use Rattle.fol_world.specs.Stands.{Fits, Stands};
 ghost use Rattle.fol_world.specs.Released.{BringsBack, CanComeBack, CanEnd, DropsHolds, EndsRegion, Loosens, MayRelease, Releases};
 ghost use Rattle.fol_world.specs.Same.{SameStock, SameThings};
@@ -62,7 +63,8 @@ pub fn end_tick(
         → AtEnd (world o h) (since o h) tick.old
         → Fits tables.new (ended (world o h) tick.old.region tick.old.log.ran) (since o h) }
     ensures course { tables.new.course.size ≡ tables.old.course.size }
-    ensures stack { GrowsBy (length tick.old.log.wishes + 1820)
+    ensures stack { GrowsBy (length tick.old.log.wishes
+        + parts_at_most (grid_state tables.old.regions) (length tick.old.log.wishes))
         tables.old.agenda tables.new.agenda }
 {
     let worker = tick.worker;

@@ -74,7 +74,7 @@ returns-clause-stack c =
     let acc = rw (e, body) at c.accept_all.ensures.accepted in
     let u = acc _ _ c.args.tick.now.region 0 (step.first c.args.tables.now c.args.tick.now m.opening m.history m.stands m.at m.size m.memory c.drop_due.new.tables d)
     (step.fits_all c.args.tables.now c.args.tick.now m.opening m.history m.stands m.at) in
-    let few = step.heirs_few c.args.tables.now c.args.tick.now m.opening m.history m.stands m.at c.accept_all.new.tables c.accept_all.new.chunks u in
+    let few = step.heirs_foreseen c.args.tables.now c.args.tick.now m.opening m.history m.stands m.at c.accept_all.new.tables c.accept_all.new.chunks u in
     let wished = rw e at c.accept_all.ensures.stack in
     let ended = c.end_region.ensures.stack in
     record {

@@ -3,8 +3,10 @@ use Rattle.fol_model.specs.End.{run_down}
 use Rattle.fol_model.specs.Run.{world}
 use Rattle.fol_laws.specs.LateBegin.{wishes_touch}
 use Rattle.fol_data.specs.declared.tick.Tick.{Tick}
+use Rattle.fol_regions.specs.Table.{grid_state}
 use Rattle.fol_world.specs.declared.tables.Course.{Course}
 use Rattle.fol_world.specs.AtEnd.{end_event}
+use Rattle.fol_world.specs.MostParts.{parts_at_most}
 use Rattle.fol_core.specs.Meaning.{mark}
 use Rattle.fol_core.proofs.Ahead.{event_ahead, same_ahead}
 use Rattle.fol_core.proofs.AheadEnds.{at_ahead, end_same, end_spares}
@@ -68,7 +70,7 @@ invariant_of-self-in-Ok c =
       rw (c.record_in.ensures.entries, c.in-Ok.ensures.entries, event) all,
       rw c.take-room.ensures.after tt,
       room_left (record c.record_in.new.course { size = c.record_in.new.course.size + c.len-asked.result }) _ _ _ _ _ _ c.count-early.ensures.count c.in-Ok.ensures.ok.core.history c.record_in.ensures.len c.record_in.ensures.capacity,
-      places_left (length tick.log.wishes + 1820) _ _ _ _ c.count-early.ensures.count c.in-Ok.ensures.ok.core.places c.end_tick-event.ensures.stack,
+      places_left (length tick.log.wishes + parts_at_most (grid_state c.memory_to_end.new.tables.regions) (length tick.log.wishes)) _ _ _ _ c.count-early.ensures.count c.in-Ok.ensures.ok.core.places c.end_tick-event.ensures.stack,
     )
 
 pub returns-in-Ok-clause-recorded : goal.returns-in-Ok-clause-recorded
