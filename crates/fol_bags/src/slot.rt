@@ -1,6 +1,6 @@
 //! The bag of a region, as the store keeps it.
 
-ghost use Rattle.std.specs.Prelude.{◌≡◌, ◌≤◌, if◌then◌else◌, true, not, ◌||◌, ◌&&◌, [], ◌∷◌, ◌++◌, ◌⊎◌, length, false, IsTrue, OnOk};
+ghost use Rattle.std.specs.Prelude.{◌≡◌, ◌≤◌, if◌then◌else◌, true, not, ◌||◌, ◌&&◌, [], ◌∷◌, ◌++◌, ◌⊎◌, length, false, IsTrue, OnOk, OnErr};
 ghost use Rattle.std.specs.List.Sorted.{IsStrictlySortedBy};
 ghost use Rattle.fol_model.specs.declared.places.ChunkPos.{ChunkPos};
 ghost use Rattle.fol_model.specs.Geometry.{same_chunk};
@@ -8,7 +8,7 @@ ghost use Rattle.fol_chunks.specs.Contents.{is_recorded};
 ghost use Rattle.fol_chunks.specs.Order.{chunk_cmp};
 ghost use Rattle.fol_bags.specs.Slots.{no_slot};
 ghost use Rattle.fol_bags.specs.Moves.{SameThings};
-ghost use Rattle.fol_bags.specs.Unions.{IsUnion};
+ghost use Rattle.fol_bags.specs.Unions.{IsPartOfUnion, IsUnion};
 ghost use Rattle.fol_bags.specs.Things.{Key, no_data, things, IsTimely};
 
 use crate::recalled::Recalled;
@@ -152,8 +152,7 @@ impl Slot {
         requires apart { (q : ChunkPos) → is_recorded others.now q ≡ true
             → is_recorded self.old.list q ≡ false }
         ensures ok { OnOk result (IsUnion self.old.list others.now self.new.list) }
-        ensures kept { (q : ChunkPos) → is_recorded self.old.list q ≡ true
-            → is_recorded self.new.list q ≡ true }
+        ensures err { OnErr result (IsPartOfUnion self.old.list others.now self.new.list) }
         ensures rest { self.new ≡ record self.old {
           chunks = self.new.list;
           list = self.new.list;

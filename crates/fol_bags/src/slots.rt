@@ -7,7 +7,7 @@ ghost use Rattle.fol_bags.specs.Things.{Key, no_data, things, of_task, IsTimely}
 ghost use Rattle.fol_data.specs.Rests.{IsInTime, rests_of};
 ghost use Rattle.fol_bags.specs.Clear.{HasNoTask};
 ghost use Rattle.fol_bags.specs.Places.{is_bag};
-ghost use Rattle.fol_bags.specs.Unions.{IsUnion};
+ghost use Rattle.fol_bags.specs.Unions.{IsPartOfUnion, IsUnion};
 ghost use Rattle.fol_bags.specs.Moves.{SameThings, AreApart, Loses, Gains, Queues};
 ghost use Rattle.std.specs.List.Sorted.{IsStrictlySortedBy};
 ghost use Rattle.fol_chunks.specs.Order.{chunk_cmp};
@@ -114,8 +114,8 @@ fn widen(alloc: Global, bags: &mut Bags, id: usize, others: &[ChunkPos]) -> Resu
         → is_recorded (slot_in bags.old.items id).list q ≡ false }
     ensures ok { OnOk result (IsUnion (slot_in bags.old.items id).list others.now
         (slot_in bags.new.items id).list) }
-    ensures kept { (q : ChunkPos) → is_recorded (slot_in bags.old.items id).list q ≡ true
-        → is_recorded (slot_in bags.new.items id).list q ≡ true }
+    ensures err { OnErr result (IsPartOfUnion (slot_in bags.old.items id).list others.now
+        (slot_in bags.new.items id).list) }
     ensures sets { SetsSlot id (record (slot_in bags.old.items id) {
       listed = false;
       chunks = (slot_in bags.new.items id).list;
@@ -583,8 +583,8 @@ pub fn merge(
     ensures moved { IfOk result (λ list. list.items ≡ (slot_in bags.old.items from).list) }
     ensures both { OnOk result (IsUnion (slot_in bags.old.items into).list
         (slot_in bags.old.items from).list (slot_in bags.new.items into).list) }
-    ensures kept { (q : ChunkPos) → is_recorded (slot_in bags.old.items into).list q ≡ true
-        → is_recorded (slot_in bags.new.items into).list q ≡ true }
+    ensures part { OnErr result (IsPartOfUnion (slot_in bags.old.items into).list
+        (slot_in bags.old.items from).list (slot_in bags.new.items into).list) }
     ensures timely { IsTimely (slot_in bags.new.items from).body }
     ensures into_timely { IsTimely (slot_in bags.new.items into).body }
     ensures loses { OnOk result (Loses (slot_in bags.old.items from).list

@@ -5,7 +5,7 @@ ghost use Rattle.std.specs.List.Sorted.{IsStrictlySortedBy};
 ghost use Rattle.fol_model.specs.declared.places.ChunkPos.{ChunkPos};
 ghost use Rattle.fol_chunks.specs.Contents.{is_recorded};
 ghost use Rattle.fol_chunks.specs.Order.{chunk_cmp};
-ghost use Rattle.fol_bags.specs.Unions.{IsUnion};
+ghost use Rattle.fol_bags.specs.Unions.{IsPartOfUnion, IsUnion};
 
 use fol_keyed::{ChunkSet, compare_chunks};
 use fol_model::ChunkPos;
@@ -25,8 +25,7 @@ pub fn widen_all(alloc: Global, set: &mut ChunkSet, others: &[ChunkPos]) -> Resu
     requires apart { (q : ChunkPos) → is_recorded others.now q ≡ true
         → is_recorded set.old q ≡ false }
     ensures ok { OnOk result (IsUnion set.old others.now set.new) }
-    ensures kept { (q : ChunkPos) → is_recorded set.old q ≡ true
-        → is_recorded set.new q ≡ true }
+    ensures err { OnErr result (IsPartOfUnion set.old others.now set.new) }
 {
     set.settle_many();
     set.settle_for(others.len());
@@ -53,8 +52,7 @@ fn are_few(set: &ChunkSet, coming: usize) -> bool {
 fn widen_each(set: &mut ChunkSet, others: &[ChunkPos]) -> Result<(), AllocError>
     requires { IsStrictlySortedBy chunk_cmp set.old }
     ensures ok { OnOk result (IsUnion set.old others.now set.new) }
-    ensures kept { (q : ChunkPos) → is_recorded set.old q ≡ true
-        → is_recorded set.new q ≡ true }
+    ensures err { OnErr result (IsPartOfUnion set.old others.now set.new) }
 {
     for c in others {
         set.widen(*c)?;

@@ -50,6 +50,9 @@ merge-requires-clause-apart c = λ k x y p q.
     let e : in_bag c.args.from ≡ in_bag c.args.into = c.self.invariant.unique k (in_bag c.args.from) (in_bag c.args.into) x y p q in
     let f : c.args.from ≡ c.args.into = cc in c.requires.differ f
 
+first : (b : Bool) {a : Bool} → a ≡ true → (a || b) ≡ true
+first b e = rw e refl
+
 last : (a : Bool) {b : Bool} → b ≡ true → (a || b) ≡ true
 last true e = refl
 last false e = e
@@ -74,7 +77,7 @@ moved c =
         to_timely = c.merge.ensures.into_timely;
       };
       both = k;
-      kept = rw own at c.merge.ensures.kept;
+      kept = rw own at (λ (q : ChunkPos) (r : is_recorded (slot (the_view c.self.inside) c.args.into).list q ≡ true). c.in-Ok.ensures.both.has q ∙ first (is_recorded (slot (the_view c.self.inside) c.args.from).list q) r);
       got = λ q r. c.in-Ok.ensures.both.has q ∙ last (is_recorded (slot (the_view c.self.inside) c.args.into).list q) r;
       all = λ o. all;
       union = λ o. rw (own, all) at c.in-Ok.ensures.both;
@@ -102,7 +105,7 @@ stayed c =
         to_timely = c.merge.ensures.into_timely;
       };
       both = k;
-      kept = rw (listed_here c.args.into (the_view c.self.inside) c.self.invariant k.id_here) at c.merge.ensures.kept;
+      kept = rw (listed_here c.args.into (the_view c.self.inside) c.self.invariant k.id_here) at c.in-Err.ensures.part.kept;
       got = λ q r. (let z : false ≡ true = r in cc);
       all = λ o. (let z : false ≡ true = o in cc);
       union = λ o. (let z : false ≡ true = o in cc);
