@@ -6,4 +6,5 @@ pub mod NoTask
 pub mod Counting
 pub mod OpenBags
 pub mod Ordered
+pub mod Unions
 pub mod Crossing

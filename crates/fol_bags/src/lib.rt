@@ -2,7 +2,7 @@
 //!
 //! A bag has the data of a region, with the chunks for which it was gathered; `Bags` holds them by the ids of the regions, each behind a
 //! pointer. A spot has what lies on one chunk and in no bag. `Places` names the spot and the bag of each chunk. `slots` has what is done
-//! to one bag or to two, `spots` what is done to a spot, and `union` the chunks of two lists.
+//! to one bag or to two, and `spots` what is done to a spot.
 //!
 //! Each call promises what it does to its bag or spot, and that all others stay as they are. What moves from one to another is exactly
 //! what lies on the chunks, with its rests; if memory runs out, nothing has moved. A bag with nothing in it that no region has any more
@@ -18,7 +18,7 @@ mod slot;
 pub mod slots;
 pub mod spots;
 mod taken;
-pub mod union;
+mod union;
 mod waiting;
 
 pub use bags::Bags;

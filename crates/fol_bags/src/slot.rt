@@ -1,6 +1,6 @@
 //! The bag of a region, as the store keeps it.
 
-ghost use Rattle.std.specs.Prelude.{◌≡◌, ◌≤◌, if◌then◌else◌, true, not, ◌||◌, ◌&&◌, [], ◌∷◌, ◌++◌, ◌⊎◌, length, false, IsTrue, OnOk};
+ghost use Rattle.std.specs.Prelude.{◌≡◌, ◌≤◌, if◌then◌else◌, true, not, ◌||◌, ◌&&◌, [], ◌∷◌, ◌++◌, ◌⊎◌, length, false, IsTrue, OnOk, OnErr};
 ghost use Rattle.std.specs.List.Sorted.{IsStrictlySortedBy};
 ghost use Rattle.fol_model.specs.declared.places.ChunkPos.{ChunkPos};
 ghost use Rattle.fol_model.specs.Geometry.{same_chunk};
@@ -8,9 +8,11 @@ ghost use Rattle.fol_chunks.specs.Contents.{flat_of, is_recorded, nothing};
 ghost use Rattle.fol_chunks.specs.Order.{chunk_cmp};
 ghost use Rattle.fol_bags.specs.Slots.{no_slot};
 ghost use Rattle.fol_bags.specs.Moves.{SameThings};
+ghost use Rattle.fol_bags.specs.Unions.{IsPartOfUnion, IsUnion};
 ghost use Rattle.fol_bags.specs.Things.{Key, no_data, things, IsTimely};
 
 use crate::recalled::Recalled;
+use crate::union;
 use fol_data::RegionData;
 use fol_keyed::ChunkSet;
 use fol_model::{ChunkPos, Sequence};
@@ -181,6 +183,24 @@ impl Slot {
             return Ok(());
         }
         self.touched.push(c)
+    }
+
+    /// Chunks come, of which it has none. If memory runs out, some of them may have come, and no chunk is lost.
+    pub fn widen(&mut self, alloc: Global, others: &[ChunkPos]) -> Result<(), AllocError>
+        requires order { IsStrictlySortedBy chunk_cmp self.old.list }
+        requires others_order { IsStrictlySortedBy chunk_cmp others.now }
+        requires apart { (q : ChunkPos) → is_recorded others.now q ≡ true
+            → is_recorded self.old.list q ≡ false }
+        ensures ok { OnOk result (IsUnion self.old.list others.now self.new.list) }
+        ensures err { OnErr result (IsPartOfUnion self.old.list others.now self.new.list) }
+        ensures rest { self.new ≡ record self.old {
+          chunks = self.new.list;
+          list = self.new.list;
+        } }
+    {
+        let result = union::widen_all(alloc, &mut self.list, others);
+        self.chunks = Recalled::of(&self.list);
+        result
     }
 
     /// A chunk leaves.

@@ -7,6 +7,7 @@ ghost use Rattle.fol_bags.specs.Things.{Key, no_data, things, of_task, IsTimely}
 ghost use Rattle.fol_data.specs.Rests.{IsInTime, rests_of};
 ghost use Rattle.fol_bags.specs.Clear.{HasNoTask};
 ghost use Rattle.fol_bags.specs.Places.{is_bag};
+ghost use Rattle.fol_bags.specs.Unions.{IsPartOfUnion, IsUnion};
 ghost use Rattle.fol_bags.specs.Moves.{SameThings, AreApart, Loses, Gains, Queues};
 ghost use Rattle.std.specs.List.Sorted.{IsStrictlySortedBy};
 ghost use Rattle.fol_chunks.specs.Order.{chunk_cmp};
@@ -101,6 +102,29 @@ pub fn relist(bags: &mut Bags, id: usize, chunks: Vec<ChunkPos>)
     let slot = bags.slot_mut(id);
     slot.listed = false;
     slot.relist(chunks);
+}
+
+/// Chunks come to a bag that has none of them; it has to be gathered anew. If memory runs out, some of them may have come, and no chunk is
+/// lost.
+fn widen(alloc: Global, bags: &mut Bags, id: usize, others: &[ChunkPos]) -> Result<(), AllocError>
+    requires open { is_open (slot_in bags.old.items id) ≡ true }
+    requires order { IsStrictlySortedBy chunk_cmp (slot_in bags.old.items id).list }
+    requires others_order { IsStrictlySortedBy chunk_cmp others.now }
+    requires apart { (q : ChunkPos) → is_recorded others.now q ≡ true
+        → is_recorded (slot_in bags.old.items id).list q ≡ false }
+    ensures ok { OnOk result (IsUnion (slot_in bags.old.items id).list others.now
+        (slot_in bags.new.items id).list) }
+    ensures err { OnErr result (IsPartOfUnion (slot_in bags.old.items id).list others.now
+        (slot_in bags.new.items id).list) }
+    ensures sets { SetsSlot id (record (slot_in bags.old.items id) {
+      listed = false;
+      chunks = (slot_in bags.new.items id).list;
+      list = (slot_in bags.new.items id).list;
+    }) bags.old bags.new }
+{
+    let slot = bags.slot_mut(id);
+    slot.listed = false;
+    slot.widen(alloc, others)
 }
 
 /// Says that all that lies on the chunks of a bag lies in it.
@@ -537,15 +561,18 @@ fn pour_out(
 }
 
 /// Closes a bag, and moves what lies on its chunks into another one, which gets these chunks and is whole; it gives the chunks that moved.
-/// If memory runs out, nothing has moved, and the other bag has to be gathered anew.
+/// If memory runs out, nothing has moved, and the other bag, which may have got some of these chunks, has to be gathered anew.
 pub fn merge(
     alloc: Global,
     bags: &mut Bags,
     from: usize,
     into: usize,
-    chunks: Vec<ChunkPos>,
 ) -> Result<Vec<ChunkPos>, AllocError>
     requires order { IsStrictlySortedBy chunk_cmp (slot_in bags.old.items from).list }
+    requires into_order { IsStrictlySortedBy chunk_cmp (slot_in bags.old.items into).list }
+    requires none_shared { (q : ChunkPos)
+        → is_recorded (slot_in bags.old.items from).list q ≡ true
+        → is_recorded (slot_in bags.old.items into).list q ≡ false }
     requires from_open { is_open (slot_in bags.old.items from) ≡ true }
     requires into_open { is_open (slot_in bags.old.items into) ≡ true }
     requires differ { from ≢ into }
@@ -554,6 +581,10 @@ pub fn merge(
     requires apart { AreApart (slot_in bags.old.items from).body
         (slot_in bags.old.items into).body }
     ensures moved { IfOk result (λ list. list.items ≡ (slot_in bags.old.items from).list) }
+    ensures both { OnOk result (IsUnion (slot_in bags.old.items into).list
+        (slot_in bags.old.items from).list (slot_in bags.new.items into).list) }
+    ensures part { OnErr result (IsPartOfUnion (slot_in bags.old.items into).list
+        (slot_in bags.old.items from).list (slot_in bags.new.items into).list) }
     ensures timely { IsTimely (slot_in bags.new.items from).body }
     ensures into_timely { IsTimely (slot_in bags.new.items into).body }
     ensures loses { OnOk result (Loses (slot_in bags.old.items from).list
@@ -571,8 +602,8 @@ pub fn merge(
           body = (slot_in bags.new.items into).body;
           listed = true;
           calm = true;
-          chunks = chunks.items;
-          list = chunks.items;
+          chunks = (slot_in bags.new.items into).list;
+          list = (slot_in bags.new.items into).list;
           touched = [];
         })
         bags.old bags.new) }
@@ -581,13 +612,13 @@ pub fn merge(
         into (record (slot_in bags.old.items into) {
           body = (slot_in bags.new.items into).body;
           listed = false;
-          chunks = chunks.items;
-          list = chunks.items;
+          chunks = (slot_in bags.new.items into).list;
+          list = (slot_in bags.new.items into).list;
         })
         bags.old bags.new) }
 {
     let moved = dissolve(alloc, bags, from);
-    relist(bags, into, chunks);
+    widen(alloc, bags, into, &moved)?;
     shift_bags(alloc, bags, from, &moved, into)?;
     finish(alloc, bags, into);
     Ok(moved)

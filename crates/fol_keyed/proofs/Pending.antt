@@ -38,6 +38,12 @@ is_less Greater h = cc
 abbrev comes_to : Bool → Bool → Bool
 comes_to a m = (a && not m) || (not a && m)
 
+swapped : (a b : Bool) → comes_to a b ≡ comes_to b a
+swapped true true = refl
+swapped true false = refl
+swapped false true = refl
+swapped false false = refl
+
 -- a chunk of a list that passes
 recorded_filter : (p : ChunkPos → Bool) (xs : List ChunkPos) (q : ChunkPos) → is_listed (filter p xs) q ≡ (p q && is_listed xs q)
 recorded_filter p xs q = any-filter_same (same_chunk q) p (p q) (λ k e. ap p (sym (same_chunk-true q k e))) xs
@@ -200,38 +206,27 @@ module _ (xs cs : List ChunkPos) (c q : ChunkPos) where
   known : (zs : List ChunkPos) (b : Bool) → is_listed zs c ≡ b → same_chunk c q ≡ true → is_listed zs q ≡ b
   known zs b e s = ap (is_listed zs) (sym (same_chunk-true c q s)) ∙ e
 
-  more_list : (a b s : Bool) → (s ≡ true → b ≡ false) → comes_to (a || s) b ≡ (comes_to a b || s)
-  more_list a b true h = rw (h refl) (all a)
+  one_more : (a b s : Bool) → (s ≡ true → b ≡ false) → comes_to (a || s) b ≡ (comes_to a b || s)
+  one_more a b true h = rw (h refl) (all a)
     where
       all : (a : Bool) → comes_to (a || true) false ≡ (comes_to a false || true)
       all true = refl
       all false = refl
-  more_list true true false h = refl
-  more_list true false false h = refl
-  more_list false true false h = refl
-  more_list false false false h = refl
+  one_more true true false h = refl
+  one_more true false false h = refl
+  one_more false true false h = refl
+  one_more false false false h = refl
 
-  more_changes : (a b s : Bool) → (s ≡ true → a ≡ false) → comes_to a (b || s) ≡ (comes_to a b || s)
-  more_changes a b true h = rw (h refl) (all b)
-    where
-      all : (b : Bool) → comes_to false (b || true) ≡ (comes_to false b || true)
-      all true = refl
-      all false = refl
-  more_changes true true false h = refl
-  more_changes true false false h = refl
-  more_changes false true false h = refl
-  more_changes false false false h = refl
-
-  less_list : (a b s : Bool) → (s ≡ true → b ≡ false) → comes_to (a && not s) b ≡ (comes_to a b && not s)
-  less_list a b true h = rw (h refl) (all a)
+  one_less : (a b s : Bool) → (s ≡ true → b ≡ false) → comes_to (a && not s) b ≡ (comes_to a b && not s)
+  one_less a b true h = rw (h refl) (all a)
     where
       all : (a : Bool) → comes_to (a && false) false ≡ (comes_to a false && false)
       all true = refl
       all false = refl
-  less_list true true false h = refl
-  less_list true false false h = refl
-  less_list false true false h = refl
-  less_list false false false h = refl
+  one_less true true false h = refl
+  one_less true false false h = refl
+  one_less false true false h = refl
+  one_less false false false h = refl
 
   leave_changes : (a b s : Bool) → (s ≡ true → a ≡ true) → comes_to a (b || s) ≡ (comes_to a b && not s)
   leave_changes a b true h = rw (h refl) (all b)
@@ -255,25 +250,18 @@ module _ (xs cs : List ChunkPos) (c q : ChunkPos) where
   back_changes false true false h = refl
   back_changes false false false h = refl
 
-  less_changes : (a b s : Bool) → (s ≡ true → a ≡ false) → comes_to a (b && not s) ≡ (comes_to a b && not s)
-  less_changes a b true h = rw (h refl) (all b)
-    where
-      all : (b : Bool) → comes_to false (b && false) ≡ (comes_to false b && false)
-      all true = refl
-      all false = refl
-  less_changes true true false h = refl
-  less_changes true false false h = refl
-  less_changes false true false h = refl
-  less_changes false false false h = refl
-
   pub list_more : (i : ℕ) → is_listed cs c ≡ false → is_pending (insert xs i c) cs q ≡ (is_pending xs cs q || same_chunk c q)
-  list_more i n = ap (λ a. comes_to a (is_listed cs q)) (recorded_insert xs i c q) ∙ more_list (is_listed xs q) (is_listed cs q) (same_chunk c q) (known cs false n)
+  list_more i n = ap (λ a. comes_to a (is_listed cs q)) (recorded_insert xs i c q) ∙ one_more (is_listed xs q) (is_listed cs q) (same_chunk c q) (known cs false n)
 
   pub changes_more : (j : ℕ) → is_listed xs c ≡ false → is_pending xs (insert cs j c) q ≡ (is_pending xs cs q || same_chunk c q)
-  changes_more j n = ap (comes_to (is_listed xs q)) (recorded_insert cs j c q) ∙ more_changes (is_listed xs q) (is_listed cs q) (same_chunk c q) (known xs false n)
+  changes_more j n =
+      ap (comes_to (is_listed xs q)) (recorded_insert cs j c q)
+      ∙ swapped (is_listed xs q) (is_listed cs q || same_chunk c q)
+      ∙ one_more (is_listed cs q) (is_listed xs q) (same_chunk c q) (known xs false n)
+      ∙ ap (λ a. a || same_chunk c q) (swapped (is_listed cs q) (is_listed xs q))
 
   pub list_less : (i : ℕ) → IsStrictlySortedBy chunk_cmp xs → i < length xs → ((d : ChunkPos) → get_or xs i d ≡ c) → is_listed cs c ≡ false → is_pending (remove xs i) cs q ≡ (is_pending xs cs q && not (same_chunk c q))
-  list_less i s l at n = ap (λ a. comes_to a (is_listed cs q)) (recorded_remove xs i c q s l at) ∙ less_list (is_listed xs q) (is_listed cs q) (same_chunk c q) (known cs false n)
+  list_less i s l at n = ap (λ a. comes_to a (is_listed cs q)) (recorded_remove xs i c q s l at) ∙ one_less (is_listed xs q) (is_listed cs q) (same_chunk c q) (known cs false n)
 
   pub changes_leave : (j : ℕ) → is_listed xs c ≡ true → is_pending xs (insert cs j c) q ≡ (is_pending xs cs q && not (same_chunk c q))
   changes_leave j h = ap (comes_to (is_listed xs q)) (recorded_insert cs j c q) ∙ leave_changes (is_listed xs q) (is_listed cs q) (same_chunk c q) (known xs true h)
@@ -283,7 +271,11 @@ module _ (xs cs : List ChunkPos) (c q : ChunkPos) where
     changes_back h = ap (comes_to (is_listed xs q)) has ∙ back_changes (is_listed xs q) (is_listed cs q) (same_chunk c q) (known xs true h)
 
     pub changes_less : is_listed xs c ≡ false → is_pending xs less q ≡ (is_pending xs cs q && not (same_chunk c q))
-    changes_less n = ap (comes_to (is_listed xs q)) has ∙ less_changes (is_listed xs q) (is_listed cs q) (same_chunk c q) (known xs false n)
+    changes_less n =
+        ap (comes_to (is_listed xs q)) has
+        ∙ swapped (is_listed xs q) (is_listed cs q && not (same_chunk c q))
+        ∙ one_less (is_listed cs q) (is_listed xs q) (same_chunk c q) (known xs false n)
+        ∙ ap (λ a. a && not (same_chunk c q)) (swapped (is_listed cs q) (is_listed xs q))
 
 -- the list rises where it does after the changes
 pub list_in_order : (xs cs : List ChunkPos) (room : ℕ) → IsPending xs cs room → IsStrictlySortedBy chunk_cmp (changed xs cs) → IsStrictlySortedBy chunk_cmp xs

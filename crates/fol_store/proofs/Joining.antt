@@ -47,27 +47,25 @@ not_relisted p a b d stays e free =
       out = λ o. no (sym free ∙ o);
     }
 
--- two whole bags, and the chunks of both
-pub record BothWhole (s : Stock) (u id : ℕ) (chunks : List ChunkPos) : Type 0 where
+-- two whole bags
+pub record BothWhole (s : Stock) (u id : ℕ) : Type 0 where
   pub here : (slot s u).here ≡ true
   pub id_here : (slot s id).here ≡ true
   pub listed : (slot s u).listed ≡ true
   pub calm : (slot s u).calm ≡ true
   pub id_listed : (slot s id).listed ≡ true
   pub id_calm : (slot s id).calm ≡ true
-  pub union : IsUnion (slot s id).chunks (slot s u).chunks chunks
 
 -- from what contracts see
-pub both_whole : (s v : Stock) (u id : ℕ) (chunks : List ChunkPos) → s ≡ v → (bag_of v u).here ≡ true → (bag_of v id).here ≡ true → is_whole (bag_of v u) ≡ true → is_whole (bag_of v id) ≡ true → IsUnion (bag_of v id).chunks (bag_of v u).chunks chunks → BothWhole s u id chunks
+pub both_whole : (s v : Stock) (u id : ℕ) → s ≡ v → (bag_of v u).here ≡ true → (bag_of v id).here ≡ true → is_whole (bag_of v u) ≡ true → is_whole (bag_of v id) ≡ true → BothWhole s u id
 unfolding bag_of
-both_whole s v u id chunks e here id_here whole id_whole union = subst (λ w. BothWhole w u id chunks) (sym e) (record {
+both_whole s v u id e here id_here whole id_whole = subst (λ w. BothWhole w u id) (sym e) (record {
   here = here;
   id_here = id_here;
   listed = first (slot v u).listed (slot v u).calm whole;
   calm = second (slot v u).listed (slot v u).calm whole;
   id_listed = first (slot v id).listed (slot v id).calm id_whole;
   id_calm = second (slot v id).listed (slot v id).calm id_whole;
-  union = union;
 })
   where
     first : (a b : Bool) → (a && b) ≡ true → a ≡ true
@@ -79,13 +77,11 @@ both_whole s v u id chunks e here id_here whole id_whole union = subst (λ w. Bo
     second false b e = no e
 
 -- two listed bags share no chunk
-pub none_shared : (s v : Stock) (u id : ℕ) → s ≡ v → IsSound s → u ≢ id → (bag_of v u).listed ≡ true → (bag_of v id).listed ≡ true → (q : ChunkPos) → is_recorded (bag_of v u).chunks q ≡ true → is_recorded (bag_of v id).chunks q ≡ false
-unfolding bag_of
-none_shared s v u id e h differ listed id_listed q r = elim (cases_Bool (is_recorded (slot v id).chunks q)) [
+pub none_shared : (s : Stock) (u id : ℕ) → IsSound s → u ≢ id → (slot s u).listed ≡ true → (slot s id).listed ≡ true → (q : ChunkPos) → is_recorded (slot s u).chunks q ≡ true → is_recorded (slot s id).chunks q ≡ false
+none_shared s u id h differ listed id_listed q r = elim (cases_Bool (is_recorded (slot s id).chunks q)) [
   | inl a ↦
-      let sound : IsSound v = subst IsSound e h in
-      let one : (place v q).bag ≡ Some u = (sound.bags u).held (rw listed refl) q r in
-      let other : (place v q).bag ≡ Some id = (sound.bags id).held (rw id_listed refl) q a in
+      let one : (place s q).bag ≡ Some u = (h.bags u).held (rw listed refl) q r in
+      let other : (place s q).bag ≡ Some id = (h.bags id).held (rw id_listed refl) q a in
       let z : Some u ≡ Some id = sym one ∙ other in
       let y : u ≡ id = cc in absurd (differ y)
   | inr a ↦ a
@@ -103,10 +99,12 @@ module _ (s : Stock) (bags : List Slot) (places : PlaceRows) (spare slots u id :
 
   pub record MergesBags : Type 0 where
     pub pours : Pours s bags places spare slots u id moved source target
-    pub both : BothWhole s u id chunks
-    -- what moves is among its chunks, and is all of them where the other is listed
-    pub mine : (q : ChunkPos) → is_recorded moved q ≡ true → is_recorded (slot s u).chunks q ≡ true
+    pub both : BothWhole s u id
+    -- no chunk of the other is lost, and it gets what moves; where it is listed, this is all chunks of the first, and it has those of both
+    pub kept : (q : ChunkPos) → is_recorded (slot s id).chunks q ≡ true → is_recorded chunks q ≡ true
+    pub got : (q : ChunkPos) → is_recorded moved q ≡ true → is_recorded chunks q ≡ true
     pub all : listed ≡ true → moved ≡ (slot s u).chunks
+    pub union : listed ≡ true → IsUnion (slot s id).chunks (slot s u).chunks chunks
     pub none_noted : listed ≡ true → touched ≡ []
     pub more_spare : s.spare ≤ spare
     pub more_slots : s.slots ≤ slots
@@ -124,19 +122,9 @@ module _ (s : Stock) (bags : List Slot) (places : PlaceRows) (spare slots u id :
     not_taken : (slot s id).taken ≡ false
     not_taken = here_not_taken id s h d.both.id_here
 
-    wider : (q : ChunkPos) → is_recorded (slot s id).chunks q ≡ true → is_recorded chunks q ≡ true
-    wider q r = d.both.union.has q ∙ rw r refl
-
-    wider_too : (q : ChunkPos) → is_recorded (slot s u).chunks q ≡ true → is_recorded chunks q ≡ true
-    wider_too q r = d.both.union.has q ∙ last (is_recorded (slot s id).chunks q) (is_recorded (slot s u).chunks q) r
-      where
-        last : (a b : Bool) → b ≡ true → (a || b) ≡ true
-        last true b e = refl
-        last false b e = e
-
     -- a chunk of the union is one of either
-    of_either : (q : ChunkPos) {P : Type 0} → is_recorded chunks q ≡ true → (is_recorded (slot s id).chunks q ≡ true → P) → (is_recorded (slot s u).chunks q ≡ true → P) → P
-    of_either q r f g = either (is_recorded (slot s id).chunks q) (is_recorded (slot s u).chunks q) (sym (d.both.union.has q) ∙ r) f g
+    of_either : listed ≡ true → (q : ChunkPos) {P : Type 0} → is_recorded chunks q ≡ true → (is_recorded (slot s id).chunks q ≡ true → P) → (is_recorded (slot s u).chunks q ≡ true → P) → P
+    of_either o q r f g = either (is_recorded (slot s id).chunks q) (is_recorded (slot s u).chunks q) (sym ((d.union o).has q) ∙ r) f g
 
     all_move : listed ≡ true → (q : ChunkPos) → is_recorded (slot s u).chunks q ≡ true → is_recorded moved q ≡ true
     all_move o q r = ap (λ l. is_recorded l q) (d.all o) ∙ r
@@ -147,10 +135,10 @@ module _ (s : Stock) (bags : List Slot) (places : PlaceRows) (spare slots u id :
     own_bag : IsBag t id target
     own_bag = record {
       claims = λ o c q. elim (home_cases s bags places spare slots u id moved source target d.pours c id q) [
-        | inl z ↦ wider_too c (d.mine c z.listed)
-        | inr z ↦ wider c ((h.bags id).claims o c z)
+        | inl z ↦ d.got c z.listed
+        | inr z ↦ d.kept c ((h.bags id).claims o c z)
       ];
-      held = λ o c r. of_either c r
+      held = λ o c r. of_either (is_listed o) c r
           (λ e. keeps c id ((h.bags id).held (rw d.both.id_listed refl) c e) (λ f. absurd (d.pours.apart (sym f))))
           (λ e. home_moves s bags places spare slots u id moved source target d.pours c (all_move (is_listed o) c e) ((h.bags u).held (rw d.both.listed refl) c e));
       near = λ o k w x q r. subst (Near id target (chunk_at k x)) (sym (near_it o k w x q r)) refl;
@@ -165,7 +153,7 @@ module _ (s : Stock) (bags : List Slot) (places : PlaceRows) (spare slots u id :
         near_it o k w x q r =
             elim (moves_back where_cases (column s k) (column t k) (in_bag u) (in_bag id) (λ y. is_recorded moved (chunk_at k y)) apart (moves k) w x q) [
               | inl z ↦ z.there
-              | inr z ↦ of_either (chunk_at k x) r
+              | inr z ↦ of_either o (chunk_at k x) r
                   (λ e. whole_alone s id (slot s id) (h.bags id) d.both.id_listed d.both.id_calm k w x z.had e)
                   (λ e.
                   let lay : w ≡ in_bag u = whole_alone s u (slot s u) (h.bags u) d.both.listed d.both.calm k w x z.had e in
@@ -206,8 +194,8 @@ module _ (s : Stock) (bags : List Slot) (places : PlaceRows) (spare slots u id :
         own = let P : Slot → Type 0 = λ b. Relisted (λ q. is_recorded (slot s id).chunks q || is_recorded (slot s u).chunks q) (shown (slot s id)) (shown b) in subst P (sym (at_target s bags places spare slots u id moved source target d.pours)) (record {
           same = rw (d.both.id_here, d.pours.gains.tick, d.pours.gains.owed) refl;
           before = λ o. d.both.id_listed;
-          order = λ o. d.both.union.order;
-          chunks = λ o q n. d.both.union.has q;
+          order = λ o. (d.union o).order;
+          chunks = λ o q n. (d.union o).has q;
           noted = λ o q n. n;
           here = λ o. refl;
           out = λ o. no (sym not_taken ∙ o);

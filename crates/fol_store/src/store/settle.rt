@@ -261,6 +261,14 @@ impl Store {
         }
     }
 
+    /// The chunks of a bag, in memory of their own.
+    pub(super) fn chunks_of(&self, id: usize) -> Result<Vec<ChunkPos>, AllocError>
+        requires { (bag_of self.now id).here ≡ true }
+        ensures { IfOk result (λ chunks. chunks.items ≡ (bag_of self.now id).chunks) }
+    {
+        self.bags.slot(id).list.copy(self.alloc)
+    }
+
     /// Moves what lies on other chunks than these out of a bag.
     pub(super) fn drop_others(&mut self, id: usize, chunks: &[ChunkPos]) -> Result<(), AllocError>
         requires order { IsStrictlySortedBy chunk_cmp chunks.now }

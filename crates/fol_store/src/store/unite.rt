@@ -3,11 +3,9 @@
 ghost use Rattle.std.specs.Prelude.{◌≡◌, ◌≢◌, ◌≤◌, true, false, ℕ, IfOk, OnOk};
 ghost use Rattle.fol_store.specs.Bag.{no_bag, is_whole};
 ghost use Rattle.fol_store.specs.Relisted.{IsInOrder, Joined, Stays, United};
-ghost use Rattle.fol_bags.specs.Unions.{IsUnion};
 
 use crate::store::Store;
-use fol_bags::{slots, union};
-use fol_model::ChunkPos;
+use fol_bags::slots;
 use std::alloc::AllocError;
 
 impl Store {
@@ -53,9 +51,9 @@ impl Store {
         ensures same { SameWorld self.old self.new }
     {
         let _bags = &self.bags;
-        match self.prepare_both(from, into) {
-            Ok(chunks) => {
-                self.pour(from as usize, into as usize, chunks);
+        match self.make_both_whole(from, into) {
+            Ok(()) => {
+                self.pour(from as usize, into as usize);
                 self.release(from as usize);
             }
             Err(_) => self.dissolve(from, into),
@@ -76,35 +74,24 @@ impl Store {
         self.unsettle(into);
     }
 
-    /// Makes two listed bags whole, and lists the chunks of both.
-    fn prepare_both(&mut self, from: u64, into: u64) -> Result<Vec<ChunkPos>, AllocError>
+    /// Makes two listed bags whole.
+    fn make_both_whole(&mut self, from: u64, into: u64) -> Result<(), AllocError>
         requires from { (bag_of self.old from).here ≡ true }
         requires into { (bag_of self.old into).here ≡ true }
         requires differ { from ≢ into }
         requires from_listed { (bag_of self.old from).listed ≡ true }
         requires into_listed { (bag_of self.old into).listed ≡ true }
-        requires from_order { IsInOrder (bag_of self.old from) }
-        requires into_order { IsInOrder (bag_of self.old into) }
         ensures from { OnOk result (bag_of self.new from
             ≡ record (bag_of self.old from) { calm = true }) }
         ensures into { OnOk result (bag_of self.new into
             ≡ record (bag_of self.old into) { calm = true }) }
-        ensures chunks { IfOk result (λ list.
-            IsUnion (bag_of self.old into).chunks (bag_of self.old from).chunks list.items) }
         ensures from_stays { Stays (bag_of self.old from) (bag_of self.new from) }
         ensures into_stays { Stays (bag_of self.old into) (bag_of self.new into) }
         ensures others { (u : ℕ) → u ≢ from → u ≢ into → bag_of self.new u ≡ bag_of self.old u }
         ensures same { SameWorld self.old self.new }
     {
-        match self.make_whole(from) {
-            Ok(()) => {}
-            Err(_) => return Err(AllocError),
-        }
-        match self.make_whole(into) {
-            Ok(()) => {}
-            Err(_) => return Err(AllocError),
-        }
-        self.list_both(from as usize, into as usize)
+        self.make_whole(from)?;
+        self.make_whole(into)
     }
 
     /// Makes a listed bag whole, where it is not.
@@ -124,46 +111,20 @@ impl Store {
         }
     }
 
-    /// The chunks of two listed bags, in order.
-    fn list_both(&self, from: usize, into: usize) -> Result<Vec<ChunkPos>, AllocError>
-        requires from { (bag_of self.now from).here ≡ true }
-        requires into { (bag_of self.now into).here ≡ true }
-        requires differ { from ≢ into }
-        requires from_listed { (bag_of self.now from).listed ≡ true }
-        requires into_listed { (bag_of self.now into).listed ≡ true }
-        requires from_order { IsInOrder (bag_of self.now from) }
-        requires into_order { IsInOrder (bag_of self.now into) }
-        ensures { IfOk result (λ list.
-            IsUnion (bag_of self.now into).chunks (bag_of self.now from).chunks list.items) }
-    {
-        let chunks = self.chunks_of(into)?;
-        let others = self.chunks_of(from)?;
-        union::union(self.alloc, &chunks, &others)
-    }
-
-    /// The chunks of a bag, in memory of their own.
-    pub(super) fn chunks_of(&self, id: usize) -> Result<Vec<ChunkPos>, AllocError>
-        requires { (bag_of self.now id).here ≡ true }
-        ensures { IfOk result (λ chunks. chunks.items ≡ (bag_of self.now id).chunks) }
-    {
-        self.bags.slot(id).list.copy(self.alloc)
-    }
-
-    /// What lies on the chunks of a whole bag goes into another one, whose chunks are those of both. If memory runs out, the other has to
-    /// be gathered anew.
-    fn pour(&mut self, from: usize, into: usize, chunks: Vec<ChunkPos>)
+    /// A whole bag is closed, and its chunks go to another one, with what lies on them. If memory runs out, the other has to be gathered
+    /// anew.
+    fn pour(&mut self, from: usize, into: usize)
         requires from { (bag_of self.old from).here ≡ true }
         requires into { (bag_of self.old into).here ≡ true }
         requires differ { from ≢ into }
         requires from_whole { is_whole (bag_of self.old from) ≡ true }
         requires into_whole { is_whole (bag_of self.old into) ≡ true }
         requires from_order { IsInOrder (bag_of self.old from) }
-        requires chunks { IsUnion (bag_of self.old into).chunks (bag_of self.old from).chunks
-            chunks.items }
+        requires into_order { IsInOrder (bag_of self.old into) }
         ensures joined { Joined from into (bag_of self.old) (bag_of self.new) }
         ensures same { SameWorld self.old self.new }
     {
-        match slots::merge(self.alloc, &mut self.bags, from, into, chunks) {
+        match slots::merge(self.alloc, &mut self.bags, from, into) {
             Ok(moved) => self.places.rehome(&moved, from, into),
             Err(_) => {}
         }

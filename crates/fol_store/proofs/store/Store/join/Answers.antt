@@ -13,11 +13,11 @@ pub release-requires : goal.release-requires
 unfolding next_of
 release-requires c =
     let l : c.args.from < next_of c.args.self.now = here_below c.args.self.now c.args.from c.requires.from in
-    omega (arith, c.prepare_both.ensures.same.next, c.pour.ensures.same.next)
+    omega (arith, c.make_both_whole.ensures.same.next, c.pour.ensures.same.next)
 
 pub returns-in-Ok-clause-same : goal.returns-in-Ok-clause-same
 returns-in-Ok-clause-same c =
-    let both : SameWorld c.args.self.now c.pour.new.self = world_trans _ _ _ c.prepare_both.ensures.same c.pour.ensures.same in
+    let both : SameWorld c.args.self.now c.pour.new.self = world_trans _ _ _ c.make_both_whole.ensures.same c.pour.ensures.same in
     world_kept _ _ _ both (c.release.ensures.draws c.args.from []).same
 
 pub returns-in-Err-clause-joined : goal.returns-in-Err-clause-joined
@@ -26,7 +26,7 @@ returns-in-Err-clause-joined c =
     let free : (bag_of (the_view c.self.inside) c.args.into).taken ≡ false = ap (λ (b : Bag). b.taken) (bag_slot (the_view c.self.inside) c.args.into) ∙ here_not_taken c.args.into (the_view c.self.inside) c.self.invariant here in
     record {
       gone = c.dissolve.ensures.gone;
-      own = not_relisted _ _ _ _ c.prepare_both.ensures.into_stays c.dissolve.ensures.own (rw c.self.view_is at free);
+      own = not_relisted _ _ _ _ c.make_both_whole.ensures.into_stays c.dissolve.ensures.own (rw c.self.view_is at free);
       both = λ o. c.requires.from_listed;
-      others = λ u a b. c.dissolve.ensures.others u a b ∙ c.prepare_both.ensures.others u a b;
+      others = λ u a b. c.dissolve.ensures.others u a b ∙ c.make_both_whole.ensures.others u a b;
     }
