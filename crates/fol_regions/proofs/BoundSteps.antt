@@ -1,9 +1,9 @@
 -- The numbers that are known of the regions.
-use Rattle.std.proofs.Common.{◌≡◌, ℕ, suc, ◌+◌, ◌-◌, ◌<◌, ◌≤◌, ◌∙◌, refl, sym, ap, arith, inl, inr, true, false, Bool, cond, List, [], ◌∷◌, ◌++◌, ◌||◌, length, get_or, set, take}
-use Rattle.std.specs.Prelude.{◌≢◌, nat_eq, if◌then◌else◌, min, count_by, replicate}
+use Rattle.std.proofs.Common.{◌≡◌, ℕ, zero, suc, ◌+◌, ◌-◌, ◌<◌, ◌≤◌, ◌∙◌, refl, sym, ap, arith, inl, inr, true, false, Bool, cond, List, [], ◌∷◌, ◌++◌, ◌||◌, length, get_or, set, take}
+use Rattle.std.specs.Prelude.{◌≢◌, nat_eq, if◌then◌else◌, min, count_by}
 use Rattle.std.proofs.lemmas.Bool.{cases_Bool, cases_eq, cases_lt, eq-eqb, eqb-true, ne_eqb, true≢false}
 use Rattle.std.proofs.lemmas.List.Folds.{list_any_more}
-use Rattle.std.proofs.lemmas.List.{get_or-append_right, get_or-replicate, get_or-set_same, get_or-set_other, get_or_append_left, get_or_default, get_or_past, length-replicate, take_all}
+use Rattle.std.proofs.lemmas.List.{get_or-append_right, get_or-set_same, get_or-set_other, get_or_append_left, get_or_default, get_or_past}
 use Rattle.fol_laws.proofs.ListCounts.{count_by-cons}
 use Rattle.fol_regions.specs.Added.{is_id}
 use Rattle.fol_regions.specs.Changes.{into}
@@ -14,12 +14,6 @@ use Rattle.fol_regions.specs.declared.dead_bounds.Known.{Known}
 abbrev pub nothing : Known
 nothing = record { id = 0; most = 16384 }
 
-nothing_added : (n i : ℕ) → get_or (replicate n nothing) i nothing ≡ nothing
-nothing_added n i = elim (cases_lt i n) [
-  | inl l ↦ get_or-replicate n i nothing nothing l
-  | inr l ↦ get_or_past (replicate n nothing) i nothing (omega (arith, l, length-replicate {A = Known} n nothing))
-]
-
 pub most_none : (r : ℕ) → most_in [] r ≡ 16384
 unfolding most_in
 most_none r = elim (cases_Bool (nat_eq 0 r)) [ inl y ↦ rw y refl | inr y ↦ rw y refl ]
@@ -29,14 +23,17 @@ pub most_past : (known : List Known) (r : ℕ) → length known ≤ place r → 
 unfolding most_in
 most_past known r l = let past = get_or_past known (place r) nothing l in rw past (most_none r)
 
+only_nothing : (i : ℕ) → get_or (nothing ∷ []) i nothing ≡ nothing
+only_nothing zero = refl
+only_nothing (suc i) = refl
+
 -- nor in a row that is added
-pub most_reached : (known new : List Known) (n len : ℕ) → len ≡ length known → length known ≤ n → new ≡ take n known ++ replicate (n - len) nothing → (r : ℕ) → most_in new r ≡ most_in known r
+pub most_more : (known : List Known) (r : ℕ) → most_in (known ++ nothing ∷ []) r ≡ most_in known r
 unfolding most_in
-most_reached known new n len same l e r =
-    ap (λ ks. most_of r (get_or ks (place r) nothing)) (e ∙ ap (λ ks. ks ++ replicate (n - len) nothing) (take_all n known l)) ∙ ap (most_of r) (elim (cases_lt (place r) (length known)) [
-      | inl u ↦ get_or_append_left known (replicate (n - len) nothing) nothing (place r) u
-      | inr u ↦ get_or-append_right known (replicate (n - len) nothing) (length known) (place r) nothing refl u ∙ nothing_added (n - len) (place r - length known) ∙ sym (get_or_past known (place r) nothing u)
-    ])
+most_more known r = ap (most_of r) (elim (cases_lt (place r) (length known)) [
+  | inl u ↦ get_or_append_left known (nothing ∷ []) nothing (place r) u
+  | inr u ↦ get_or-append_right known (nothing ∷ []) (length known) (place r) nothing refl u ∙ only_nothing (place r - length known) ∙ sym (get_or_past known (place r) nothing u)
+])
 
 -- what is known in the place of a region
 most_read : (known : List Known) (r at : ℕ) (k : Known) → at ≡ place r → at < length known → k ≡ get_or known at k → most_of r k ≡ most_in known r

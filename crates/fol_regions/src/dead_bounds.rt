@@ -118,12 +118,9 @@ impl DeadBounds {
     }
 }
 
-/// Notes a number of a region whose place lies past the end, behind rows of which nothing is known. Takes no memory.
-#[cold]
-#[inline(never)]
+/// Notes a number of a region, with rows before it of which nothing is known where its place lies past the end. Takes no memory.
 fn add(known: &mut Vec<Known>, id: u64, most: u32)
-    requires memory { MOST_SECTIONS ≤ vec_capacity known.old }
-    requires past { length known.old.items ≤ place id }
+    requires { MOST_SECTIONS ≤ vec_capacity known.old }
     ensures noted { (r : ℕ) → min MOST_SECTIONS
         (if nat_eq id r then most else most_in known.old.items r) ≤ most_in known.new.items r }
     ensures capacity { vec_capacity known.old ≤ vec_capacity known.new }
@@ -133,7 +130,9 @@ fn add(known: &mut Vec<Known>, id: u64, most: u32)
         id: 0,
         most: MOST_SECTIONS as u32,
     };
-    let _ = known.resize(at + 1, nothing);
+    while known.len() <= at {
+        known.push_reserved(nothing);
+    }
     known[at] = Known { id, most };
 }
 
