@@ -1,5 +1,4 @@
 pub mod Pieces
 pub mod Written
 pub mod Views
-pub mod Tops
 pub mod Shifted

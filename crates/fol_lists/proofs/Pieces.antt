@@ -256,11 +256,6 @@ pub last_empty : (n : ℕ) → IsLast [] n
 last_empty n = record { before = λ k d b. absurd (omega arith) }
 
 -- ---- empty lists
--- spans that were resized to so many more
-pub resized : (spans : List Span) (n len more : ℕ) (v : Span) → len ≡ length spans → n ≡ length spans + more → take n spans ++ replicate (n - len) v ≡ spans ++ replicate more v
-resized spans n len more v e f =
-    ap (λ ys. ys ++ replicate (n - len) v) (take_all n spans (omega arith)) ∙ ap (λ k. spans ++ replicate k v) (omega arith)
-
 pub pieces_empty : {T : Type 0} (cells : List T) (n : ℕ) → pieces_of cells (replicate n (record { from = 0; to = 0 })) ≡ replicate n []
 pieces_empty cells zero = refl
 pieces_empty cells (suc n) = ap (λ ps. [] ∷ ps) (pieces_empty cells n)
@@ -268,7 +263,7 @@ pieces_empty cells (suc n) = ap (λ ps. [] ∷ ps) (pieces_empty cells n)
 pub pieces_added : {T : Type 0} (cells : List T) (spans : List Span) (n : ℕ) → pieces_of cells (spans ++ replicate n (record { from = 0; to = 0 })) ≡ pieces_of cells spans ++ replicate n []
 pieces_added cells spans n = map-append (piece_of cells) spans (replicate n (record { from = 0; to = 0 })) ∙ ap (λ ps. pieces_of cells spans ++ ps) (pieces_empty cells n)
 
-total_empty : (T : Type 0) (n : ℕ) → sum_by (length {A = T}) (replicate n []) ≡ 0
+pub total_empty : (T : Type 0) (n : ℕ) → sum_by (length {A = T}) (replicate n []) ≡ 0
 total_empty T n = sum_by-replicate (length {A = T}) n [] ∙ omega arith
 
 pub spans_added : {T : Type 0} (cells : List T) (spans : List Span) (room n : ℕ) → AreSpans cells spans room → AreSpans cells (spans ++ replicate n (record { from = 0; to = 0 })) room
@@ -276,11 +271,4 @@ spans_added {T} cells spans room n h = record {
   fit = All-append (IsSpan (length cells)) spans (replicate n (record { from = 0; to = 0 })) h.fit (All-replicate (IsSpan (length cells)) n (record { from = 0; to = 0 }) (record { rising = omega arith; within = omega arith }));
   few = omega (arith, h.few, ap (sum_by length) (pieces_added cells spans n), sum_by-append length (pieces_of cells spans) (replicate n []), total_empty T n);
   used = h.used;
-}
-
-pub spans_empty : {T : Type 0} (cells : List T) (room n : ℕ) → cells ≡ [] → AreSpans cells (replicate n (record { from = 0; to = 0 })) room
-spans_empty {T} cells room n e = record {
-  fit = All-replicate (IsSpan (length cells)) n (record { from = 0; to = 0 }) (record { rising = omega arith; within = omega arith });
-  few = omega (arith, ap (sum_by length) (pieces_empty cells n), total_empty T n);
-  used = omega (arith, ap length e);
 }

@@ -1,5 +1,5 @@
 -- Lists by where they begin and end among all elements.
-use Rattle.std.specs.Prelude.{◌≡◌, ◌≢◌, ℕ, ◌<◌, ◌≤◌, ◌*◌, ◌^◌, List, length, map, sum_by}
+use Rattle.std.specs.Prelude.{◌≢◌, ℕ, ◌-◌, ◌<◌, ◌≤◌, ◌*◌, ◌^◌, List, [], ◌++◌, length, map, replicate, sum_by}
 use Rattle.std.specs.List.{All, slice_index_or, slice_range}
 use Rattle.fol_lists.specs.declared.spans.Span.{Span}
 
@@ -9,6 +9,10 @@ piece_of cells span = slice_range cells span.from span.to
 -- the lists, one for each span
 abbrev pub pieces_of : {T : Type 0} → List T → List Span → List (List T)
 pieces_of cells spans = map (piece_of cells) spans
+
+-- the lists with the numbers below `numbers`; those without a span are empty
+abbrev pub lists_of : {T : Type 0} → List T → List Span → ℕ → List (List T)
+lists_of cells spans numbers = pieces_of cells spans ++ replicate (numbers - length spans) []
 
 -- the span lies within so many elements
 pub record IsSpan (n : ℕ) (span : Span) : Type 0 where
@@ -31,7 +35,7 @@ pub record HasRoom (room capacity other : ℕ) : Type 0 where
 pub record IsLast (spans : List Span) (n : ℕ) : Type 0 where
   pub before : (k : ℕ) (d : Span) → k < length spans → k ≢ n → (slice_index_or spans k d).to ≤ (slice_index_or spans n d).from
 
--- the lists from this number on were never written to
-pub record IsTop (spans : List Span) (n : ℕ) : Type 0 where
-  pub within : n ≤ length spans
-  pub empty : (k : ℕ) (d : Span) → n ≤ k → k < length spans → slice_index_or spans k d ≡ record { from = 0; to = 0 }
+-- there are spans for the first numbers, and memory for those of all numbers
+pub record HasNumbers (written numbers capacity : ℕ) : Type 0 where
+  pub within : written ≤ numbers
+  pub memory : numbers ≤ capacity

@@ -4,7 +4,7 @@ ghost use Rattle.std.specs.Prelude.{◌≡◌, ℕ, ◌+◌, ◌-◌, ◌*◌, �
 ghost use Rattle.std.specs.List.{All, slice_range, slice_index_or};
 ghost use Rattle.std.specs.Vec.{vec_capacity};
 ghost use Rattle.fol_lists.specs.Numbered.{shifted};
-ghost use Rattle.fol_lists.specs.Spans.{AreSpans, HasRoom, IsLast, IsSpan, IsTop, piece_of, pieces_of};
+ghost use Rattle.fol_lists.specs.Spans.{AreSpans, HasRoom, IsLast, IsSpan, piece_of, pieces_of};
 
 use crate::spans::Span;
 use std::mem;
@@ -29,19 +29,17 @@ fn write<T: Copy>(cells: &[T], span: Span, into: &mut Vec<T>) -> Span
     }
 }
 
-/// Writes all lists into an empty vector, one behind the other. Those from `top` on were never written to, and stay.
-fn write_all<T: Copy>(cells: &[T], spans: &mut [Span], top: usize, into: &mut Vec<T>)
+/// Writes all lists into an empty vector, one behind the other.
+fn write_all<T: Copy>(cells: &[T], spans: &mut [Span], into: &mut Vec<T>)
     requires fit { All (IsSpan (length cells.now)) spans.old }
-    requires top { IsTop spans.old top }
     requires none { into.old.items ≡ [] }
     requires room { sum_by length (pieces_of cells.now spans.old) ≤ vec_capacity into.old }
     ensures lists { pieces_of into.new.items spans.new ≡ pieces_of cells.now spans.old }
     ensures fit { All (IsSpan (length into.new.items)) spans.new }
-    ensures top { IsTop spans.new top }
     ensures used { length into.new.items ≡ sum_by length (pieces_of cells.now spans.old) }
     ensures capacity { vec_capacity into.old ≤ vec_capacity into.new }
 {
-    for i in 0..top {
+    for i in 0..spans.len() {
         spans[i] = write(cells, spans[i], into);
     }
 }
@@ -51,12 +49,10 @@ fn make_room<T: Copy>(
     cells: &mut Vec<T>,
     spare: &mut Vec<T>,
     spans: &mut [Span],
-    top: usize,
     room: usize,
     more: usize,
 )
     requires lists { AreSpans cells.old.items spans.old room }
-    requires top { IsTop spans.old top }
     requires none { spare.old.items ≡ [] }
     requires capacity { 2 * room ≤ vec_capacity cells.old }
     requires spare { 2 * room ≤ vec_capacity spare.old }
@@ -64,14 +60,13 @@ fn make_room<T: Copy>(
     requires more { more ≤ room }
     ensures same { pieces_of cells.new.items spans.new ≡ pieces_of cells.old.items spans.old }
     ensures fit { All (IsSpan (length cells.new.items)) spans.new }
-    ensures top { IsTop spans.new top }
     ensures room { length cells.new.items + more ≤ 2 * room }
     ensures none { spare.new.items ≡ [] }
     ensures capacity { 2 * room ≤ vec_capacity cells.new }
     ensures spare { 2 * room ≤ vec_capacity spare.new }
 {
     if cells.len() + more > 2 * room {
-        write_all(cells, spans, top, spare);
+        write_all(cells, spans, spare);
         mem::swap(cells, spare);
         spare.clear();
     }
@@ -129,7 +124,6 @@ fn make_last<T: Copy>(cells: &mut Vec<T>, spare: &mut Vec<T>, spans: &mut [Span]
     ensures fit { All (IsSpan (length cells.new.items)) spans.new }
     ensures end { (d : Span) → (slice_index_or spans.new n d).to ≡ length cells.new.items }
     ensures last { IsLast spans.new n }
-    ensures top { (top : ℕ) → n < top → IsTop spans.old top → IsTop spans.new top }
     ensures used { length cells.new.items
         ≤ length cells.old.items + length
         (slice_index_or (pieces_of cells.old.items spans.old) n []) }
@@ -150,14 +144,12 @@ pub fn open<T: Copy>(
     cells: &mut Vec<T>,
     spare: &mut Vec<T>,
     spans: &mut [Span],
-    top: usize,
     last: usize,
     room: usize,
     n: usize,
     more: usize,
 )
     requires lists { AreSpans cells.old.items spans.old room }
-    requires top { (n < top) × IsTop spans.old top }
     requires last { IsLast spans.old last }
     requires none { spare.old.items ≡ [] }
     requires memory { HasRoom room (vec_capacity cells.old) (vec_capacity spare.old) }
@@ -168,7 +160,6 @@ pub fn open<T: Copy>(
     ensures fit { All (IsSpan (length cells.new.items)) spans.new }
     ensures end { (d : Span) → (slice_index_or spans.new n d).to ≡ length cells.new.items }
     ensures last { IsLast spans.new n }
-    ensures top { IsTop spans.new top }
     ensures room { length cells.new.items + more ≤ 2 * room }
     ensures none { spare.new.items ≡ [] }
     ensures memory { HasRoom room (vec_capacity cells.new) (vec_capacity spare.new) }
@@ -177,7 +168,7 @@ pub fn open<T: Copy>(
     if n == last && span.to == cells.len() && cells.len() + more <= 2 * room {
         return;
     }
-    make_room(cells, spare, spans, top, room, span.len() + more);
+    make_room(cells, spare, spans, room, span.len() + more);
     make_last(cells, spare, spans, n);
 }
 
@@ -186,14 +177,12 @@ pub fn grow<T: Copy>(
     cells: &mut Vec<T>,
     spare: &mut Vec<T>,
     spans: &mut [Span],
-    top: usize,
     last: usize,
     room: usize,
     n: usize,
     xs: &[T],
 )
     requires lists { AreSpans cells.old.items spans.old room }
-    requires top { (n < top) × IsTop spans.old top }
     requires last { IsLast spans.old last }
     requires none { spare.old.items ≡ [] }
     requires memory { HasRoom room (vec_capacity cells.old) (vec_capacity spare.old) }
@@ -204,11 +193,10 @@ pub fn grow<T: Copy>(
         (slice_index_or (pieces_of cells.old.items spans.old) n [] ++ xs.now) }
     ensures lists { AreSpans cells.new.items spans.new room }
     ensures last { IsLast spans.new n }
-    ensures top { IsTop spans.new top }
     ensures none { spare.new.items ≡ [] }
     ensures memory { HasRoom room (vec_capacity cells.new) (vec_capacity spare.new) }
 {
-    open(cells, spare, spans, top, last, room, n, xs.len());
+    open(cells, spare, spans, last, room, n, xs.len());
     let _ = cells.extend_from_slice(xs);
     spans[n].to = cells.len();
 }
@@ -262,7 +250,6 @@ pub fn cut<T: Copy>(cells: &mut Vec<T>, spans: &mut [Span], last: usize, n: usiz
     ensures lists { (room : ℕ) → AreSpans cells.old.items spans.old room
         → AreSpans cells.new.items spans.new room }
     ensures last { IsLast spans.new last }
-    ensures top { (top : ℕ) → IsTop spans.old top → IsTop spans.new top }
     ensures capacity { vec_capacity cells.new ≡ vec_capacity cells.old }
 {
     let span = spans[n].front(len);

@@ -4,7 +4,7 @@ ghost use Rattle.std.specs.Prelude.{◌≡◌, ◌+◌, ◌<◌, ◌≤◌, ◌^
 ghost use Rattle.fol_lists.specs.Numbered.{Numbered, list_at, shifted, total, with_list, with_numbers};
 
 use crate::cells::{cut, grow, open, shift_last};
-use crate::spans::Span;
+use crate::spans::{Span, fill};
 use std::alloc::{AllocError, Global};
 use std::marker::Model;
 
@@ -15,44 +15,44 @@ pub struct Lists<T: Copy> {
     cells: Vec<T>,
     /// Where the lists are written close together once `cells` is used up. Empty between calls.
     spare: Vec<T>,
+    /// Where each list is, up to the highest number that was ever written to. There is memory for all numbers.
     spans: Vec<Span>,
+    /// How many lists there are. Those that have no span were never written to, and are empty.
+    numbers: usize,
     /// The number of the list that lies behind all others.
     last: usize,
-    /// No list from this number on was ever written to.
-    top: usize,
     /// How many elements the lists may hold together; the memory holds twice as many.
     room: usize,
 }
 
 impl<T: Copy> Model for Lists<T> {
-    ghost use Rattle.std.specs.Prelude.{◌≡◌, []};
+    ghost use Rattle.std.specs.Prelude.{◌≡◌, [], length};
     ghost use Rattle.std.specs.Vec.{vec_capacity};
     ghost use Rattle.fol_lists.specs.Numbered.{Numbered};
-    ghost use Rattle.fol_lists.specs.Spans.{AreSpans, HasRoom, IsLast, IsTop, pieces_of};
+    ghost use Rattle.fol_lists.specs.Spans.{AreSpans, HasNumbers, HasRoom, IsLast, lists_of};
 
     ghost Value = { Numbered T };
 
-    ghost view = { λ s. record { lists = pieces_of s.cells.items s.spans.items; room = s.room } };
+    ghost view = { λ s. record { lists = lists_of s.cells.items s.spans.items s.numbers; room = s.room } };
 
-    ghost invariant = { λ s. AreSpans s.cells.items s.spans.items s.room × (s.spare.items ≡ []) × HasRoom s.room (vec_capacity s.cells) (vec_capacity s.spare) × (IsLast s.spans.items s.last × IsTop s.spans.items s.top) };
+    ghost invariant = { λ s. AreSpans s.cells.items s.spans.items s.room × (s.spare.items ≡ []) × HasRoom s.room (vec_capacity s.cells) (vec_capacity s.spare) × (IsLast s.spans.items s.last × HasNumbers (length s.spans.items) s.numbers (vec_capacity s.spans)) };
 }
 
 impl<T: Copy> Lists<T> {
-    /// Empty lists with the numbers below `numbers`, with room for `room` elements together.
+    /// Empty lists with the numbers below `numbers`, with room for `room` elements together. Takes memory, but writes none of it.
     ///
-    /// Writing the lists close together goes over all numbers, so `room` should be no less than `numbers`.
+    /// Writing the lists close together goes over all numbers up to the highest that was written to, so `room` should be no less than
+    /// `numbers`.
     pub fn new(alloc: Global, numbers: usize, room: usize) -> Result<Lists<T>, AllocError>
         requires { room < 2 ^ 62 }
         ensures { IfOk result (λ v. v ≡ record { lists = replicate numbers []; room = room }) }
     {
-        let mut spans = Vec::with_capacity(alloc, numbers)?;
-        spans.resize(numbers, Span::EMPTY)?;
         Ok(Lists {
             cells: Vec::with_capacity(alloc, 2 * room)?,
             spare: Vec::with_capacity(alloc, 2 * room)?,
-            spans,
+            spans: Vec::with_capacity(alloc, numbers)?,
+            numbers,
             last: 0,
-            top: 0,
             room,
         })
     }
@@ -61,7 +61,7 @@ impl<T: Copy> Lists<T> {
     pub fn numbers(&self) -> usize
         ensures { result ≡ length self.now.lists }
     {
-        self.spans.len()
+        self.numbers
     }
 
     /// How many elements the lists may hold together.
@@ -76,6 +76,9 @@ impl<T: Copy> Lists<T> {
         requires { n < length self.now.lists }
         ensures { result.now ≡ list_at self.now n }
     {
+        if n >= self.spans.len() {
+            return &[];
+        }
         let span = self.spans[n];
         &self.cells[span.from..span.to]
     }
@@ -94,6 +97,9 @@ impl<T: Copy> Lists<T> {
         requires few { len ≤ length (list_at self.old n) }
         ensures { self.new ≡ with_list self.old n (take len (list_at self.old n)) }
     {
+        if n >= self.spans.len() {
+            return;
+        }
         cut(&mut self.cells, &mut self.spans, self.last, n, len);
     }
 
@@ -103,19 +109,17 @@ impl<T: Copy> Lists<T> {
         requires room { total self.old + length xs.now ≤ self.old.room }
         ensures { self.new ≡ with_list self.old n (list_at self.old n ++ xs.now) }
     {
-        let top = self.top.max(n + 1);
+        fill(&mut self.spans, n + 1);
         grow(
             &mut self.cells,
             &mut self.spare,
             &mut self.spans,
-            top,
             self.last,
             self.room,
             n,
             xs,
         );
         self.last = n;
-        self.top = top;
     }
 
     /// Puts other elements in place of a list's own. Takes no memory.
@@ -137,19 +141,17 @@ impl<T: Copy> Lists<T> {
         ensures { self.new ≡ with_list self.old n
             (shifted (list_at self.old n) start end by xs.now) }
     {
-        let top = self.top.max(n + 1);
+        fill(&mut self.spans, n + 1);
         open(
             &mut self.cells,
             &mut self.spare,
             &mut self.spans,
-            top,
             self.last,
             self.room,
             n,
             0,
         );
         self.last = n;
-        self.top = top;
         shift_last(&mut self.cells, &self.spans, n, start, end, by, xs);
     }
 
@@ -173,10 +175,10 @@ impl<T: Copy> Lists<T> {
         ensures ok { OnOk result (self.new ≡ with_numbers self.old numbers) }
         ensures err { OnErr result (self.new ≡ self.old) }
     {
-        if numbers <= self.spans.len() {
-            return Ok(());
+        if numbers > self.numbers {
+            self.spans.reserve(numbers - self.spans.len())?;
+            self.numbers = numbers;
         }
-        self.spans.resize(numbers, Span::EMPTY)?;
         Ok(())
     }
 
@@ -186,12 +188,14 @@ impl<T: Copy> Lists<T> {
     {
         let mut cells = Vec::with_capacity(alloc, 2 * self.room)?;
         cells.extend_from_slice(&self.cells)?;
+        let mut spans = Vec::with_capacity(alloc, self.numbers)?;
+        spans.extend_from_slice(&self.spans)?;
         Ok(Lists {
             cells,
             spare: Vec::with_capacity(alloc, 2 * self.room)?,
-            spans: Vec::from_slice(alloc, &self.spans)?,
+            spans,
+            numbers: self.numbers,
             last: self.last,
-            top: self.top,
             room: self.room,
         })
     }

@@ -1,6 +1,7 @@
 //! Where a list begins and ends among all elements.
 
-ghost use Rattle.std.specs.Prelude.{◌≡◌, ◌+◌, ◌-◌, ◌≤◌, ◌<◌, ◌^◌};
+ghost use Rattle.std.specs.Prelude.{◌≡◌, ◌+◌, ◌-◌, ◌≤◌, ◌<◌, ◌^◌, ◌++◌, length, replicate};
+ghost use Rattle.std.specs.Vec.{vec_capacity};
 
 /// From a place on, up to but not including another.
 #[derive(Clone, Copy)]
@@ -32,5 +33,17 @@ impl Span {
             from: self.from,
             to: self.from + len,
         }
+    }
+}
+
+/// Adds empty spans until there are `count`, if there are fewer. Takes no memory.
+pub fn fill(spans: &mut Vec<Span>, count: usize)
+    requires room { count ≤ vec_capacity spans.old }
+    ensures filled { spans.new.items ≡ spans.old.items
+        ++ replicate (count - length spans.old.items) (record { «from» = 0; to = 0 }) }
+    ensures capacity { vec_capacity spans.old ≤ vec_capacity spans.new }
+{
+    if spans.len() < count {
+        let _ = spans.resize(count, Span::EMPTY);
     }
 }

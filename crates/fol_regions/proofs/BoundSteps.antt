@@ -1,9 +1,9 @@
 -- The numbers that are known of the regions.
-use Rattle.std.proofs.Common.{◌≡◌, ℕ, suc, ◌+◌, ◌<◌, ◌≤◌, ◌∙◌, refl, sym, ap, arith, inl, inr, true, false, Bool, cond, List, [], ◌∷◌, ◌||◌, length, get_or, set, take}
+use Rattle.std.proofs.Common.{◌≡◌, ℕ, zero, suc, ◌+◌, ◌-◌, ◌<◌, ◌≤◌, ◌∙◌, refl, sym, ap, arith, inl, inr, true, false, Bool, cond, List, [], ◌∷◌, ◌++◌, ◌||◌, length, get_or, set, take}
 use Rattle.std.specs.Prelude.{◌≢◌, nat_eq, if◌then◌else◌, min, count_by}
-use Rattle.std.proofs.lemmas.Bool.{cases_Bool, cases_eq, eq-eqb, eqb-true, ne_eqb, true≢false}
+use Rattle.std.proofs.lemmas.Bool.{cases_Bool, cases_eq, cases_lt, eq-eqb, eqb-true, ne_eqb, true≢false}
 use Rattle.std.proofs.lemmas.List.Folds.{list_any_more}
-use Rattle.std.proofs.lemmas.List.{get_or-set_same, get_or-set_other, get_or_default}
+use Rattle.std.proofs.lemmas.List.{get_or-append_right, get_or-set_same, get_or-set_other, get_or_append_left, get_or_default, get_or_past}
 use Rattle.fol_laws.proofs.ListCounts.{count_by-cons}
 use Rattle.fol_regions.specs.Added.{is_id}
 use Rattle.fol_regions.specs.Changes.{into}
@@ -14,11 +14,26 @@ use Rattle.fol_regions.specs.declared.dead_bounds.Known.{Known}
 abbrev pub nothing : Known
 nothing = record { id = 0; most = 16384 }
 
-pub most_none : (known : List Known) → ((k : ℕ) → k < 16384 → get_or known k nothing ≡ nothing) → (r : ℕ) → most_in known r ≡ 16384
+pub most_none : (r : ℕ) → most_in [] r ≡ 16384
 unfolding most_in
-most_none known e r =
-    let here = e (place r) (omega arith) in
-    rw here (elim (cases_Bool (nat_eq 0 r)) [ inl y ↦ rw y refl | inr y ↦ rw y refl ])
+most_none r = elim (cases_Bool (nat_eq 0 r)) [ inl y ↦ rw y refl | inr y ↦ rw y refl ]
+
+-- nothing is known of a region whose place lies past the end
+pub most_past : (known : List Known) (r : ℕ) → length known ≤ place r → most_in known r ≡ 16384
+unfolding most_in
+most_past known r l = let past = get_or_past known (place r) nothing l in rw past (most_none r)
+
+only_nothing : (i : ℕ) → get_or (nothing ∷ []) i nothing ≡ nothing
+only_nothing zero = refl
+only_nothing (suc i) = refl
+
+-- nor in a row that is added
+pub most_more : (known : List Known) (r : ℕ) → most_in (known ++ nothing ∷ []) r ≡ most_in known r
+unfolding most_in
+most_more known r = ap (most_of r) (elim (cases_lt (place r) (length known)) [
+  | inl u ↦ get_or_append_left known (nothing ∷ []) nothing (place r) u
+  | inr u ↦ get_or-append_right known (nothing ∷ []) (length known) (place r) nothing refl u ∙ only_nothing (place r - length known) ∙ sym (get_or_past known (place r) nothing u)
+])
 
 -- what is known in the place of a region
 most_read : (known : List Known) (r at : ℕ) (k : Known) → at ≡ place r → at < length known → k ≡ get_or known at k → most_of r k ≡ most_in known r

@@ -2,6 +2,7 @@
 
 ghost use Rattle.std.specs.Prelude.{◌≡◌, ℕ, ◌+◌, ◌<◌, ◌≤◌, ◌&&◌, true, nat_abs, nat_eq, nat_lt, if◌then◌else◌, count_by, min, pos, ◌+ℤ◌, IfOk, List, length, slice_index_or};
 ghost use Rattle.std.specs.Int.{int_rem_euclid};
+ghost use Rattle.std.specs.Vec.{vec_capacity};
 ghost use Rattle.fol_model.specs.declared.places.SectionPos.{SectionPos};
 ghost use Rattle.fol_region_tables.specs.Book.{owner_of};
 ghost use Rattle.fol_regions.specs.Added.{is_id};
@@ -29,12 +30,14 @@ pub struct Known {
 /// A release of a region with few dead sections looks at none of them. Contracts see what is known, of which `most_in` makes a number for each region.
 #[derive(Drop)]
 pub struct DeadBounds {
-    /// By the id modulo 16,384: what is known of the region. Of two regions with the same place only one is known.
+    /// By the id modulo 16,384: what is known of the region. Of two regions with the same place only one is known, and nothing of a region
+    /// whose place lies past the end. There is memory for all places.
     known: Vec<Known>,
 }
 
 impl Model for DeadBounds {
-    ghost use Rattle.std.specs.Prelude.{◌≡◌, List, length};
+    ghost use Rattle.std.specs.Prelude.{◌≤◌, List};
+    ghost use Rattle.std.specs.Vec.{vec_capacity};
     ghost use Rattle.fol_model.specs.declared.places.TheConstants.{MOST_SECTIONS};
     ghost use Rattle.fol_regions.specs.declared.dead_bounds.Known.{Known};
 
@@ -42,28 +45,28 @@ impl Model for DeadBounds {
 
     ghost view = { λ s. s.known.items };
 
-    ghost invariant = { λ s. length s.known.items ≡ MOST_SECTIONS };
+    ghost invariant = { λ s. MOST_SECTIONS ≤ vec_capacity s.known };
 }
 
 impl DeadBounds {
-    /// Nothing is known. Takes the memory for 16,384 regions.
+    /// Nothing is known. Takes the memory for 16,384 regions, and writes none of it.
     pub fn new(alloc: Global) -> Result<DeadBounds, AllocError>
         ensures { IfOk result (λ most. (r : ℕ) → most_in most r ≡ MOST_SECTIONS) }
     {
-        let nothing = Known {
-            id: 0,
-            most: MOST_SECTIONS as u32,
-        };
-        let mut known = Vec::with_capacity(alloc, MOST_SECTIONS)?;
-        known.resize(MOST_SECTIONS, nothing)?;
-        Ok(DeadBounds { known })
+        Ok(DeadBounds {
+            known: Vec::with_capacity(alloc, MOST_SECTIONS)?,
+        })
     }
 
     /// The number of a region.
     pub fn most(&self, id: u64) -> u32
         ensures { result ≡ most_in self.now id }
     {
-        let known = self.known[place(id)];
+        let at = place(id);
+        if at >= self.known.len() {
+            return MOST_SECTIONS as u32;
+        }
+        let known = self.known[at];
         if known.id == id {
             known.most
         } else {
@@ -76,7 +79,12 @@ impl DeadBounds {
         ensures { (r : ℕ) → min MOST_SECTIONS (if nat_eq id r then most else most_in self.old r)
             ≤ most_in self.new r }
     {
-        self.known[place(id)] = Known { id, most };
+        let at = place(id);
+        if at < self.known.len() {
+            self.known[at] = Known { id, most };
+        } else {
+            add(&mut self.known, id, most);
+        }
     }
 
     /// Notes sections that are dead since, each for its region. Takes no memory.
@@ -88,9 +96,26 @@ impl DeadBounds {
     }
 }
 
+/// Notes a number of a region, with rows before it of which nothing is known where its place lies past the end. Takes no memory.
+fn add(known: &mut Vec<Known>, id: u64, most: u32)
+    requires { MOST_SECTIONS ≤ vec_capacity known.old }
+    ensures noted { (r : ℕ) → min MOST_SECTIONS
+        (if nat_eq id r then most else most_in known.old.items r) ≤ most_in known.new.items r }
+    ensures capacity { vec_capacity known.old ≤ vec_capacity known.new }
+{
+    let at = place(id);
+    let nothing = Known {
+        id: 0,
+        most: MOST_SECTIONS as u32,
+    };
+    while known.len() <= at {
+        known.push_reserved(nothing);
+    }
+    known[at] = Known { id, most };
+}
+
 /// Notes each section of a list for its region. Sections that stand side by side in one page share one look-up.
 fn note_list(known: &mut [Known], tables: &Tables, list: &[SectionPos])
-    requires { length known.old ≡ MOST_SECTIONS }
     ensures { (r : ℕ) → 0 < r → min MOST_SECTIONS (most_in known.old r
         + count_by (λ s. nat_eq (owner_of tables.now s) r) list.now) ≤ most_in known.new r }
 {
@@ -104,8 +129,7 @@ fn note_list(known: &mut [Known], tables: &Tables, list: &[SectionPos])
 
 /// Notes a section of each of these regions. Those that stand side by side are mostly the same, and are noted together.
 fn note_run(known: &mut [Known], ids: &[u64])
-    requires known { length known.old ≡ MOST_SECTIONS }
-    requires few { length ids.now ≤ 32 }
+    requires { length ids.now ≤ 32 }
     ensures { (r : ℕ) → min MOST_SECTIONS (most_in known.old r
         + count_by (λ id. nat_eq id r) ids.now) ≤ most_in known.new r }
 {
@@ -167,12 +191,14 @@ fn side_len(list: &[SectionPos]) -> usize
 
 /// A region has so many dead sections more.
 fn raise(known: &mut [Known], id: u64, more: u32)
-    requires known { length known.old ≡ MOST_SECTIONS }
-    requires few { more ≤ 32 }
+    requires { more ≤ 32 }
     ensures { (r : ℕ) → min MOST_SECTIONS (most_in known.old r
         + (if nat_eq id r then more else 0)) ≤ most_in known.new r }
 {
     let at = place(id);
+    if at >= known.len() {
+        return;
+    }
     let before = known[at];
     if before.id == id {
         known[at] = Known {

@@ -2,7 +2,6 @@ use Rattle.std.proofs.Common.{ap, sym, subst}
 use Rattle.fol_lists.specs.declared.spans.Span.{Span}
 use Rattle.fol_lists.specs.Spans.{IsLast}
 use Rattle.fol_lists.proofs.Pieces.{last_cut, pieces_cut, pieces_shorter, spans_cut, spans_shorter}
-use Rattle.fol_lists.proofs.Tops.{top_cut}
 use Rattle.fol_lists.proofs.cells.cut.Goals as goal
 
 pub returns-then-n-last-clause-cut : goal.returns-then-n-last-clause-cut
@@ -36,13 +35,3 @@ pub returns-clause-last : goal.returns-clause-last
 returns-clause-last g c =
     let d : Span = record { from = 0; to = 0 } in
     last_cut c.args.cells.now.items c.args.spans.now c.args.n c.requires.number d c.requires.fit c.args.len c.requires.few c.front-span.result (ap (λ (i : Span). i.from) c.front-span.ensures) (ap (λ (i : Span). i.to) c.front-span.ensures) c.args.last c.requires.last
-
-pub returns-then-n-last-clause-top : goal.returns-then-n-last-clause-top
-returns-then-n-last-clause-top g c =
-    let d : Span = record { from = 0; to = 0 } in
-    top_cut c.args.cells.now.items c.args.spans.now c.args.n c.requires.number d c.requires.fit c.args.len c.requires.few c.front-span.result (ap (λ (i : Span). i.from) c.front-span.ensures) (ap (λ (i : Span). i.to) c.front-span.ensures)
-
-pub returns-clause-top : goal.returns-clause-top
-returns-clause-top g c =
-    let d : Span = record { from = 0; to = 0 } in
-    top_cut c.args.cells.now.items c.args.spans.now c.args.n c.requires.number d c.requires.fit c.args.len c.requires.few c.front-span.result (ap (λ (i : Span). i.from) c.front-span.ensures) (ap (λ (i : Span). i.to) c.front-span.ensures)

@@ -2,7 +2,6 @@ use Rattle.std.proofs.Common.{refl, ap, arith, length}
 use Rattle.std.specs.Prelude.{sum_by}
 use Rattle.fol_lists.specs.declared.spans.Span.{Span}
 use Rattle.fol_lists.proofs.Pieces.{last_grown, pieces_grown, spans_grown, length_listed_at}
-use Rattle.fol_lists.proofs.Tops.{top_set}
 use Rattle.fol_lists.proofs.cells.grow.Goals as goal
 
 pub open-requires-clause-more : goal.open-requires-clause-more
@@ -30,6 +29,3 @@ pub returns-clause-last : goal.returns-clause-last
 returns-clause-last g c =
     let d : Span = record { from = 0; to = 0 } in
     last_grown c.open.new.spans c.args.n (omega arith) _ d refl c.open.ensures.last
-
-pub returns-clause-top : goal.returns-clause-top
-returns-clause-top g c = top_set c.open.new.spans c.args.n c.args.top _ c.requires.top.0 c.open.ensures.top

@@ -1,6 +1,5 @@
 use Rattle.std.proofs.Common.{arith, ap, length}
 use Rattle.fol_lists.proofs.Pieces.{last_moved, pieces_moved}
-use Rattle.fol_lists.proofs.Tops.{top_set}
 use Rattle.fol_lists.specs.declared.spans.Span.{Span}
 use Rattle.fol_lists.proofs.cells.make_last.Goals as goal
 
@@ -12,6 +11,3 @@ returns-clause-same g c =
 
 pub returns-clause-last : goal.returns-clause-last
 returns-clause-last g c = last_moved c.args.spans.now c.args.n c.requires.number _ (length c.args.cells.now.items) c.requires.fit (omega arith)
-
-pub returns-clause-top : goal.returns-clause-top
-returns-clause-top g c = λ top l h. top_set c.args.spans.now c.args.n top _ l h

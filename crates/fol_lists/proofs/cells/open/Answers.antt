@@ -7,6 +7,3 @@ pub make_room-requires-clause-more : goal.make_room-requires-clause-more
 make_room-requires-clause-more g c =
     let d : Span = record { from = 0; to = 0 } in
     omega (arith, length_at c.args.cells.now.items _ _ d c.requires.number c.requires.lists.fit)
-
-pub returns-clause-top : goal.returns-clause-top
-returns-clause-top g c = c.make_last.ensures.top c.args.top c.requires.top.0 c.make_room.ensures.top

@@ -6,7 +6,7 @@ use Rattle.fol_regions.proofs.BoundSteps.{count_alike}
 use Rattle.fol_regions.proofs.dead_bounds.note_run.Goals as goal
 
 pub loop-rest-init : goal.loop-rest-init
-loop-rest-init c = record { few = c.requires.few; noted = λ r. omega arith }
+loop-rest-init c = record { few = c.requires; noted = λ r. omega arith }
 
 pub loop-rest-preserved : goal.loop-rest-preserved
 loop-rest-preserved c =

@@ -1,8 +1,11 @@
-use Rattle.std.proofs.Common.{arith, get_or}
+use Rattle.std.proofs.Common.{arith, get_or, sym}
 use Rattle.std.proofs.lemmas.List.{get_or_default}
-use Rattle.fol_regions.proofs.BoundSteps.{most_kept, most_raised, most_unknown}
+use Rattle.fol_regions.proofs.BoundSteps.{most_kept, most_past, most_raised, most_unknown}
 use Rattle.fol_regions.specs.declared.dead_bounds.Known.{Known}
 use Rattle.fol_regions.proofs.dead_bounds.raise.Goals as goal
+
+pub returns-then-at-known : goal.returns-then-at-known
+returns-then-at-known c = λ r. most_kept c.args.known.now c.args.id c.args.more r (sym (most_past c.args.known.now c.args.id (omega (arith, c.place-at.ensures.at))))
 
 pub returns-then-before-id : goal.returns-then-before-id
 returns-then-before-id c =

@@ -1,5 +1,5 @@
 use Rattle.std.proofs.Common.{◌≡◌, ◌++◌, arith, drop, length, take}
-use Rattle.fol_lists.proofs.Views.{all_written}
+use Rattle.fol_lists.proofs.Views.{all_written, listed_changed, numbered_is}
 use Rattle.fol_lists.proofs.lists.Lists.truncate.Goals as goal
 
 pub invariant_of-self : goal.invariant_of-self
@@ -7,5 +7,16 @@ invariant_of-self g c =
     let h = c.self.invariant in
     let same : take c.self.inside.spans.len (c.cut.new.spans ++ drop (length c.cut.new.spans) c.self.inside.spans.items) ≡ c.cut.new.spans = all_written c.cut.new.spans c.self.inside.spans.items c.self.inside.spans.len (omega arith) (omega arith) in
     let lists = rw c.deref_mut.ensures.value at c.cut.ensures.lists in
-    let top = rw c.deref_mut.ensures.value at c.cut.ensures.top in
-    rw same (lists c.self.inside.room h.0, h.1, record { few = h.2.few; cells = omega (arith, h.2.cells, c.cut.ensures.capacity); spare = h.2.spare }, (c.cut.ensures.last, top c.self.inside.top h.3.1))
+    rw same (
+      lists c.self.inside.room h.0,
+      h.1,
+      record { few = h.2.few; cells = omega (arith, h.2.cells, c.cut.ensures.capacity); spare = h.2.spare },
+      (c.cut.ensures.last, record { within = omega (arith, h.3.1.within); memory = h.3.1.memory }),
+    )
+
+pub returns : goal.returns
+returns g c =
+    let s = c.self.inside in
+    let same : take s.spans.len (c.cut.new.spans ++ drop (length c.cut.new.spans) s.spans.items) ≡ c.cut.new.spans = all_written c.cut.new.spans s.spans.items s.spans.len (omega arith) (omega arith) in
+    let cuts = rw c.deref_mut.ensures.value at c.cut.ensures.cut in
+    rw (same, ← c.self.view_is) (numbered_is _ _ s.room (listed_changed s.cells.items c.cut.new.cells.items s.spans.items c.cut.new.spans s.numbers c.args.n (take c.args.len) (omega arith) (omega arith) cuts))
