@@ -1,6 +1,6 @@
 -- Wishes and a release: how many sections are present then, and how many parts are made at most.
-use Rattle.std.proofs.Common.{◌≡◌, ℕ, ◌+◌, ◌*◌, ◌/◌, ◌≤◌, refl, arith, true, false, not, inl, inr, List, [], ◌∷◌, length}
-use Rattle.std.specs.Prelude.{count_by, min}
+use Rattle.std.proofs.Common.{◌≡◌, ℕ, ◌+◌, ◌*◌, ◌/◌, ◌≤◌, arith, true, not, inl, inr, List, [], ◌∷◌, length}
+use Rattle.std.specs.Prelude.{min}
 use Rattle.std.specs.List.{AllByRecursion}
 use Rattle.std.proofs.lemmas.Bool.{cases_Bool, cases_lt, leb-true}
 use Rattle.std.proofs.lemmas.List.Sums.{count_by-le-length}
