@@ -54,8 +54,11 @@ fn follow(command: &Command, before: &mut Before) -> Result<(), Unread>
 }
 
 /// Adds the commands of a share behind those of the shares before it, unless one of them may not stand there.
+///
+/// Those of the first one stay where they lie, where room is made for as many as all have.
 fn add_share(
     mut share: Vec<Command>,
+    room: usize,
     before: &mut Before,
     commands: &mut Vec<Command>,
 ) -> Result<(), Unread>
@@ -66,7 +69,12 @@ fn add_share(
     for command in &share {
         follow(command, before)?;
     }
-    commands.append(&mut share)?;
+    if commands.is_empty() {
+        *commands = share;
+        commands.reserve(room)?;
+    } else {
+        commands.append(&mut share)?;
+    }
     Ok(())
 }
 
@@ -84,9 +92,10 @@ pub fn gather(
         ticks: 0,
         times: 0,
     };
-    let mut commands = Vec::with_capacity(alloc, count(shares.as_slice()))?;
+    let room = count(shares.as_slice());
+    let mut commands = Vec::new(alloc);
     for share in shares {
-        add_share(share?, &mut before, &mut commands)?;
+        add_share(share?, room, &mut before, &mut commands)?;
     }
     if before.running {
         return Err(Unread);
