@@ -7,13 +7,14 @@ use Rattle.fol_model.specs.declared.words.Keyword.{Keyword}
 use Rattle.fol_model.specs.declared.words.Cell.{Cell}
 use Rattle.fol_model.specs.declared.causes.Cause.{Cause}
 use Rattle.fol_model.specs.declared.scripts.Command.{Command}
-use Rattle.fol_model.specs.IsScript.{is_command}
+use Rattle.fol_model.specs.IsScript.{IsScript, is_command}
 use Rattle.fol_model.specs.TextLines.{lines, kept, is_skipped}
 use Rattle.fol_model.specs.TextCauses.{Row, row_of, cause_of, bad_from, first_bad}
 use Rattle.fol_model.specs.TextRows.{IsRow, Spells}
-use Rattle.fol_model.specs.Texts.{command_row}
+use Rattle.fol_model.specs.Texts.{command_row, script_kind}
 use Rattle.fol_text_laws.specs.RowValues.{command_of}
 use Rattle.fol_text_laws.proofs.Commands.{IsScriptKind, row_tells}
+use Rattle.fol_text_laws.proofs.ScriptLaws.{script_gives_script}
 use Rattle.fol_text_laws.proofs.Valid.{good, valid_is_spelled, spelled_is_valid}
 use Rattle.fol_script.specs.declared.script_lines.Before.{Before}
 use Rattle.fol_script.specs.ScriptBefore.{Stands, is_script}
@@ -85,3 +86,8 @@ spelled kind bytes rest rows none good_text all =
     let v = valid_is_spelled kind bytes good_text in
     let e : rows ≡ v.0 = sym (append-nil rows) ∙ ap (λ (r : List ℕ). all_rows kind rows (lines r)) (sym (nil_from_length rest none)) ∙ all ∙ (spelled_is_valid kind bytes v.0 v.1).1 in
     subst (Spells kind bytes) (sym e) v.1
+
+-- commands that a text spells make a script
+pub makes_script : (version : ℕ) (kind : TextKind) (bytes : List ℕ) (cs script : List Command) → kind ≡ script_kind version → script ≡ cs → Spells kind bytes (map command_row cs) → IsScript script
+makes_script version kind bytes cs script k same s =
+    subst IsScript (sym same) (script_gives_script version bytes cs (subst (λ (q : TextKind). Spells q bytes (map command_row cs)) k s))
