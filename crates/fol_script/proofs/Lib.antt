@@ -12,3 +12,7 @@ pub mod Keeping
 pub mod WorldMaps
 pub mod WorldBefore
 pub mod ReadWorld
+pub mod CutShares
+pub mod OneShare
+pub mod InOrder
+pub mod AllShares

@@ -99,7 +99,7 @@ running_at e r false h = le-ltb _ _ (omega arith)
 pub running_is : (rows : List Row) (b : Before) → Stands rows b → is_running rows ≡ b.running
 running_is rows b s = running_at (count_key keys.End rows) (count_key keys.Run rows) b.running s.alternate
 
-order_is : (kind : TextKind) (rows : List Row) (row : Row) → is_script kind ≡ true → is_out_of_order kind rows row ≡ misplaced (is_running rows) row.key
+pub order_is : (kind : TextKind) (rows : List Row) (row : Row) → is_script kind ≡ true → is_out_of_order kind rows row ≡ misplaced (is_running rows) row.key
 order_is kinds.World rows row e = absurd cc
 order_is kinds.ScriptOne rows row e = refl
 order_is kinds.ScriptTwo rows row e = refl
@@ -136,7 +136,7 @@ pub line_fault : (kind : TextKind) (l : List ℕ) (old new : Before) (cs : List 
 line_fault kind l old new cs key c k sp e m f = λ rows s.
     after_order kind rows l old key k s sp e m ∙ ap (λ (o : Option Cause). or_else o (sum_cause rows (row_of kind l))) (sym f)
 
-no_twice : (kind : TextKind) (key : Keyword) → is_script kind ≡ true → is_none (line_form kind key) ≡ false → (is_key keys.Block key ≡ false) × (is_key keys.Entity key ≡ false)
+pub no_twice : (kind : TextKind) (key : Keyword) → is_script kind ≡ true → is_none (line_form kind key) ≡ false → (is_key keys.Block key ≡ false) × (is_key keys.Entity key ≡ false)
 no_twice kinds.World key k e = absurd cc
 no_twice kinds.ScriptOne keys.Block k e = absurd cc
 no_twice kinds.ScriptOne keys.Entity k e = absurd cc

@@ -3,6 +3,7 @@ pub mod Judged
 pub mod Posts
 pub mod ScriptBefore
 pub mod ReadText
+pub mod Shares
 pub mod CellText
 pub mod WorldRows
 pub mod Kept

@@ -16,7 +16,7 @@ use fol_model::{Cause, Cell, Command, Script, Sequence, TextKind};
 use std::alloc::{AllocError, Global};
 
 /// The text of a script, as the version of its world has it.
-fn kind_of(version: u8) -> TextKind
+pub fn kind_of(version: u8) -> TextKind
     ensures kind { result ≡ script_kind version }
     ensures script { is_script result ≡ true }
 {

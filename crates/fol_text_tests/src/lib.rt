@@ -10,3 +10,5 @@ mod events;
 mod made;
 #[cfg(test)]
 mod scripts;
+#[cfg(test)]
+mod shares;

@@ -17,7 +17,7 @@ use crate::form::Form;
 use crate::inputs::read_files;
 use crate::made::make_texts;
 use crate::output::write_output;
-use crate::texts::{Texts, read_texts};
+use crate::texts::{Texts, read_texts_in_shares};
 use fol_io::{Gate, Shelf, Sink};
 use fol_pool::run_script;
 use std::alloc::Global;
@@ -177,7 +177,7 @@ fn run_files<R: Threads + Wait + Sync, F: Shelf, K: Sink, G: Gate + Sync>(
         Ok(files) => files,
         Err(ending) => return ending,
     };
-    let texts = match read_texts(alloc, &files) {
+    let texts = match read_texts_in_shares(rt, alloc, workers, &files) {
         Ok(texts) => texts,
         Err(ending) => return ending,
     };

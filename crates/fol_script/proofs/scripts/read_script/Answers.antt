@@ -1,12 +1,5 @@
-use Rattle.std.proofs.Common.{map, sym, subst}
-use Rattle.fol_model.specs.declared.words.TextKind.{TextKind}
-use Rattle.fol_model.specs.IsScript.{IsScript}
-use Rattle.fol_model.specs.TextRows.{Spells}
-use Rattle.fol_model.specs.Texts.{command_row}
-use Rattle.fol_text_laws.proofs.ScriptLaws.{script_gives_script}
+use Rattle.fol_script.proofs.ReadScript.{makes_script}
 use Rattle.fol_script.proofs.scripts.read_script.Goals as goal
 
 pub invariant_of-result : goal.invariant_of-result
-invariant_of-result c =
-    let s = subst (λ (k : TextKind). Spells k c.args.bytes.now (map command_row c.in_ok-commands.commands.items)) c.kind_of.ensures.kind c.in_ok-commands.ensures in
-    subst IsScript (sym c.of.ensures) (script_gives_script c.args.version c.args.bytes.now c.in_ok-commands.commands.items s)
+invariant_of-result c = makes_script c.args.version c.kind_of.result c.args.bytes.now c.in_ok-commands.commands.items c.of.result c.kind_of.ensures.kind c.of.ensures c.in_ok-commands.ensures

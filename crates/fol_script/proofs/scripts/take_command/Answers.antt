@@ -1,5 +1,6 @@
 use Rattle.std.proofs.Common.{map, sym, ◌∙◌}
 use Rattle.fol_model.specs.Texts.{command_row}
+use Rattle.fol_text_laws.proofs.Valid.{good}
 use Rattle.fol_script.proofs.ReadScript.{skips, bad_line, within_line, takes}
 use Rattle.fol_script.proofs.scripts.take_command.Goals as goal
 
@@ -9,7 +10,7 @@ returns-then-is_skipped_line c = skips c.args.kind c.args.line.now c.args.comman
 pub read_command-requires : goal.read_command-requires
 read_command-requires c =
     let m = rw c.in-Row.is at (c.in_ok-cause.ensures (map command_row c.args.commands.now.items) c.requires.stands) in
-    within_line c.args.kind c.args.line.now (map command_row c.args.commands.now.items) c.in-Row.key c.deref.result.now c.requires.kind m.0 m.1 (c.deref.ensures.value ∙ m.2)
+    within_line c.args.kind c.args.line.now c.in-Row.key c.deref.result.now c.requires.kind (good c.args.kind (map command_row c.args.commands.now.items) c.args.line.now m.0).row m.1 (c.deref.ensures.value ∙ m.2)
 
 pub returns-in-Bad : goal.returns-in-Bad
 returns-in-Bad c =

@@ -6,8 +6,8 @@ use Rattle.fol_top.specs.Report.{Spelled}
 use Rattle.fol_top.proofs.RunEndings.{run_came, texts_came}
 use Rattle.fol_top.proofs.program.run_files.Goals as goal
 
-pub returns-in-Err-read_texts : goal.returns-in-Err-read_texts
-returns-in-Err-read_texts g c words command =
+pub returns-in-Err-read_texts_in_shares : goal.returns-in-Err-read_texts_in_shares
+returns-in-Err-read_texts_in_shares g c words command =
     let v : Course = record {
       words = words;
       held = g.F.Shelf.held c.args.shelf.now;
@@ -30,7 +30,7 @@ returns-in-Err-read_texts g c words command =
       command = command;
       are_held = ((e.world_held, e.world_within), ((e.script_held, e.script_within), tt));
     } in
-    texts_came v c.in-Ok.files.world c.in-Ok.files.script [] inputs c.in-Err-read_texts.ending refl c.in-Err-read_texts.ensures.ends
+    texts_came v c.in-Ok.files.world c.in-Ok.files.script [] inputs c.in-Err-read_texts_in_shares.ending refl c.in-Err-read_texts_in_shares.ensures.ends
 
 pub returns : goal.returns
 returns g c words command =
@@ -56,12 +56,12 @@ returns g c words command =
       command = command;
       are_held = ((e.world_held, e.world_within), ((e.script_held, e.script_within), tt));
     } in
-    let texts = c.in-Ok-read_texts.texts in
+    let texts = c.in-Ok-read_texts_in_shares.texts in
     let spelled : Spelled v.words v.held [] texts.opening texts.script = record {
       world_bytes = c.in-Ok.files.world;
       script_bytes = c.in-Ok.files.script;
       inputs = inputs;
-      world_text = c.in-Ok-read_texts.ensures.world;
-      script_text = c.in-Ok-read_texts.ensures.script;
+      world_text = c.in-Ok-read_texts_in_shares.ensures.world;
+      script_text = c.in-Ok-read_texts_in_shares.ensures.script;
     } in
     run_came v (record { world = c.args.names.world.now; script = c.args.names.script.now }) c.args.workers c.args.form command texts.opening texts.script spelled c.run_texts.result c.run_texts.ensures
