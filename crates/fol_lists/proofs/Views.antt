@@ -89,7 +89,7 @@ module _ {T : Type 0} (cells : List T) (spans filled : List Span) (numbers n : �
     filled_changed new changed to same e =
         listed_changed cells new filled changed numbers n to filled_reaches same e ∙ ap (λ ls. slice_set ls n (to (get_or ls n []))) (filled_same l)
 
--- more numbers
+-- more numbers, or no more than there are
 pub numbers_added : {T : Type 0} (cells : List T) (spans : List Span) (room numbers n : ℕ) → length spans ≤ numbers → numbers ≤ n
     → numbered (lists_of cells spans n) room ≡ with_numbers (numbered (lists_of cells spans numbers) room) n
 numbers_added cells spans room numbers n l m =
@@ -100,3 +100,10 @@ numbers_added cells spans room numbers n l m =
     ∙ ap (λ ps. pieces_of cells spans ++ ps) (sym (replicate-append-replicate (numbers - length spans) (n - numbers) []))
     ∙ sym (append_assoc (pieces_of cells spans) (replicate (numbers - length spans) []) (replicate (n - numbers) []))
     ∙ ap (λ k. lists_of cells spans numbers ++ replicate k []) (sym more))
+
+pub numbers_enough : {T : Type 0} (cells : List T) (spans : List Span) (room numbers n : ℕ) → length spans ≤ numbers → n ≤ numbers
+    → numbered (lists_of cells spans numbers) room ≡ with_numbers (numbered (lists_of cells spans numbers) room) n
+numbers_enough cells spans room numbers n l m =
+    let none : n - length (lists_of cells spans numbers) ≡ 0 = omega (arith, length_listed_all cells spans numbers l, m) in
+    numbered_is (lists_of cells spans numbers) (lists_of cells spans numbers ++ replicate (n - length (lists_of cells spans numbers)) []) room
+    (sym (ap (λ k. lists_of cells spans numbers ++ replicate k []) none ∙ append-nil (lists_of cells spans numbers)))
