@@ -7,6 +7,7 @@ ghost use Rattle.fol_model.specs.IsScript.{is_command};
 ghost use Rattle.fol_pool.specs.Script.{Carries, HasFinished, Issued};
 ghost use Rattle.fol_pool.specs.Works.{IsBack, Rests, SameSeat};
 
+use crate::bell::Bell;
 use crate::commands::{GivesUp, finish, load, open_phase, post, repeated, unload};
 use crate::phase::end_phase;
 use fol_io::Gate;
@@ -23,7 +24,7 @@ pub(crate) struct Led {
     pub(crate) finished: bool,
 }
 
-/// Carries out the commands and finishes the history, or else stops the world.
+/// Carries out the commands and finishes the history, or else stops the world, and rings the bell.
 pub(crate) fn lead<R: Wait, G: Gate + Sync>(
     rt: &R,
     alloc: Global,
@@ -31,6 +32,7 @@ pub(crate) fn lead<R: Wait, G: Gate + Sync>(
     mut caller: Seat,
     worker: Seat,
     commands: Vec<Command>,
+    bell: &Bell,
     gate: &G,
 ) -> Led
     requires own { caller.lock ≡ live_id live.now }
@@ -42,11 +44,12 @@ pub(crate) fn lead<R: Wait, G: Gate + Sync>(
     ensures worker { IsBack worker result.worker }
     ensures finished { result.finished ≡ true → HasFinished result.caller commands.items }
 {
-    let (worker, done) = carry_out(rt, alloc, live, &mut caller, worker, commands, gate);
+    let (worker, done) = carry_out(rt, alloc, live, &mut caller, worker, commands, bell, gate);
     let finished = done.is_ok();
     if !finished {
         live.stop(rt, &mut caller);
     }
+    bell.ring();
     Led {
         caller,
         worker,
@@ -62,6 +65,7 @@ fn carry_out<R: Wait, G: Gate + Sync>(
     caller: &mut Seat,
     worker: Seat,
     commands: Vec<Command>,
+    bell: &Bell,
     gate: &G,
 ) -> (Seat, Result<(), GivesUp>)
     requires own { caller.old.lock ≡ live_id live.now }
@@ -75,7 +79,7 @@ fn carry_out<R: Wait, G: Gate + Sync>(
 {
     let mut worker = worker;
     for command in commands {
-        let (back, issued) = issue(rt, alloc, live, caller, worker, command, gate);
+        let (back, issued) = issue(rt, alloc, live, caller, worker, command, bell, gate);
         worker = back;
         if issued.is_err() {
             return (worker, Err(GivesUp));
@@ -92,6 +96,7 @@ fn issue<R: Wait, G: Gate + Sync>(
     caller: &mut Seat,
     worker: Seat,
     command: Command,
+    bell: &Bell,
     gate: &G,
 ) -> (Seat, Result<(), GivesUp>)
     requires own { caller.old.lock ≡ live_id live.now }
@@ -105,7 +110,7 @@ fn issue<R: Wait, G: Gate + Sync>(
     ensures issued { OnOk result.1 (Issued caller.old caller.new command) }
 {
     match command {
-        Command::End => end_phase(rt, alloc, live, caller, worker, gate),
+        Command::End => end_phase(rt, alloc, live, caller, worker, bell, gate),
         Command::Load(chunk) => (worker, load(rt, live, caller, chunk)),
         Command::Unload(chunk) => (worker, unload(rt, live, caller, chunk)),
         Command::Post {

@@ -13,6 +13,7 @@
 //! caller's, that it carried out the commands and finished. The law of the seats makes of these promises a legal history.
 #![tactic(auto)]
 
+mod bell;
 mod commands;
 mod lead;
 mod patience;

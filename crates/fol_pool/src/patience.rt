@@ -4,9 +4,10 @@
 //! only where something may come of it: after a miss it stays away, longer each time, and a worker that meets others in the lock again
 //! and again leaves the ticks to them for a while. Nothing that a run promises depends on the numbers here.
 
+use crate::bell::Bell;
 use std::hint::spin_loop;
 use std::sync::Wait;
-use std::thread::{Parker, yield_now};
+use std::thread::yield_now;
 use std::time::Duration;
 
 /// How many misses in a row are met by spinning, and how many, with these, before the first sleep.
@@ -49,7 +50,6 @@ pub(crate) struct Patience {
     /// How much pressure it bears.
     bearable: u32,
     doublings: u32,
-    parker: Parker,
 }
 
 impl Patience {
@@ -69,7 +69,6 @@ impl Patience {
             pressure: 0,
             bearable,
             doublings,
-            parker: Parker::new(),
         }
     }
 
@@ -92,15 +91,15 @@ impl Patience {
         leaves
     }
 
-    /// There was nothing to do, or no room to do it: stays away, longer each time.
-    pub(crate) fn step_back<R: Wait>(&mut self, rt: &R) {
+    /// There was nothing to do, or no room to do it: stays away, longer each time, but no longer than until the bell rings.
+    pub(crate) fn step_back<R: Wait>(&mut self, rt: &R, bell: &Bell) {
         self.misses = self.misses.saturating_add(1);
         if self.misses <= SPINS {
             spin();
         } else if self.misses <= AWAKE {
             yield_now();
         } else {
-            self.sleep(rt, self.misses - AWAKE - 1);
+            self.sleep(rt, bell, self.misses - AWAKE - 1);
         }
     }
 
@@ -115,9 +114,9 @@ impl Patience {
     }
 
     /// Sleeps, where each doubling makes it twice as long, up to a limit.
-    fn sleep<R: Wait>(&self, rt: &R, doublings: u32) {
+    fn sleep<R: Wait>(&self, rt: &R, bell: &Bell, doublings: u32) {
         let micros = SLEEP_MICROS.wrapping_shl(doublings.min(self.doublings));
-        self.parker.park_timeout(rt, Duration::from_micros(micros));
+        bell.sleep(rt, Duration::from_micros(micros));
     }
 }
 

@@ -6,6 +6,7 @@ ghost use Rattle.fol_model.specs.declared.scripts.Command.TheVariants as command
 ghost use Rattle.fol_pool.specs.Script.{Issued};
 ghost use Rattle.fol_pool.specs.Works.{IsBack, Rests, SameSeat};
 
+use crate::bell::Bell;
 use crate::commands::GivesUp;
 use crate::patience::Patience;
 use crate::tick::ticks;
@@ -22,6 +23,7 @@ pub(crate) fn end_phase<R: Wait, G: Gate + Sync>(
     live: &Live,
     caller: &mut Seat,
     worker: Seat,
+    bell: &Bell,
     gate: &G,
 ) -> (Seat, Result<(), GivesUp>)
     requires own { caller.old.lock ≡ live_id live.now }
@@ -42,7 +44,7 @@ pub(crate) fn end_phase<R: Wait, G: Gate + Sync>(
             Err(_) => return (worker, Err(GivesUp)),
             Ok(_) => match live.close_phase(rt, caller) {
                 Ok(Close::Closed) => return (worker, Ok(())),
-                Ok(Close::NotYet(_)) => patience.step_back(rt),
+                Ok(Close::NotYet(_)) => patience.step_back(rt, bell),
                 Ok(Close::NoPhase | Close::Over) | Err(_) => return (worker, Err(GivesUp)),
             },
         }

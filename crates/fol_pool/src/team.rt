@@ -8,6 +8,7 @@ ghost use Rattle.fol_pool.specs.Script.{Carries, HasFinished};
 ghost use Rattle.fol_pool.specs.Team.{AreBack, IsReady};
 ghost use Rattle.fol_pool.specs.Works.{IsBack, Rests, SameSeat};
 
+use crate::bell::Bell;
 use crate::lead::{Led, lead};
 use crate::work::{HandsBack, work};
 use fol_io::Gate;
@@ -49,6 +50,7 @@ pub(crate) fn play<R: Threads + Wait + Sync, G: Gate + Sync>(
     ensures room { vec_capacity result.workers ≡ vec_capacity workers }
     ensures finished { result.finished ≡ true → HasFinished result.caller commands.items }
 {
+    let bell = Bell::new();
     thread::scope(
         thread::scope_env(),
         rt,
@@ -62,7 +64,11 @@ pub(crate) fn play<R: Threads + Wait + Sync, G: Gate + Sync>(
             ensures workers { AreBack workers.items result.workers.items }
             ensures room { vec_capacity result.workers ≡ vec_capacity workers }
             ensures finished { result.finished ≡ true → HasFinished result.caller commands.items }
-        { team(rt, alloc, scope, live, caller, workers, commands, gate) },
+        {
+            team(
+                rt, alloc, scope, live, caller, workers, commands, &bell, gate,
+            )
+        },
     )
 }
 
@@ -75,6 +81,7 @@ fn team<'s, E, R: Threads + Wait + Sync, G: Gate + Sync>(
     caller: Seat,
     mut workers: Vec<Seat>,
     commands: Vec<Command>,
+    bell: &'s Bell,
     gate: &'s G,
 ) -> Ended
     requires own { caller.lock ≡ live_id live.now }
@@ -95,7 +102,7 @@ fn team<'s, E, R: Threads + Wait + Sync, G: Gate + Sync>(
             caller,
             worker,
             finished,
-        } = lead(rt, alloc, live, caller, seat, commands, gate);
+        } = lead(rt, alloc, live, caller, seat, commands, bell, gate);
         workers.push_reserved(worker);
         return Ended {
             caller,
@@ -109,15 +116,19 @@ fn team<'s, E, R: Threads + Wait + Sync, G: Gate + Sync>(
             requires own { seat.lock ≡ live_id live.now }
             requires rests { Rests seat }
             ensures { IsBack seat result }
-        { work(rt, alloc, live, seat, gate) },
+        { work(rt, alloc, live, seat, bell, gate) },
     ) {
         Ok(child) => {
-            let mut ended = team(rt, alloc, scope, live, caller, workers, commands, gate);
+            let mut ended = team(
+                rt, alloc, scope, live, caller, workers, commands, bell, gate,
+            );
             ended.workers.push_reserved(child.join(rt));
             ended
         }
         Err(refused) => {
-            let mut ended = team(rt, alloc, scope, live, caller, workers, commands, gate);
+            let mut ended = team(
+                rt, alloc, scope, live, caller, workers, commands, bell, gate,
+            );
             ended.workers.push_reserved((refused.value)());
             ended
         }

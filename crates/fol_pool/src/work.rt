@@ -4,6 +4,7 @@ ghost use Rattle.std.specs.Prelude.{◌≡◌};
 ghost use Rattle.fol_live.specs.Lives.{live_id};
 ghost use Rattle.fol_pool.specs.Works.{Rests, SameSeat, Works};
 
+use crate::bell::Bell;
 use crate::patience::Patience;
 use crate::tick::{Rest, ticks};
 use fol_io::Gate;
@@ -29,6 +30,7 @@ pub(crate) fn work<R: Wait, G: Gate + Sync>(
     alloc: Global,
     live: &Live,
     seat: Seat,
+    bell: &Bell,
     gate: &G,
 ) -> Seat
     requires own { seat.lock ≡ live_id live.now }
@@ -40,18 +42,18 @@ pub(crate) fn work<R: Wait, G: Gate + Sync>(
     let mut patience = Patience::of_worker();
     for _turn in rt.forever() {
         if patience.is_crowded(live.crowd()) {
-            patience.step_back(rt);
+            patience.step_back(rt, bell);
             continue;
         }
         let (back, rest) = ticks(rt, alloc, live, seat, &mut patience, gate);
         seat = back;
         match rest {
-            Ok(Rest::Left) => patience.step_back(rt),
+            Ok(Rest::Left) => patience.step_back(rt, bell),
             Ok(Rest::Idle) => {
                 if is_over(rt, live, &mut seat, &patience) {
                     return seat;
                 }
-                patience.step_back(rt);
+                patience.step_back(rt, bell);
             }
             Err(_) => return seat,
         }
