@@ -8,5 +8,6 @@ pub mod LineActions
 pub mod Issuing
 pub mod Carrying
 -- all seats
+pub mod Crossing
 pub mod Newcomers
 pub mod Together

@@ -1,13 +1,12 @@
 -- A tick of a worker, from its claim to its End.
-use Rattle.std.proofs.Common.{◌≡◌, ℕ, refl, sym, ◌∙◌, ap, subst, inl, inr, true, false, List, [], ◌∷◌, ◌++◌, filter, length, map, append_assoc, Option, Some, None}
-use Rattle.std.specs.Prelude.{◌+◌, nat_eq, Result, Ok, Err, IsSome}
+use Rattle.std.proofs.Common.{◌≡◌, ℕ, refl, ◌∙◌, ap, subst, inl, inr, true, false, List, [], ◌∷◌, ◌++◌, filter, length, map, append_assoc, Some, None}
+use Rattle.std.specs.Prelude.{◌+◌, nat_eq, Ok, Err, IsSome}
 use Rattle.std.specs.Global.{Box}
 use Rattle.std.specs.List.{AllByRecursion, list_any}
-use Rattle.std.proofs.lemmas.Bool.{cases_Bool, eq-eqb}
+use Rattle.std.proofs.lemmas.Bool.{eq-eqb}
 use Rattle.fol_model.specs.ActionStep.{plain_of}
 use Rattle.fol_model.specs.declared.openings.Opening.{Opening}
 use Rattle.fol_model.specs.declared.events.Entry.{Entry}
-use Rattle.fol_model.specs.declared.events.Event.{Event}
 use Rattle.fol_model.specs.declared.events.Event.TheVariants.{End}
 use Rattle.fol_model.specs.declared.tasks.Ran.{Ran}
 use Rattle.fol_model.specs.declared.tasks.Task.{Task}
@@ -25,7 +24,6 @@ use Rattle.fol_tick.specs.Calls as calls
 use Rattle.fol_tick.specs.Runs.{Finishes, Runs}
 use Rattle.fol_world.specs.AtEnd.{end_event}
 use Rattle.fol_core.specs.Meaning.{world_of}
-use Rattle.fol_core.specs.Ticks.{SameTick}
 use Rattle.fol_core.specs.Quiet.{quiet_ticks}
 use Rattle.fol_tick_laws.proofs.BegunTicks.{due_is}
 use Rattle.fol_tick_laws.proofs.FinishedTicks.{all_ran, all_served}
@@ -33,24 +31,22 @@ use Rattle.fol_tick_laws.proofs.ToldAgain.{told_again}
 use Rattle.fol_tick_laws.specs.OpenTicks.{IsOpen}
 use Rattle.fol_offers.specs.Fit.{IsFitTick}
 use Rattle.fol_laws.proofs.SortedRows.{all_append}
-use Rattle.fol_seat_laws.specs.Late.{OnlyBegins}
-use Rattle.fol_seat_laws.specs.Signed.{deeds_of, is_phase, is_start, own_of}
+use Rattle.fol_seat_laws.specs.Signed.{deeds_of, is_phase}
 use Rattle.fol_seat_laws.specs.Turns.{Turns}
 use Rattle.fol_seat_laws.specs.Worked.{WasWhole}
 use Rattle.fol_seat_laws.proofs.LateTicks.{late_turn}
 use Rattle.fol_seat_laws.proofs.LateTurns.{deeds_go_on, stays_in_tick}
 use Rattle.fol_seat_laws.proofs.Turning.{turned, turns_more}
 use Rattle.fol_live.specs.Calls.{Claims, Misses, PassesOn, Releases}
-use Rattle.fol_live.specs.Goes.{Does, Goes, Hosts, Serves, deeds, does_both, does_looks, entries_of, goes_both}
-use Rattle.fol_live.specs.Held.{HoldsRun, HoldsTick}
+use Rattle.fol_live.specs.Goes.{Hosts, Serves, deeds, does_both, does_looks, entries_of}
 use Rattle.fol_live.specs.Kept.{Keeps}
 use Rattle.fol_live.specs.Seat.{Shown, held, held_in, meaning_of}
 use Rattle.fol_live.specs.Turned.{Looks}
 use Rattle.fol_live.specs.Turns.{IsLate}
 use Rattle.fol_live.proofs.HeldTicks.{claimed_held, run_held}
 use Rattle.fol_live.proofs.Hosted.{still_holds}
-use Rattle.fol_live.proofs.OwnTurns.{goes_still, goes_turn}
-use Rattle.fol_pool.specs.Works.{Calm, HasRun, Holds, IsStuck, Rests, SameSeat, Works}
+use Rattle.fol_live.proofs.OwnTurns.{goes_turn}
+use Rattle.fol_pool.specs.Works.{Calm, HasRun, Holds, IsStuck, Rests, SameSeat}
 use Rattle.fol_pool.proofs.Asked.{turns_asked}
 use Rattle.fol_pool.proofs.Going.{IsCalm, IsStart, begins_both, calm_does, calm_goes, does_still, late_starts, looks_begin, own_starts, starts_calm, stopped_before}
 use Rattle.fol_pool.proofs.QuietTurns.{quiet_calm, whole_passed}

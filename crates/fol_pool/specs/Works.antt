@@ -1,5 +1,5 @@
 -- What a worker's seat keeps, between ticks and in one.
-use Rattle.std.specs.Prelude.{◌≡◌, ◌≤◌, true, false, List, [], filter, nat_eq, None, IsSome}
+use Rattle.std.specs.Prelude.{◌≡◌, ◌≤◌, false, List, [], filter, nat_eq, None, IsSome}
 use Rattle.std.specs.List.{AllByRecursion, list_any}
 use Rattle.fol_model.specs.declared.events.Entry.{Entry}
 use Rattle.fol_model.specs.declared.tasks.Ran.{Ran}

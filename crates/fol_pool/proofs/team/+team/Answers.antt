@@ -6,11 +6,12 @@ use denote.Param.Send.{sendable}
 use Rattle.fol_live.proofs.Crossing.{Live-sync, Seat-send}
 use Rattle.fol_live.specs.Lives.{live_id}
 use Rattle.fol_pool.specs.Team.{IsReady}
+use Rattle.fol_pool.proofs.Crossing.{Bell-sync}
 use Rattle.fol_pool.proofs.Together.{all_last, as_many, back_more}
 use Rattle.fol_pool.proofs.team.+team.Goals as goal
 
 pub spawn_with-requires-send-F : goal.spawn_with-requires-send-F
-spawn_with-requires-send-F g t c κs within = search (c.requires-raw, sendable, crosses, Seat-send, Live-sync) depth 20
+spawn_with-requires-send-F g t c κs within = search (c.requires-raw, sendable, crosses, Seat-send, Live-sync, Bell-sync) depth 20
 
 pub spawn_with-requires-send-T : goal.spawn_with-requires-send-T
 spawn_with-requires-send-T g t c κs within = search (sendable, Seat-send) depth 14
