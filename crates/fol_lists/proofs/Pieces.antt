@@ -252,9 +252,6 @@ last_added spans m n h = record {
     empty : Span
     empty = record { from = 0; to = 0 }
 
-pub last_empty : (n : ℕ) → IsLast [] n
-last_empty n = record { before = λ k d b. absurd (omega arith) }
-
 -- ---- empty lists
 pub pieces_empty : {T : Type 0} (cells : List T) (n : ℕ) → pieces_of cells (replicate n (record { from = 0; to = 0 })) ≡ replicate n []
 pieces_empty cells zero = refl

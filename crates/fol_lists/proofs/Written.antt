@@ -3,7 +3,7 @@ use Rattle.std.proofs.Common.{◌≡◌, ℕ, ◌+◌, ◌<◌, ◌≤◌, refl,
 use Rattle.std.specs.Prelude.{slice_set, sum_by}
 use Rattle.std.specs.List.{All}
 use Rattle.std.proofs.lemmas.List.{take_more_set, take_more, take_all, map-append, get_or-map, get_or-drop, drop-set-lt, drop-drop, length-map, length-set}
-use Rattle.std.proofs.lemmas.List.Elements.{All-push, All-nil}
+use Rattle.std.proofs.lemmas.List.Elements.{All-push}
 use Rattle.std.proofs.lemmas.List.Sums.{sum_by_more, sum_by_more_le}
 use Rattle.fol_lists.specs.declared.spans.Span.{Span}
 use Rattle.fol_lists.specs.Spans.{IsSpan, piece_of, pieces_of}
@@ -16,9 +16,6 @@ pub record IsWritten {T : Type 0} (cells : List T) (old spans : List Span) (into
   pub len : length spans ≡ length old
   pub fit : All (IsSpan (length into)) (take i spans)
   pub used : length into ≡ sum_by length (take i (pieces_of cells old))
-
-pub written_none : {T : Type 0} (cells : List T) (old : List Span) (into : List T) → into ≡ [] → IsWritten cells old old into 0
-written_none cells old into e = record { lists = refl; left = refl; len = refl; fit = All-nil (IsSpan (length into)); used = ap length e }
 
 module _ {T : Type 0} (cells : List T) (old spans : List Span) (into : List T) (i : ℕ) (w : IsWritten cells old spans into i) (l : i < length spans) (d : Span) where
   -- the span that comes next is the old one

@@ -1,13 +1,13 @@
 -- The answer to an added hold, by what a table keeps.
 use Rattle.std.proofs.Common.{◌≡◌, ℕ, ◌+◌, ◌≤◌, ◌<◌, refl, sym, ◌∙◌, ap, arith, Bool, true, false, not, ◌&&◌, ◌||◌, inl, inr, List, [], length}
 use Rattle.std.specs.Prelude.{ℤ, pos, ◌-ℤ◌, nat_abs, nat_eq, nat_lt, is_some, Some, None, Option}
-use Rattle.std.specs.List.{IsDistinct, filter}
+use Rattle.std.specs.List.{filter}
 use Rattle.std.proofs.lemmas.Bool.{and_parts, true≢false, leb-true, le-leb, lt-ltb, le-ltb, eq-eqb, ne_eqb, or_cases, or_right}
 use Rattle.std.proofs.lemmas.List.Kept.{IsStrictlySortedBy-filter}
 use Rattle.fol_model.specs.declared.places.ChunkPos.{ChunkPos}
 use Rattle.fol_model.specs.declared.places.SectionPos.{SectionPos}
 use Rattle.fol_model.specs.declared.grids.Grid.{Grid}
-use Rattle.fol_model.specs.Geometry.{distance, is_chunk, is_section, is_within, same_section, section_of, is_among}
+use Rattle.fol_model.specs.Geometry.{distance, is_chunk, is_section, is_within, section_of, is_among}
 use Rattle.fol_model.specs.Universe.{all_sections, count_sections, section_cmp, square}
 use Rattle.fol_laws.proofs.Distances.{self_distance}
 use Rattle.fol_laws.proofs.FloorDivision.{around_in_limits}
@@ -21,7 +21,6 @@ use Rattle.fol_sections.specs.Table.{added, is_full_for, is_missing, missing_cou
 use Rattle.fol_sections.specs.Kept.{IsKept}
 use Rattle.fol_sections.proofs.DeadSteps.{square_none}
 use Rattle.fol_sections.proofs.Margins.{section_near}
-use Rattle.fol_sections.proofs.SquareRows.{rising_distinct}
 use Rattle.fol_sections.proofs.Tables.{table, table-presence}
 
 -- where all sections within a radius are present, none of them is missing
@@ -99,9 +98,6 @@ module _ (grid : Grid) (holds : List ((ℤ × ℤ) × ℕ)) (pages : List ((ℤ 
     pub among-missing : (s : SectionPos) → is_among missing s ≡ (not (is_here pages s) && is_within (section_of grid c) grid.create s)
     among-missing s = ap (λ xs. is_among xs s) found ∙ section_members (λ q. not (is_here pages q)) (square (section_of grid c) grid.create) s
         ∙ ap (λ b. not (is_here pages s) && b) (square_members (section_of grid c) grid.create s)
-
-    pub missing_distinct : IsDistinct same_section missing
-    missing_distinct = rw found (rising_distinct _ (IsStrictlySortedBy-filter section_cmp (λ s. not (is_here pages s)) (square (section_of grid c) grid.create) (square_sorted (section_of grid c) grid.create)))
 
     pub missing_absent : (s : SectionPos) → is_among missing s ≡ true → counts_at pages s ≡ None
     unfolding is_here

@@ -98,14 +98,6 @@ chunks_here pages s h = there (counts_at pages s) h
     there None p = absurd (omega arith)
     there (Some n) p = refl
 
-pub near_here : (pages : List ((ℤ × ℤ) × Page)) (s : SectionPos) → 0 < near_at pages s → is_here pages s ≡ true
-unfolding near_at is_here
-near_here pages s h = there (counts_at pages s) h
-  where
-    there : (o : Option Counts) → 0 < (unwrap_or o no_counts).near → is_some o ≡ true
-    there None p = absurd (omega arith)
-    there (Some n) p = refl
-
 pub among_at : (xs : List SectionPos) (k : ℕ) (d : SectionPos) → k < length xs → is_among xs (get_or xs k d) ≡ true
 among_at xs k d l = list_any_at (same_section (get_or xs k d)) xs k d l (same_section-self (get_or xs k d))
 
