@@ -1,6 +1,6 @@
 //! A rising list of ids, into which ids come, and which forgets those of Dead regions where they are many.
 
-ghost use Rattle.std.specs.Prelude.{◌≡◌, ◌<◌, ◌≤◌, ◌∷◌, true, false, count_by, filter, is_some, length, nat_eq};
+ghost use Rattle.std.specs.Prelude.{◌≡◌, ℕ, ◌<◌, ◌≤◌, ◌∷◌, true, false, count_by, filter, is_some, length, nat_eq, slice_index_or};
 ghost use Rattle.std.specs.Vec.{vec_capacity};
 ghost use Rattle.std.specs.List.{list_any};
 ghost use Rattle.std.specs.List.Sorted.{IsNonDecreasingBy, IsPermutation};
@@ -14,7 +14,7 @@ const FEW: usize = 64;
 
 /// Puts an id into a rising list, unless it is there. The list has room for it, and no memory is taken.
 ///
-/// An id above all others, as a new one is, comes to the end.
+/// An id above all others, as a new one is, comes to the end, and no place is looked for.
 pub fn put_id(ids: &mut Vec<u64>, id: u64)
     requires rising { IsNonDecreasingBy (λ x. x) ids.old.items }
     requires room { length ids.old.items < vec_capacity ids.old }
@@ -24,12 +24,27 @@ pub fn put_id(ids: &mut Vec<u64>, id: u64)
         → IsPermutation (id ∷ ids.old.items) ids.new.items }
     ensures capacity { vec_capacity ids.old ≤ vec_capacity ids.new }
 {
+    if is_above_all(ids, id) {
+        ids.push_reserved(id);
+        return;
+    }
     match ids.binary_search(&id) {
         Ok(_) => {}
         Err(place) => {
             let _ = ids.insert(place, id);
         }
     }
+}
+
+/// Whether an id is above all of a rising list.
+fn is_above_all(ids: &[u64], id: u64) -> bool
+    requires { IsNonDecreasingBy (λ x. x) ids.now }
+    ensures { result ≡ true → (k : ℕ) → k < length ids.now → slice_index_or ids.now k 0 < id }
+{
+    if ids.is_empty() {
+        return true;
+    }
+    ids[ids.len() - 1] < id
 }
 
 /// Takes the ids of Dead regions out of a list. If there are none, no region is looked up.
