@@ -1,7 +1,8 @@
 -- How the slots of the regions are found.
-use Rattle.std.specs.Prelude.{◌≡◌, ◌≢◌, ℕ, ◌≤◌, List, Option, Some, None, count_by, is_some, length, nat_eq, nat_lt}
+use Rattle.std.specs.Prelude.{◌≡◌, ◌≢◌, Bool, true, ℕ, ◌≤◌, List, Option, Some, None, count_by, is_some, nat_eq, nat_lt}
 use Rattle.std.specs.List.{IsDistinct, list_any, slice_index_or}
 use Rattle.std.specs.List.Sorted.{IsNonDecreasingBy}
+use Rattle.slab.specs.Slab.{Slab}
 use Rattle.fol_region_tables.specs.Slots.{SlotTable, slot_of}
 use Rattle.fol_region_tables.specs.declared.slots.Region.{Region}
 use Rattle.fol_region_tables.specs.declared.slots.TheConstants.{UNKNOWN}
@@ -18,10 +19,18 @@ pub record AreKeys (regions : List (Option Region)) (room : ℕ) (keys : List �
   pub within : (k : ℕ) → room ≤ k → slice_index_or regions k None ≡ None
   pub most : MOST_SECTIONS ≤ room
 
--- the ids are those of the regions that have a slot, each once and rising, in memory for as many as there are slots
+-- the table that a slab of regions is
+abbrev pub table_of : Slab Region → SlotTable
+table_of regions = record { regions = regions.slots; room = regions.capacity }
+
+-- whether a region has a slot
+abbrev pub has_slot : SlotTable → ℕ → Bool
+has_slot v id = nat_lt (slot_of v id) v.room
+
+-- among the ids, each once and rising, are those of the regions that have a slot, and there is memory for at least as many as there are slots
 pub record AreLiving (v : SlotTable) (ids : List ℕ) (capacity : ℕ) : Type 0 where
   pub rising : IsNonDecreasingBy (λ x. x) ids
   pub distinct : IsDistinct nat_eq ids
-  pub members : (id : ℕ) → list_any (nat_eq id) ids ≡ nat_lt (slot_of v id) v.room
-  pub count : length ids ≡ count_by is_some v.regions
+  pub members : (id : ℕ) → has_slot v id ≡ true → list_any (nat_eq id) ids ≡ true
+  pub count : count_by (has_slot v) ids ≡ count_by is_some v.regions
   pub fits : v.room ≤ capacity

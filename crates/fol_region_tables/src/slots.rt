@@ -7,9 +7,10 @@ ghost use Rattle.std.specs.List.Sorted.{IsStrictlySortedBy};
 ghost use Rattle.std.specs.Ordering.{nat_cmp};
 ghost use Rattle.fol_model.specs.declared.regions.State.TheVariants.{Dead};
 ghost use Rattle.fol_model.specs.GridState.{with_state};
-ghost use Rattle.fol_region_tables.specs.SlotKeys.{key_at};
+ghost use Rattle.fol_region_tables.specs.SlotKeys.{AreKeys, AreLiving, has_slot, key_at, table_of};
+ghost use Rattle.fol_region_tables.specs.Slots.{has_id, region_at, slot_of};
 
-use crate::living::{put_id, take_id};
+use crate::living::{forget_gone, keep_living, make_room, put_id};
 use fol_model::{MOST_SECTIONS, State};
 use slab::Slab;
 use std::alloc::{AllocError, Global};
@@ -33,7 +34,7 @@ pub struct Slots {
     regions: Slab<Region>,
     /// By id: the slot of the region. A key counts only where the slot's region has the id, so those of Dead regions stay.
     keys: Vec<u32>,
-    /// The ids of the regions, rising, with memory for as many as there are slots.
+    /// The ids of the regions, rising, and among them some of Dead regions, taken out once they are as many. There is memory for twice the slots.
     living: Vec<u64>,
 }
 
@@ -43,11 +44,11 @@ impl Model for Slots {
     ghost Value = { SlotTable };
 
     ghost use Rattle.std.specs.Vec.{vec_capacity};
-    ghost use Rattle.fol_region_tables.specs.SlotKeys.{AreKeys, AreLiving};
+    ghost use Rattle.fol_region_tables.specs.SlotKeys.{AreKeys, AreLiving, table_of};
 
-    ghost view = { λ s. record { regions = s.regions.slots; room = s.regions.capacity } };
+    ghost view = { λ s. table_of s.regions };
 
-    ghost invariant = { λ s. AreKeys s.regions.slots s.regions.capacity s.keys.items × AreLiving (record { regions = s.regions.slots; room = s.regions.capacity }) s.living.items (vec_capacity s.living) };
+    ghost invariant = { λ s. AreKeys s.regions.slots s.regions.capacity s.keys.items × AreLiving (table_of s.regions) s.living.items (vec_capacity s.living) };
 }
 
 impl Slots {
@@ -60,7 +61,7 @@ impl Slots {
         ensures room { IfOk result (λ v. MOST_SECTIONS ≤ v.room) }
     {
         let regions = Slab::with_capacity(alloc, MOST_SECTIONS)?;
-        let living = Vec::with_capacity(alloc, regions.capacity())?;
+        let living = Vec::with_capacity(alloc, regions.capacity().saturating_mul(2))?;
         Ok(Slots {
             regions,
             keys: Vec::new(alloc),
@@ -77,7 +78,7 @@ impl Slots {
         regions.reserve(self.regions.capacity() - self.regions.len())?;
         let mut keys = Vec::with_capacity(alloc, self.keys.capacity())?;
         keys.extend_from_slice(&self.keys)?;
-        let mut living = Vec::with_capacity(alloc, regions.capacity())?;
+        let mut living = Vec::with_capacity(alloc, regions.capacity().saturating_mul(2))?;
         living.extend_from_slice(&self.living)?;
         Ok(Slots {
             regions,
@@ -117,39 +118,7 @@ impl Slots {
     pub fn find(&self, id: u64) -> usize
         ensures { result ≡ slot_of self.now id }
     {
-        let key = key_of(&self.keys, id);
-        if key == UNKNOWN {
-            return self.look_for(id);
-        }
-        let slot = key as usize;
-        if self.has(slot, id) {
-            slot
-        } else {
-            self.regions.capacity()
-        }
-    }
-
-    /// The slot of a region, or `room` where it has none. Goes over the slots.
-    fn look_for(&self, id: u64) -> usize
-        ensures { result ≡ slot_of self.now id }
-    {
-        let room = self.regions.capacity();
-        for slot in 0..room {
-            if self.has(slot, id) {
-                return slot;
-            }
-        }
-        room
-    }
-
-    /// Whether the region in a slot has this id.
-    fn has(&self, slot: usize, id: u64) -> bool
-        ensures { result ≡ has_id id (region_at self.now slot) }
-    {
-        match self.regions.get(slot) {
-            Some(region) => region.id == id,
-            None => false,
-        }
+        find_slot(&self.regions, &self.keys, id)
     }
 
     /// The state of a region; Dead where it has no slot.
@@ -162,7 +131,7 @@ impl Slots {
         }
     }
 
-    /// The ids of the regions that have a slot, rising. Goes over these alone, and takes memory for them.
+    /// The ids of the regions that have a slot, rising. Goes over these and at most as many others or 64, and takes memory for them.
     pub fn ids(&self, alloc: Global) -> Result<Vec<u64>, AllocError>
         ensures rising { IfOk result (λ ids. IsStrictlySortedBy nat_cmp ids.items) }
         ensures members { IfOk result (λ ids. (id : ℕ)
@@ -170,6 +139,7 @@ impl Slots {
     {
         let mut ids = Vec::with_capacity(alloc, self.living.len())?;
         ids.extend_from_slice(&self.living)?;
+        keep_living(&mut ids, &self.regions, &self.keys);
         Ok(ids)
     }
 
@@ -197,13 +167,14 @@ impl Slots {
         ensures within { result < self.old.room }
         ensures fresh { (q : ℕ) → slot_of self.old q ≢ result }
     {
+        make_room(&mut self.living, &self.regions, &self.keys);
         let slot = self.regions.insert_reserved(Region { id, state });
         put_key(&mut self.keys, id, slot);
         put_id(&mut self.living, id);
         slot
     }
 
-    /// Takes the slot of a region back, if it has one: the region is Dead. The ids above it move one place down.
+    /// Takes the slot of a region back, if it has one: the region is Dead.
     pub fn remove(&mut self, id: u64)
         ensures slots { slot_of self.new
             ≡ (λ q. if nat_eq id q then self.old.room else slot_of self.old q) }
@@ -212,8 +183,57 @@ impl Slots {
     {
         let slot = self.find(id);
         if self.regions.try_remove(slot).is_some() {
-            take_id(&mut self.living, id);
+            forget_gone(&mut self.living, &self.regions, &self.keys);
         }
+    }
+}
+
+/// The slot of a region, or `room` where it has none.
+fn find_slot(regions: &Slab<Region>, keys: &[u32], id: u64) -> usize
+    requires { AreKeys regions.now.slots regions.now.capacity keys.now }
+    ensures { result ≡ slot_of (table_of regions.now) id }
+{
+    let key = key_of(keys, id);
+    if key == UNKNOWN {
+        return look_for(regions, keys, id);
+    }
+    let slot = key as usize;
+    if has(regions, slot, id) {
+        slot
+    } else {
+        regions.capacity()
+    }
+}
+
+/// The slot of a region, or `room` where it has none. Goes over the slots.
+fn look_for(regions: &Slab<Region>, keys: &[u32], id: u64) -> usize
+    requires { AreKeys regions.now.slots regions.now.capacity keys.now }
+    ensures { result ≡ slot_of (table_of regions.now) id }
+{
+    let room = regions.capacity();
+    for slot in 0..room {
+        if has(regions, slot, id) {
+            return slot;
+        }
+    }
+    room
+}
+
+/// Whether a region has a slot.
+pub fn has_slot(regions: &Slab<Region>, keys: &[u32], id: u64) -> bool
+    requires { AreKeys regions.now.slots regions.now.capacity keys.now }
+    ensures { result ≡ has_slot (table_of regions.now) id }
+{
+    find_slot(regions, keys, id) < regions.capacity()
+}
+
+/// Whether the region in a slot has this id.
+fn has(regions: &Slab<Region>, slot: usize, id: u64) -> bool
+    ensures { result ≡ has_id id (region_at (table_of regions.now) slot) }
+{
+    match regions.get(slot) {
+        Some(region) => region.id == id,
+        None => false,
     }
 }
 
