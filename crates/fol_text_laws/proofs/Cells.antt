@@ -94,3 +94,8 @@ pub record WordFirst (cs : List Cell) : Type 0 where
   pub is : cs ≡ cells.Word key ∷ rest
   pub acts : is_none (action_form key) ≡ false
   pub fits : Fits (or_nothing (action_form key)) rest
+
+pub word_first : (cs : List Cell) → Fits (fields.Action ∷ []) cs → WordFirst cs
+word_first [] f = absurd f
+word_first (cells.Number z ∷ cs) f = absurd f
+word_first (cells.Word key ∷ cs) f = record { key = key; rest = cs; is = refl; acts = f.0; fits = f.1 }

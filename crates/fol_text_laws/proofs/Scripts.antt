@@ -1,7 +1,7 @@
 -- The rows of a script are those of commands that make a script, and the other way round.
 use Rattle.std.proofs.Common.{◌≡◌, ℕ, ◌+◌, ◌≤◌, Bool, true, false, cond, not, ◌⊎◌, inl, inr, List, [], ◌∷◌, ◌++◌, map, refl, sym, ap, subst, ◌∙◌, arith, nat_lt}
 use Rattle.std.specs.List.{list_all, list_any, sum_by}
-use Rattle.std.proofs.lemmas.Bool.{and_parts, and_from, or_parts, le-ltb, lt-ltb, ltb-false}
+use Rattle.std.proofs.lemmas.Bool.{and_parts, and_from, or_parts, or_from, le-ltb, lt-ltb, ltb-false}
 use Rattle.std.proofs.lemmas.List.Sums.{sum_by_push, sum_by-cons}
 use Rattle.fol_model.specs.declared.words.Keyword.{Keyword}
 use Rattle.fol_model.specs.declared.words.Keyword.TheVariants as keys
@@ -145,6 +145,14 @@ back rows c cs s = record {
   ticks = omega (arith, s.ticks, sum_by_push ticks rows (command_row c), sum_by-cons ticks_of c cs, ticks_is c);
   times = omega (arith, s.times, sum_by_push times rows (command_row c), sum_by-cons count_of c cs, times_is c);
 }
+
+not_too_much : (rows : List Row) (c : Command) (cs : List Command) → Sums rows (c ∷ cs) → is_too_much rows (command_row c) ≡ false
+not_too_much rows (command.Load c) cs s = refl
+not_too_much rows (command.Unload c) cs s = refl
+not_too_much rows (command.Post c d a) cs s = refl
+not_too_much rows (command.Every c d p n a) cs s = le-ltb _ _ (omega (arith, s.times, sum_by-cons count_of (command.Every c d p n a) cs))
+not_too_much rows (command.Run n) cs s = or_from _ _ (le-ltb _ _ (omega (arith, s.ticks, sum_by-cons ticks_of (command.Run n) cs))) refl
+not_too_much rows command.End cs s = refl
 
 -- no row of a script stands twice
 once : (rows : List Row) (c : Command) → is_twice rows (command_row c) ≡ false
