@@ -1,4 +1,4 @@
--- What a tick that needs no worker's hands leaves in nobody's hands.
+-- What a quiet tick leaves in nobody's hands.
 use Rattle.std.proofs.Common.{◌≡◌, ◌≢◌, ℕ, ◌≤◌, ◌<◌, refl, sym, ◌∙◌, ap, arith, true, false, not, inl, inr}
 use Rattle.std.specs.Prelude.{nat_eq, nat_le, Option, Some, None}
 use Rattle.std.proofs.Math.Path.{fun_ext}

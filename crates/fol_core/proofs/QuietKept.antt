@@ -1,4 +1,4 @@
--- What the tables stand for after a tick that needs no worker's hands.
+-- What the tables stand for after a quiet tick.
 use Rattle.std.proofs.Common.{◌≡◌, ◌≢◌, ℕ, ◌+◌, ◌-◌, ◌≤◌, ◌<◌, ◌^◌, refl, sym, ◌∙◌, ap, subst, arith, true, false, inl, inr, ◌&&◌, ◌||◌, List, [], ◌∷◌, ◌++◌, filter, length-append, All, IsTrue}
 use Rattle.std.specs.Prelude.{nat_eq, nat_lt, Option, Some, None}
 use Rattle.std.specs.Option.{ForSome}
@@ -37,7 +37,7 @@ use Rattle.fol_regions.specs.Table.{grid_state}
 use Rattle.fol_sections.specs.Places.{count_at}
 use Rattle.fol_store.specs.Bag.{Bag}
 use Rattle.fol_store.specs.Passing.{nearer}
-use Rattle.fol_store.specs.Stock.{bag_of, flat_of, jobs_of}
+use Rattle.fol_store.specs.Stock.{bag_of, jobs_of}
 use Rattle.fol_world.specs.declared.tables.Course.{Course}
 use Rattle.fol_world.specs.declared.tables.Tables.{Tables}
 use Rattle.fol_world.specs.Begun.{due_task}

@@ -1,4 +1,4 @@
--- The world after a tick that needs no worker's hands.
+-- The world after a quiet tick.
 use Rattle.std.proofs.Common.{◌≡◌, ℕ, ◌+◌, ◌-◌, refl, sym, ◌∙◌, ap, arith, false, ◌&&◌, []}
 use Rattle.std.specs.Prelude.{Option, Some, None}
 use Rattle.std.proofs.Math.Path.{fun_ext}

@@ -1,4 +1,4 @@
--- A tick of a region that needs no worker's hands.
+-- A quiet tick of a region.
 use Rattle.std.specs.Prelude.{ℕ, ◌≡◌, ◌+◌, ◌-◌, ◌≤◌, true}
 use Rattle.std.specs.Option.{ForSome}
 use Rattle.fol_model.specs.ActionStep.{at_id}

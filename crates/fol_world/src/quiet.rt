@@ -1,4 +1,4 @@
-//! Ticks that need no worker's hands.
+//! Quiet ticks: no task is due in them, few entities walk, and their release changes nothing.
 
 ghost use Rattle.std.specs.Prelude.{◌≡◌, ◌+◌, ◌<◌, ◌^◌, All, IsTrue};
 ghost use Rattle.std.specs.List.Sorted.{IsStrictlySortedBy};
@@ -14,7 +14,7 @@ use crate::tables::Tables;
 use fol_regions::Regions;
 use fol_store::Store;
 
-/// Whether the next tick of a region would need no worker's hands: no task is due in it, few entities walk, and its release changes nothing.
+/// Whether the next tick of a region would be a quiet one.
 pub fn is_quiet(regions: &Regions, store: &Store, id: u64) -> bool
     requires bags { HaveBags (grid_state regions.now) (bag_of store.now) }
     ensures { IsTrue result → IsQuiet (grid_state regions.now) store.now id }
@@ -29,7 +29,7 @@ pub fn is_quiet(regions: &Regions, store: &Store, id: u64) -> bool
     regions.will_rest(id)
 }
 
-/// A tick of a region passes that needs no worker's hands: its entities move, and its tasks come nearer. Returns its counter.
+/// A quiet tick of a region passes: its entities move, and its tasks come nearer. Returns its counter.
 pub fn pass_tick(tables: &mut Tables, id: u64) -> u64
     requires quiet { IsQuiet (grid_state tables.old.regions) tables.old.store id }
     requires bags { HaveBags (grid_state tables.old.regions) (bag_of tables.old.store) }
