@@ -1,6 +1,6 @@
 //! What is done to a bag, or to two.
 
-ghost use Rattle.std.specs.Prelude.{◌≡◌, ◌≢◌, IsTrue, IfOk, OnOk, OnErr, None, ◌+◌, ◌-◌, ◌<◌, ◌^◌, ◌≤◌, ◌&&◌, ◌||◌, not, ℕ, nat_eq, if◌then◌else◌, true, false, [], ◌∷◌, ◌++◌, length};
+ghost use Rattle.std.specs.Prelude.{◌≡◌, ◌≢◌, All, IsTrue, IfOk, OnOk, OnErr, None, ◌+◌, ◌-◌, ◌<◌, ◌^◌, ◌≤◌, ◌&&◌, ◌||◌, not, ℕ, nat_eq, if◌then◌else◌, true, false, [], ◌∷◌, ◌++◌, length};
 ghost use Rattle.std.specs.Option.{is_none, ForSome};
 ghost use Rattle.fol_bags.specs.Slots.{no_slot, slot_in, stays_calm, is_open, SetsSlot, SetsTwo};
 ghost use Rattle.fol_bags.specs.Things.{Key, no_data, things, of_task, IsTimely};
@@ -11,9 +11,10 @@ ghost use Rattle.fol_bags.specs.Unions.{IsPartOfUnion, IsUnion};
 ghost use Rattle.fol_bags.specs.Moves.{SameThings, AreApart, Loses, Gains, Queues};
 ghost use Rattle.std.specs.List.Sorted.{IsStrictlySortedBy};
 ghost use Rattle.fol_chunks.specs.Order.{chunk_cmp};
-ghost use Rattle.fol_chunks.specs.Contents.{is_recorded, size_within};
+ghost use Rattle.fol_chunks.specs.Contents.{flat_of, is_recorded, size_within};
 ghost use Rattle.fol_model.specs.declared.places.ChunkPos.{ChunkPos};
-ghost use Rattle.fol_model.specs.Geometry.{same_chunk};
+ghost use Rattle.fol_model.specs.FlatTick.{moved};
+ghost use Rattle.fol_model.specs.Geometry.{is_chunk, same_chunk};
 
 use crate::bags::Bags;
 use crate::kept::Kept;
@@ -21,6 +22,7 @@ use crate::places::Place;
 use crate::shift::{shift, shift_contents};
 use crate::slot::{Slot, new_data};
 use crate::{Taken, waiting};
+use fol_chunks::Chunks;
 use fol_data::RegionData;
 use fol_keyed::ChunkSet;
 use fol_model::{ChunkPos, Sequence};
@@ -337,21 +339,41 @@ pub fn next_change(alloc: Global, bags: &mut Bags, id: usize) -> Option<ChunkPos
     last
 }
 
-/// Counts a tick of a region, which owes one less.
+/// Counts a tick of a region, which owes one less, and moves the entities in its bag.
 pub fn count_tick(bags: &mut Bags, id: usize)
     requires open { is_open (slot_in bags.old.items id) ≡ true }
     requires owes { 0 < (slot_in bags.old.items id).body.owed }
     requires early { (slot_in bags.old.items id).body.tick < 2 ^ 62 }
+    requires order { IsStrictlySortedBy chunk_cmp (slot_in bags.old.items id).list }
+    requires places { All (λ c. IsTrue (is_chunk c)) (slot_in bags.old.items id).list }
+    ensures contents { flat_of (slot_in bags.new.items id).body.chunks
+        ≡ moved (is_recorded (slot_in bags.old.items id).list)
+        (flat_of (slot_in bags.old.items id).body.chunks) }
     ensures sets { SetsSlot id (record (slot_in bags.old.items id) {
       body = record (slot_in bags.old.items id).body {
         tick = (slot_in bags.old.items id).body.tick + 1;
         owed = (slot_in bags.old.items id).body.owed - 1;
+        chunks = (slot_in bags.new.items id).body.chunks;
       };
     }) bags.old bags.new }
 {
     let slot = bags.slot_mut(id);
     slot.body.tick += 1;
     slot.body.owed -= 1;
+    walk(&mut slot.list, &mut slot.body.chunks);
+}
+
+/// Moves the entities by their speeds, where they stay on these chunks. Where none has a speed, it looks at nothing else.
+fn walk(list: &mut ChunkSet, chunks: &mut Chunks)
+    requires order { IsStrictlySortedBy chunk_cmp list.old }
+    requires places { All (λ c. IsTrue (is_chunk c)) list.old }
+    ensures list { list.new ≡ list.old }
+    ensures contents { flat_of chunks.new ≡ moved (is_recorded list.old) (flat_of chunks.old) }
+{
+    if !chunks.is_still() {
+        list.settle_for(chunks.walkers());
+        chunks.step_entities(list);
+    }
 }
 
 /// Whether the store has a bag, and its chunks are the right ones still.

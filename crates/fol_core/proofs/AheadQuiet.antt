@@ -1,4 +1,4 @@
--- A tick in which nothing happens passes while regions are prepared.
+-- A quiet tick passes while regions are prepared.
 use Rattle.std.proofs.Common.{◌≡◌, ℕ, ◌+◌, ◌≤◌, ◌^◌, refl, sym, ◌∙◌, ap, subst, append_assoc, Bool, true, false, List, [], ◌∷◌, ◌++◌, ◌||◌}
 use Rattle.std.specs.Prelude.{nat_eq}
 use Rattle.std.proofs.lemmas.Bool.{eq-eqb, ne_eqb, or_parts, true≢false}

@@ -1,5 +1,5 @@
--- What a tick in which nothing happens leaves in nobody's hands.
-use Rattle.std.proofs.Common.{◌≡◌, ◌≢◌, ℕ, ◌≤◌, ◌<◌, refl, sym, ◌∙◌, ap, arith, true, false, inl, inr}
+-- What a quiet tick leaves in nobody's hands.
+use Rattle.std.proofs.Common.{◌≡◌, ◌≢◌, ℕ, ◌≤◌, ◌<◌, refl, sym, ◌∙◌, ap, arith, true, false, not, inl, inr}
 use Rattle.std.specs.Prelude.{nat_eq, nat_le, Option, Some, None}
 use Rattle.std.proofs.Math.Path.{fun_ext}
 use Rattle.std.proofs.lemmas.Bool.{cases_Bool, and_parts, and_from, and_right, eqb-true, ne_eqb, lt-leb, true≢false}
@@ -8,26 +8,30 @@ use Rattle.fol_model.specs.declared.regions.State.TheVariants.{Ready}
 use Rattle.fol_model.specs.Geometry.{chunk_of}
 use Rattle.fol_model.specs.GridState.{GridState, is_loaded, is_ticking}
 use Rattle.fol_model.specs.ActionStep.{Flat, Recorded, Standing, at_id}
-use Rattle.fol_model.specs.FlatTick.{moved, walked}
+use Rattle.fol_model.specs.FlatTick.{ahead, moved, walked}
 use Rattle.fol_model.specs.Job.{Job, is_taken}
 use Rattle.fol_model.specs.Outputs.{is_chunk_of}
 use Rattle.fol_model.specs.QueuedTask.{counted_down, is_queued_in}
 use Rattle.fol_laws.proofs.FunctionsChanged.{at_other}
-use Rattle.fol_chunks.specs.Contents.{option_filter, within}
+use Rattle.fol_chunks.specs.Contents.{option_filter, outside}
 use Rattle.fol_store.specs.Passing.{nearer}
 use Rattle.fol_world.specs.Hands.{at_rest, in_hands, owner_of, ticker, went}
 use Rattle.fol_world.proofs.Flats.{flat_ext}
 
--- ---- entities that stand in some chunks and do not walk
-stands_still : (rec : Recorded) (o : Option Standing) → walked rec (option_filter (λ s. rec (chunk_of s.at)) o) ≡ option_filter (λ s. rec (chunk_of s.at)) o → walked rec o ≡ o
-stands_still rec None h = refl
-stands_still rec (Some s) h = elim (cases_Bool (rec (chunk_of s.at))) [
-  | inl e ↦ let k : walked rec (Some s) ≡ Some s = rw e at h in k
-  | inr e ↦ rw e refl
-]
+-- ---- entities that walk on chunks which are in nobody's hands
+module _ (rec hands : Recorded) (free : (c : ChunkPos) → rec c ≡ true → hands c ≡ false) where
+  walks_outside : (o : Option Standing) → walked rec (option_filter (λ s. not (hands (chunk_of s.at))) o) ≡ option_filter (λ s. not (hands (chunk_of s.at))) (walked rec o)
+  walks_outside None = refl
+  walks_outside (Some s) = elim (cases_Bool (rec (chunk_of s.at))) [
+    | inl e ↦ let here = free (chunk_of s.at) e in elim (cases_Bool (rec (chunk_of (ahead s.vx s.vz s.at)))) [
+      | inl f ↦ let there = free (chunk_of (ahead s.vx s.vz s.at)) f in rw (e, here, e, f, there) refl
+      | inr f ↦ rw (e, here, e, f, here) refl
+    ]
+    | inr e ↦ elim (cases_Bool (hands (chunk_of s.at))) [ inl f ↦ rw (e, f) refl | inr f ↦ rw (e, f, e) refl ]
+  ]
 
-pub all_still : (rec : Recorded) (f : Flat) → moved rec (within rec f) ≡ within rec f → moved rec f ≡ f
-all_still rec f h = flat_ext (moved rec f) f (λ b. refl) (λ id. stands_still rec (f.standing id) (ap (λ (x : Flat). x.standing id) h))
+  pub moved_outside : (f : Flat) → moved rec (outside hands f) ≡ outside hands (moved rec f)
+  moved_outside f = flat_ext (moved rec (outside hands f)) (outside hands (moved rec f)) (λ b. refl) (λ id. walks_outside (f.standing id))
 
 module _ (g : GridState) (id : ℕ) (ready : g.state id ≡ Ready) (positive : 0 < id) where
   -- a Ready region ticks nowhere

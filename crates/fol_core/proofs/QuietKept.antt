@@ -1,5 +1,5 @@
--- What the tables stand for after a tick in which nothing happens.
-use Rattle.std.proofs.Common.{◌≡◌, ◌≢◌, ℕ, ◌+◌, ◌-◌, ◌≤◌, ◌<◌, ◌^◌, refl, sym, ◌∙◌, ap, subst, arith, true, false, inl, inr, ◌&&◌, ◌||◌, List, [], ◌∷◌, ◌++◌, filter, length-append}
+-- What the tables stand for after a quiet tick.
+use Rattle.std.proofs.Common.{◌≡◌, ◌≢◌, ℕ, ◌+◌, ◌-◌, ◌≤◌, ◌<◌, ◌^◌, refl, sym, ◌∙◌, ap, subst, arith, true, false, inl, inr, ◌&&◌, ◌||◌, List, [], ◌∷◌, ◌++◌, filter, length-append, All, IsTrue}
 use Rattle.std.specs.Prelude.{nat_eq, nat_lt, Option, Some, None}
 use Rattle.std.specs.Option.{ForSome}
 use Rattle.std.proofs.Math.Path.{fun_ext}
@@ -10,7 +10,9 @@ use Rattle.fol_model.specs.declared.events.Accept.{Accept}
 use Rattle.fol_model.specs.declared.openings.Opening.{Opening}
 use Rattle.fol_model.specs.declared.events.Event.TheVariants.{Begin, End}
 use Rattle.fol_model.specs.declared.events.Entry.{Entry}
-use Rattle.fol_model.specs.Geometry.{section_of}
+use Rattle.std.specs.List.Sorted.{IsStrictlySortedBy}
+use Rattle.fol_model.specs.declared.places.ChunkPos.{ChunkPos}
+use Rattle.fol_model.specs.Geometry.{is_chunk, section_of}
 use Rattle.fol_model.specs.Universe.{all_chunks}
 use Rattle.fol_model.specs.GridState.{GridState, is_loaded, is_ready}
 use Rattle.fol_model.specs.ActionStep.{Recorded, at_id}
@@ -29,27 +31,29 @@ use Rattle.fol_laws.proofs.FunctionsChanged.{at_here, at_other}
 use Rattle.fol_laws.proofs.LongerRuns.{run_more, world_more}
 use Rattle.fol_laws.proofs.RecordedMargins.{chunk_held}
 use Rattle.fol_laws.proofs.WholeRuns.{Good}
-use Rattle.fol_chunks.specs.Contents.{is_recorded, outside, within}
+use Rattle.fol_chunks.specs.Contents.{is_recorded, outside}
+use Rattle.fol_chunks.specs.Order.{chunk_cmp}
 use Rattle.fol_regions.specs.Table.{grid_state}
 use Rattle.fol_sections.specs.Places.{count_at}
 use Rattle.fol_store.specs.Bag.{Bag}
 use Rattle.fol_store.specs.Passing.{nearer}
-use Rattle.fol_store.specs.Stock.{bag_of, flat_of, jobs_of}
+use Rattle.fol_store.specs.Stock.{bag_of, jobs_of}
 use Rattle.fol_world.specs.declared.tables.Course.{Course}
 use Rattle.fol_world.specs.declared.tables.Tables.{Tables}
 use Rattle.fol_world.specs.Begun.{due_task}
 use Rattle.fol_world.specs.Bags.{IsBagOf}
-use Rattle.fol_world.specs.Hands.{at_rest, rests, since}
+use Rattle.fol_world.specs.Hands.{at_rest, in_hands, rests, since}
 use Rattle.fol_world.specs.Agenda.{IsAgenda, owes}
 use Rattle.fol_world.specs.Quiet.{IsQuiet, PassesTick}
 use Rattle.fol_world.specs.Stands.{Fits, IsCourse, Stands}
-use Rattle.fol_core.proofs.BeginKept.{begin_contents, begin_due, begun_marks, its_chunks}
-use Rattle.fol_world.proofs.ChunkLists.{kept_listed, loaded_within}
+use Rattle.fol_core.proofs.BeginKept.{begin_due, begun_marks, its_chunks}
+use Rattle.fol_core.proofs.BegunHands.{not_in_hands}
+use Rattle.fol_world.proofs.ChunkLists.{kept_listed, kept_sorted, kept_within, loaded_within, owned}
 use Rattle.fol_world.proofs.GatheredBags.{ready_here, ready_now}
 use Rattle.fol_world.proofs.Held.{ends_most}
 use Rattle.fol_core.proofs.LoadKept.{SameMarks}
 use Rattle.fol_world.proofs.Longer.{answered_more, good_of, since_more}
-use Rattle.fol_core.proofs.QuietHands.{all_still, quiet_hands, quiet_rest, quiet_untaken}
+use Rattle.fol_core.proofs.QuietHands.{moved_outside, quiet_hands, quiet_rest, quiet_untaken}
 use Rattle.fol_core.proofs.QuietWorlds.{end_allowed, passed, quiet_ended}
 
 -- ---- the bags
@@ -96,6 +100,17 @@ early o h t s id owing =
     let now : (bag_of t.store id).tick ≡ (world o h).tick id = (s.fits.stored.bags id).counter (sym (s.fits.stored.bags id).here ∙ ready_here o h t s id owing) in
     omega (arith, now, all_most (start o) h 0 (λ q. omega arith) id, ends_most h, s.size.size, s.size.most)
 
+-- the chunks of the region's bag are in order, and within the limits
+module _ (o : Opening) (h : List Entry) (t : Tables) (s : Stands o h t) (id : ℕ) (quiet : IsQuiet (grid_state t.regions) t.store id) where
+  exact_chunks : (bag_of t.store id).chunks ≡ filter (is_chunk_of (world o h).grid id) all_chunks
+  exact_chunks = its_chunks o h t s id quiet.owing (and_parts (bag_of t.store id).listed (bag_of t.store id).calm quiet.whole).0
+
+  pub in_order : IsStrictlySortedBy chunk_cmp (bag_of t.store id).chunks
+  in_order = rw exact_chunks (kept_sorted (is_chunk_of (world o h).grid id))
+
+  pub in_limits : All (λ c. IsTrue (is_chunk c)) (bag_of t.store id).chunks
+  in_limits = rw exact_chunks (kept_within (is_chunk_of (world o h).grid id))
+
 module _ (o : Opening) (h : List Entry) (t : Tables) (s : Stands o h t) (id : ℕ) (quiet : IsQuiet (grid_state t.regions) t.store id) (u : Tables) (passes : PassesTick t u id) (worker : ℕ) where
   abbrev w : World
   w = world o h
@@ -141,9 +156,9 @@ module _ (o : Opening) (h : List Entry) (t : Tables) (s : Stands o h t) (id : �
   unfolding begun
   recorded_here = at_here w.recorded id (λ c. is_loaded w.grid c && nat_eq (w.grid.owner (section_of w.grid.grid c)) id) ∙ sym own_chunks
 
-  still : moved ((begun w worker id).recorded id) w.flat ≡ w.flat
-  still = let same : within rec (flat_of t.store) ≡ within rec w.flat = begin_contents o h t s id quiet.owing listed (within rec (flat_of t.store)) refl in
-      ap (λ r. moved r w.flat) recorded_here ∙ all_still rec w.flat (ap (moved rec) (sym same) ∙ quiet.still rec ∙ same)
+  -- no worker has a chunk of the region
+  free : (c : ChunkPos) → rec c ≡ true → in_hands w.grid w.recorded c ≡ false
+  free c k = not_in_hands w.grid id ready positive w.recorded c (owned w.grid id c (sym (ap (λ (r : Recorded). r c) own_chunks) ∙ k))
 
   rests_again : grid_state t.regions ≡ w.grid
   rests_again = s.fits.regions
@@ -153,13 +168,13 @@ module _ (o : Opening) (h : List Entry) (t : Tables) (s : Stands o h t) (id : �
 
   -- the world after the Begin and the End
   ended_world : ended (begun w worker id) id [] ≡ passed w worker id
-  ended_world = quiet_ended w worker id none untaken still
+  ended_world = quiet_ended w worker id none untaken
       (let P : GridState → Type 0 = λ g. release (begin g id) id ≡ g in subst P s.fits.regions quiet.rests)
       (let P : GridState → Type 0 = λ g. (f : ℕ → ℕ) (q : ℕ) → tick_after_release (begin g id) id f q ≡ f q in subst P s.fits.regions quiet.counters)
       (let P : GridState → Type 0 = λ g. (f : ℕ → ℕ) (q : ℕ) → owed_after_release (begin g id) id f q ≡ f q in subst P s.fits.regions quiet.owed)
 
   allowed_end : Allowed (begun w worker id) (End worker id ((begun w worker id).tick id + 1) [] [])
-  allowed_end = end_allowed w worker id none untaken still
+  allowed_end = end_allowed w worker id none untaken
       (let P : GridState → Type 0 = λ g. release (begin g id) id ≡ g in subst P s.fits.regions quiet.rests)
       (let P : GridState → Type 0 = λ g. (f : ℕ → ℕ) (q : ℕ) → tick_after_release (begin g id) id f q ≡ f q in subst P s.fits.regions quiet.counters)
       (let P : GridState → Type 0 = λ g. (f : ℕ → ℕ) (q : ℕ) → owed_after_release (begin g id) id f q ≡ f q in subst P s.fits.regions quiet.owed)
@@ -176,7 +191,9 @@ module _ (o : Opening) (h : List Entry) (t : Tables) (s : Stands o h t) (id : �
         grid = passes.grid ∙ s.fits.grid;
         regions = regions';
         stored = record {
-          flat = passes.flat ∙ s.fits.stored.flat ∙ ap (λ (x : Recorded). outside x w.flat) (sym (quiet_hands w.grid id ready positive w.recorded (λ c. is_loaded w.grid c && nat_eq (w.grid.owner (section_of w.grid.grid c)) id)));
+          flat = passes.flat ∙ ap (moved rec) s.fits.stored.flat ∙ moved_outside rec (in_hands w.grid w.recorded) free w.flat
+              ∙ ap (λ (x : Recorded). outside (in_hands w.grid w.recorded) (moved x w.flat)) (sym recorded_here)
+              ∙ ap (λ (x : Recorded). outside x (moved ((begun w worker id).recorded id) w.flat)) (sym (quiet_hands w.grid id ready positive w.recorded (λ c. is_loaded w.grid c && nat_eq (w.grid.owner (section_of w.grid.grid c)) id)));
           jobs = passes.jobs ∙ fun_ext (λ n. ap (nearer rec) (rest_at n) ∙ quiet_rest w.grid id ready positive (since o h) n w.next_job rec own_chunks (w.jobs n) (later n) (loaded_job n));
           next = passes.next ∙ s.fits.stored.next;
           bags = λ r. let P : (ℕ → Bag) → Type 0 = λ b. IsBagOf w.grid (at_id w.tick id (w.tick id + 1)) (at_id w.owed id (w.owed id - 1)) (at_id w.recorded id (λ c. is_loaded w.grid c && nat_eq (w.grid.owner (section_of w.grid.grid c)) id)) r (b r) in

@@ -1,4 +1,4 @@
--- Ticks in which nothing happens, one after another.
+-- Quiet ticks, one after another.
 use Rattle.std.proofs.Common.{◌≡◌, ℕ, suc, ◌+◌, refl, sym, ◌∙◌, ap, subst, arith, List, ◌++◌}
 use Rattle.std.proofs.lemmas.List.{append-nil, append_assoc}
 use Rattle.fol_model.specs.declared.events.Entry.{Entry}

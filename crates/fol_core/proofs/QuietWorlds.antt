@@ -1,4 +1,4 @@
--- The world after a tick in which nothing happens.
+-- The world after a quiet tick.
 use Rattle.std.proofs.Common.{◌≡◌, ℕ, ◌+◌, ◌-◌, refl, sym, ◌∙◌, ap, arith, false, ◌&&◌, []}
 use Rattle.std.specs.Prelude.{Option, Some, None}
 use Rattle.std.proofs.Math.Path.{fun_ext}
@@ -19,9 +19,9 @@ use Rattle.fol_laws.proofs.CountBelow.{count_zero}
 use Rattle.fol_laws.proofs.FunctionsChanged.{at_here}
 use Rattle.fol_laws.proofs.GridFields.{begin_here}
 
--- the world after it: the counter of the region has risen, and what it owes and the rests of its tasks have fallen
+-- the world after it: the counter of the region has risen, what it owes and the rests of its tasks have fallen, and its entities have moved
 abbrev pub passed : World → ℕ → ℕ → World
-passed w worker r = record (begun w worker r) { grid = w.grid; tick = at_id w.tick r (w.tick r + 1) }
+passed w worker r = record (begun w worker r) { grid = w.grid; tick = at_id w.tick r (w.tick r + 1); flat = moved ((begun w worker r).recorded r) w.flat }
 
 not_left : (r : ℕ) (o : Option Job) → is_taken r o ≡ false → left r o ≡ o
 not_left r None h = refl
@@ -49,9 +49,9 @@ no_tasks : (w : World) (r : ℕ) → due w r ≡ [] → ticked w r [] ≡ record
 unfolding flat_tick
 no_tasks w r e = ap (λ ts. flat_tick (w.recorded r) (outcome_in []) ts w.flat) e
 
--- ---- a tick of r that has just begun, in which nothing happens
+-- ---- a tick of r that has just begun, in which no task is due
 module _ (w : World) (worker r : ℕ) (none : due (begun w worker r) r ≡ []) (calm : (n : ℕ) → is_taken r (counted_down w.grid r (w.jobs n)) ≡ false)
-    (still : moved ((begun w worker r).recorded r) w.flat ≡ w.flat) (rests : release (begin w.grid r) r ≡ w.grid)
+    (rests : release (begin w.grid r) r ≡ w.grid)
     (counters : (f : ℕ → ℕ) (q : ℕ) → tick_after_release (begin w.grid r) r f q ≡ f q) (owes : (f : ℕ → ℕ) (q : ℕ) → owed_after_release (begin w.grid r) r f q ≡ f q) where
   abbrev v : World
   v = begun w worker r
@@ -60,12 +60,11 @@ module _ (w : World) (worker r : ℕ) (none : due (begun w worker r) r ≡ []) (
   comes_to = no_tasks v r none
 
   abbrev run : World
-  run = record v { tick = at_id v.tick r (v.tick r + 1) }
+  run = record v { flat = moved (v.recorded r) v.flat; tick = at_id v.tick r (v.tick r + 1) }
 
   ran_down : run_down v r [] ≡ run
   unfolding begun
-  ran_down = ap (λ (x : FlatEnd). dropped (record v { flat = x.flat; tick = at_id v.tick r (v.tick r + 1) }) r) comes_to
-      ∙ ap (λ f. dropped (record v { flat = f; tick = at_id v.tick r (v.tick r + 1) }) r) still ∙ nothing_dropped run r calm
+  ran_down = ap (λ (x : FlatEnd). dropped (record v { flat = x.flat; tick = at_id v.tick r (v.tick r + 1) }) r) comes_to ∙ nothing_dropped run r calm
 
   -- its End is allowed
   pub end_allowed : Allowed v (End worker r (v.tick r + 1) [] [])

@@ -1,4 +1,4 @@
--- Ticks in which nothing happens.
+-- Quiet ticks: no task is due in them.
 use Rattle.std.specs.Prelude.{ℕ, zero, suc, ◌≡◌, ◌+◌, List, [], ◌∷◌, ◌++◌}
 use Rattle.fol_model.specs.declared.events.Event.TheVariants.{Begin, End}
 use Rattle.fol_model.specs.declared.events.Entry.{Entry}

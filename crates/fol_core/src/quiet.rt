@@ -1,4 +1,4 @@
-//! Ticks in which nothing happens.
+//! Quiet ticks: no task is due in them, few entities walk, and their release changes nothing.
 
 ghost use Rattle.std.specs.Prelude.{◌≡◌, ◌+◌, ◌≤◌, ◌<◌, ◌^◌, false, IsTrue, OnOk, vec_len, vec_capacity};
 ghost use Rattle.fol_core.specs.Meaning.{Stays};
@@ -13,10 +13,10 @@ use fol_world::tables::{Course, MOST};
 use std::alloc::AllocError;
 
 impl Core {
-    /// Begins and ends ticks of one region in which nothing happens, one after another: as long as the region is Ready and owes a tick,
-    /// no task is due in it, none of its entities has a speed and its release changes nothing, but at most `most`, and none after Finish
-    /// or Stop. Returns how many. It records the Begin and the End of each, by this worker, and nothing else. It may be fewer than there
-    /// are: a tick of which this would take long to tell, or for which no memory is found, is left to `begin`.
+    /// Begins and ends quiet ticks of one region, one after another: as long as the region is Ready and owes a tick, no task is due in it,
+    /// only a few of its entities have a speed and its release changes nothing, but at most `most`, and none after Finish or Stop. Returns
+    /// how many. It records the Begin and the End of each, by this worker, and nothing else; the entities move by their speeds. It may be
+    /// fewer than there are: a tick of which this would take long to tell, or for which no memory is found, is left to `begin`.
     pub fn pass(&mut self, worker: u32, id: u64, most: u32) -> u32
         ensures few { result ≤ most }
         ensures passed { Passes self.old self.new worker id result }

@@ -1,6 +1,6 @@
 //! A place that each tick passes.
 
-/// Is called once between the begin and the release of each tick, but not of a tick in which nothing happens where it does not watch.
+/// Is called once between the begin and the release of each tick, but not of a tick in which no task is due and few entities walk, where it does not watch.
 ///
 /// It says nothing of content, and nothing that a run promises depends on it: a test holds ticks at a gate
 /// of its own, to see several of them at one moment.
@@ -8,7 +8,7 @@ pub trait Gate {
     /// The worker of this number, from 1, has begun a tick of the region and has not released it.
     fn passed(&self, worker: u32, region: u64);
 
-    /// Whether it wants to see each tick. One that does not may be passed over by ticks in which nothing happens.
+    /// Whether it wants to see each tick. One that does not may be passed over by ticks in which no task is due and few entities walk.
     fn watches(&self) -> bool {
         true
     }

@@ -1,4 +1,4 @@
--- The entries of ticks in which nothing happens are of their worker, and signed.
+-- The entries of quiet ticks are of their worker, and signed.
 use Rattle.std.proofs.Common.{◌≡◌, ℕ, zero, suc, refl, [], ◌∷◌}
 use Rattle.std.specs.Prelude.{◌+◌, All}
 use Rattle.std.specs.List.{AllByRecursion}

@@ -141,7 +141,7 @@ abbrev pub TriesToBegin : Shown → Shown → TryBegin → Type 0
 TriesToBegin old new (Got boxed) = Claims old new boxed.value
 TriesToBegin old new Idle = Misses old new
 
--- behind what the seat showed, it recorded Begins that it learnt of, and then ticks of this region in which nothing happens, at most so many
+-- behind what the seat showed, it recorded Begins that it learnt of, and then quiet ticks of this region, at most so many
 pub record PassesOn (old new : Shown) (region most : ℕ) : Type 0 where
   pub now : Shown
   pub learnt : List Entry

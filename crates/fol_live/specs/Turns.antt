@@ -84,7 +84,7 @@ pub record Stops (old new : Shown) (by : ℕ) : Type 0 where
 abbrev pub HasOpen : Shown → Worker Offered → Type 0
 HasOpen s seat = (t : Tick) → seat.claimed ≡ Some (of_tick t) → IsOpen (meaning_of s) (record t { worker = seat.number })
 
--- the worker recorded Begins that it learnt of, and behind them ticks of this region in which nothing happens, at most so many
+-- the worker recorded Begins that it learnt of, and behind them quiet ticks of this region, at most so many
 pub record PassesOn (old new : Shown) (by region most : ℕ) : Type 0 where
   pub now : Shown
   pub learns : Learns old now by

@@ -98,7 +98,7 @@ fn run<R: Abort + Wait>(rt: &R, alloc: Global, live: &Live, seat: Seat, tick: &m
     }
 }
 
-/// Gives a tick back that has run. Of the ticks behind it, in which nothing happens, this many are passed over: each is a Begin and an End.
+/// Gives a tick back that has run. Of the quiet ticks behind it this many are passed over: each is a Begin and an End.
 fn release<R: Abort + Wait>(rt: &R, live: &Live, seat: &mut Seat, tick: Box<Tick>, quiet: u32)
     requires own { seat.old.lock ≡ live_id live.now }
     requires holds { HoldsRun seat.old tick.value }

@@ -1,4 +1,4 @@
--- Ticks in which nothing happens leave what is offered where it is.
+-- Quiet ticks leave what is offered where it is.
 use Rattle.std.proofs.Common.{◌≡◌, ◌≢◌, ℕ, zero, suc, ◌+◌, ◌<◌, ◌≤◌, List, [], ◌∷◌, ◌++◌, length, sym, refl, ap, ◌∙◌, subst, Option, Some, None, true, false, true≢false, append_assoc, inl, inr, ◌||◌}
 use Rattle.std.specs.Prelude.{nat_eq}
 use Rattle.std.specs.List.{AllByRecursion}

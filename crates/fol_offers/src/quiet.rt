@@ -1,4 +1,4 @@
-//! Ticks in which nothing happens.
+//! Quiet ticks.
 
 ghost use Rattle.std.specs.Prelude.{◌≤◌, ◌≡◌};
 ghost use Rattle.fol_slots.specs.Table.{slots_id};
@@ -10,7 +10,7 @@ use crate::offers::Offers;
 use fol_slots::Slots;
 
 impl Offers {
-    /// Begins and ends ticks of one region in which nothing happens, as `Core::pass`, by a worker that has no open tick. Where the tick of
+    /// Begins and ends quiet ticks of one region, as `Core::pass`, by a worker that has no open tick. Where the tick of
     /// the region is offered, it is called back first; where a worker has claimed it, its Begin is recorded, and no tick is passed.
     pub fn pass(&mut self, slots: &Slots<Offer>, by: u32, region: u64, most: u32) -> u32
         requires own { self.old.slots ≡ slots_id slots.now }

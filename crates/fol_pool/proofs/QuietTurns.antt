@@ -1,4 +1,4 @@
--- A worker that passes over ticks in which nothing happens.
+-- A worker that passes over quiet ticks.
 use Rattle.std.proofs.Common.{◌≡◌, ℕ, ◌≤◌, zero, suc, refl, sym, true, false, List, [], ◌∷◌, ◌++◌, append-nil}
 use Rattle.std.specs.Prelude.{◌+◌, nat_eq}
 use Rattle.std.specs.List.{AllByRecursion}

@@ -283,7 +283,7 @@ fn a_region_beside_a_tick_waits_for_its_end(rt: HostRuntime) {
     closing_of(&rt, alloc, busy, 1, 1);
 }
 
-/// A phase of three ticks, in which nothing happens in region 1: two of them are passed over, and then the one that is left.
+/// A phase of three ticks, which are quiet ones in region 1: two of them are passed over, and then the one that is left.
 fn passes_three(rt: &impl Abort, core: &mut Core) {
     assert!(rt; core.phase_ticks() < 9_998);
     match core.open_phase(0, 3) {

@@ -1,4 +1,4 @@
--- The bags and the stack when a tick of a region passes in which nothing happens.
+-- The bags and the stack when a quiet tick of a region passes.
 use Rattle.std.proofs.Common.{◌≡◌, ℕ, ◌+◌, ◌-◌, ◌<◌, sym, ◌∙◌, ap, arith, true, inl, inr, List}
 use Rattle.std.specs.Prelude.{nat_lt}
 use Rattle.std.proofs.lemmas.Bool.{cases_eq, and_from, and_parts, lt-ltb, ltb-true}

@@ -1,13 +1,13 @@
--- A tick of a region in which nothing happens.
+-- A quiet tick of a region.
 use Rattle.std.specs.Prelude.{ℕ, ◌≡◌, ◌+◌, ◌-◌, ◌≤◌, true}
 use Rattle.std.specs.Option.{ForSome}
-use Rattle.fol_model.specs.ActionStep.{Recorded, at_id}
+use Rattle.fol_model.specs.ActionStep.{at_id}
 use Rattle.fol_model.specs.Begin.{begin}
 use Rattle.fol_model.specs.Counters.{owed_after_release, tick_after_release}
 use Rattle.fol_model.specs.FlatTick.{moved}
 use Rattle.fol_model.specs.GridState.{GridState}
 use Rattle.fol_model.specs.Release.{release}
-use Rattle.fol_chunks.specs.Contents.{is_recorded, within}
+use Rattle.fol_chunks.specs.Contents.{is_recorded}
 use Rattle.fol_store.specs.Bag.{is_whole}
 use Rattle.fol_store.specs.Passing.{nearer}
 use Rattle.fol_store.specs.Stock.{Stock, bag_of, due_of, flat_of, jobs_of, next_of}
@@ -15,21 +15,21 @@ use Rattle.fol_regions.specs.Table.{grid_state}
 use Rattle.fol_world.specs.declared.tables.Tables.{Tables}
 use Rattle.fol_world.specs.Agenda.{GrowsBy, IsAgenda, owes}
 
--- a tick of the region would be such a one: it owes one, its bag holds all that lies on its chunks, no task is due, no entity walks, and
--- its release leaves the grid, the counters and what regions owe as they were
+-- a tick of the region would be such a one: it owes one, its bag holds all that lies on its chunks, no task is due, and its release leaves
+-- the grid, the counters and what regions owe as they were
 pub record IsQuiet (g : GridState) (k : Stock) (id : ℕ) : Type 0 where
   pub owing : owes g (bag_of k) id ≡ true
   pub whole : is_whole (bag_of k id) ≡ true
   pub none_due : due_of k id ≡ 0
-  pub still : (rec : Recorded) → moved rec (within (is_recorded (bag_of k id).chunks) (flat_of k)) ≡ within (is_recorded (bag_of k id).chunks) (flat_of k)
   pub rests : release (begin g id) id ≡ g
   pub counters : (f : ℕ → ℕ) (r : ℕ) → tick_after_release (begin g id) id f r ≡ f r
   pub owed : (f : ℕ → ℕ) (r : ℕ) → owed_after_release (begin g id) id f r ≡ f r
 
--- such a tick passed: the counter of the region rose, what it owes and the rests of its tasks fell, and nothing else changed
+-- such a tick passed: the counter of the region rose, what it owes and the rests of its tasks fell, its entities moved, and nothing else
+-- changed
 pub record PassesTick (old new : Tables) (id : ℕ) : Type 0 where
   pub bags : bag_of new.store ≡ at_id (bag_of old.store) id (record (bag_of old.store id) { tick = (bag_of old.store id).tick + 1; owed = (bag_of old.store id).owed - 1 })
-  pub flat : flat_of new.store ≡ flat_of old.store
+  pub flat : flat_of new.store ≡ moved (is_recorded (bag_of old.store id).chunks) (flat_of old.store)
   pub jobs : jobs_of new.store ≡ λ n. nearer (is_recorded (bag_of old.store id).chunks) (jobs_of old.store n)
   pub later : (n : ℕ) → ForSome (jobs_of old.store n) (λ j. is_recorded (bag_of old.store id).chunks j.chunk ≡ true → 2 ≤ j.rest)
   pub next : next_of new.store ≡ next_of old.store

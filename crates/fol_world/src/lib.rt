@@ -2,7 +2,7 @@
 //!
 //! `Tables` has the sections and regions with their holds, what no worker has in its hands, the tickets of the chunks, the stack of regions
 //! that may owe a tick, and how far the world has come. `holds` has what a load and an unload do to them, `posts` what a post does,
-//! `begins` what a Begin takes out, `ends` what an End brings back, `quiet` a tick in which nothing happens, and `agenda` and `bags` what
+//! `begins` what a Begin takes out, `ends` what an End brings back, `quiet` a tick in which no task is due and few entities walk, and `agenda` and `bags` what
 //! phases ask and set; `rows` and `owners` list what stands in them.
 //!
 //! Each call promises what becomes of the tables that it changes, and that all else stays as it is. Nothing here keeps a history or an entry,

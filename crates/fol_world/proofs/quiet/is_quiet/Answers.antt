@@ -18,7 +18,6 @@ returns c =
       owing = owing;
       whole = c.is_quiet.ensures.whole c.if-not-is_quiet.false;
       none_due = c.is_quiet.ensures.none_due c.if-not-is_quiet.false;
-      still = c.is_quiet.ensures.still c.if-not-is_quiet.false;
       rests = c.will_rest.ensures.state yes ready;
       counters = c.will_rest.ensures.ticks yes ready;
       owed = c.will_rest.ensures.owed yes ready;

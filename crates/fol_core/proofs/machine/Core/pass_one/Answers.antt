@@ -2,7 +2,7 @@ use Rattle.std.proofs.Common.{refl, ◌∙◌, sym, arith}
 use Rattle.fol_regions.specs.Table.{grid_state}
 use Rattle.fol_world.specs.Quiet.{IsQuiet}
 use Rattle.fol_core.proofs.AheadQuiet.{quiet_ahead, quiet_history, quiet_then}
-use Rattle.fol_core.proofs.QuietKept.{early}
+use Rattle.fol_core.proofs.QuietKept.{early, in_limits, in_order}
 use Rattle.fol_core.proofs.Rooms.{not_grown, room_left_by_two}
 use Rattle.fol_core.proofs.machine.Core.pass_one.Goals.{then-is_over-via-then-is_over, then-is_over-via-else-is_over+then-not-is_quiet}
 use Rattle.fol_core.proofs.machine.Core.pass_one.Goals as goal
@@ -11,6 +11,12 @@ pub pass_tick-tick-requires-clause-early : goal.pass_tick-tick-requires-clause-e
 pass_tick-tick-requires-clause-early c =
     let quiet : IsQuiet (grid_state c.self.inside.tables.regions) c.self.inside.tables.store c.args.id = c.is_quiet.ensures c.if-not-is_quiet.false in
     early _ _ _ c.self.invariant.0.stands c.args.id quiet.owing
+
+pub pass_tick-tick-requires-clause-order : goal.pass_tick-tick-requires-clause-order
+pass_tick-tick-requires-clause-order c = in_order _ _ _ c.self.invariant.0.stands c.args.id (c.is_quiet.ensures c.if-not-is_quiet.false)
+
+pub pass_tick-tick-requires-clause-places : goal.pass_tick-tick-requires-clause-places
+pass_tick-tick-requires-clause-places c = in_limits _ _ _ c.self.invariant.0.stands c.args.id (c.is_quiet.ensures c.if-not-is_quiet.false)
 
 pub invariant_of-self : goal.invariant_of-self
 invariant_of-self c = elim c.then-is_over.branch [
