@@ -65,6 +65,16 @@ fn again_in(action: &Action) -> Result<Option<Nested>, AllocError>
     }
 }
 
+/// What is taken for a task.
+pub(crate) fn prepared_for(task: &Task) -> Result<Prepared, AllocError>
+    ensures { IfOk result (λ prepared. prepared ≡ prepared_of task.now) }
+{
+    Ok(Prepared {
+        own: own_in(plain_of(&task.action))?,
+        again: again_in(&task.action)?,
+    })
+}
+
 /// What is taken for each of the tasks.
 pub(crate) fn prepare(alloc: Global, tasks: &[Task]) -> Result<Stock, AllocError>
     ensures { IfOk result (λ stock. IsStockOf tasks.now stock) }
@@ -101,8 +111,9 @@ impl Stock {
         ensures { OnOk result ((others : List Task) → IsStockOf others self.old
             → IsStockOf (task.now ∷ others) self.new) }
     {
-        keep(&mut self.own, most, own_in(plain_of(&task.action))?)?;
-        keep(&mut self.again, most, again_in(&task.action)?)
+        let Prepared { own, again } = prepared_for(task)?;
+        keep(&mut self.own, most, own)?;
+        keep(&mut self.again, most, again)
     }
 
     /// What was taken for the first of the tasks, which goes from the stock.
