@@ -1,17 +1,18 @@
 -- A tick after its next task.
-use Rattle.std.proofs.Common.{◌≡◌, ℕ, ◌+◌, ◌-◌, ◌<◌, refl, sym, ◌∙◌, ap, subst, arith, List, [], ◌∷◌, map, length, get_or, take, drop, length-drop, drop-drop}
-use Rattle.std.specs.List.{slice_range}
+use Rattle.std.proofs.Common.{◌≡◌, ℕ, ◌+◌, ◌-◌, ◌<◌, refl, sym, ◌∙◌, ap, subst, arith, List, [], ◌∷◌, map, length, get_or, take, drop, length-drop}
 use Rattle.std.proofs.lemmas.List.{length-map, length-take}
+use Rattle.std.specs.List.{slice_range}
 use Rattle.fol_model.specs.ActionStep.{Flat, act, plain_of}
 use Rattle.fol_model.specs.declared.tasks.Task.{Task}
 use Rattle.fol_chunks.specs.Contents.{Contents, flat_of, is_recorded}
 use Rattle.fol_data.specs.declared.tick.Tick.{Tick}
 use Rattle.fol_tick.specs.Calls.{HostCall}
-use Rattle.fol_tick.specs.Prepared.{prepared_of}
+use Rattle.fol_tick.specs.Prepared.{IsStockOf, prepared_of}
 use Rattle.fol_tick.specs.Runs.{TasksRan, Runs, AreFresh, MayRun, next_task}
 use Rattle.fol_tick.specs.Logs.{stage_at, with_log}
 use Rattle.fol_tick.specs.declared.log.OpenLog.{OpenLog}
 use Rattle.fol_tick.specs.declared.prepared.Prepared.{Prepared}
+use Rattle.fol_tick.specs.declared.prepared.Stock.{Stock}
 use Rattle.fol_tick.proofs.OneTask.{from_next}
 use Rattle.fol_tick.proofs.Freshness.{fresh_after}
 
@@ -58,16 +59,15 @@ module _ (t : Tick) (x : Task) (may : MayRun t) (here : t.next < length t.due) (
         subst P (sym e) (fresh_after (is_recorded t.chunks) (flat_of t.body.chunks) x (drop (t.next + 1) t.due) rest);
   }
 
+  pub prepared_next : (r : Prepared) → r ≡ prepared_of x → r ∷ [] ≡ map prepared_of (next_task t)
+  prepared_next r e = ap (λ (y : Prepared). y ∷ []) e ∙ ap (λ (ts : List Task). map prepared_of ts) (sym first_is)
+
 -- where wishes are prepared for it, there is a next task
 pub has_next : (t : Tick) (r : Prepared) → r ∷ [] ≡ map prepared_of (next_task t) → t.next < length t.due
 has_next t r e =
     let long = ap (λ (rs : List Prepared). length rs) e in
     omega (arith, simp (length-map, length-take, length-drop) at long)
 
--- the wishes behind the first
-pub rest_prepared : (ts : List Task) (k : ℕ) (r : Prepared) (rs : List Prepared) → r ∷ rs ≡ map prepared_of (drop k ts) → rs ≡ map prepared_of (drop (k + 1) ts)
-rest_prepared ts k r rs e = behind (drop k ts) e ∙ ap (λ us. map prepared_of us) (drop-drop 1 k ts)
-  where
-    behind : (us : List Task) → r ∷ rs ≡ map prepared_of us → rs ≡ map prepared_of (drop 1 us)
-    behind [] e = absurd (cc)
-    behind (u ∷ us) e = cc
+-- what is taken for what is left is taken for the next task and those behind it
+pub next_taken : (ts : List Task) (k : ℕ) (x : Task) → k < length ts → x ≡ get_or ts k x → (s : Stock) → IsStockOf (drop k ts) s → IsStockOf (x ∷ drop (k + 1) ts) s
+next_taken ts k x l e s h = let P : List Task → Type 0 = λ us. IsStockOf us s in subst P (from_next ts k x l e) h

@@ -1,5 +1,7 @@
 -- The tasks that a task asks for whatever the world is like, and what is taken for them before it runs.
-use Rattle.std.specs.Prelude.{◌-◌, Option, Some, None, nat_le, if◌then◌else◌}
+use Rattle.std.specs.Prelude.{◌≡◌, ◌-◌, List, Option, Some, None, nat_le, reverse, if◌then◌else◌}
+use Rattle.std.specs.List.{flat_map}
+use Rattle.std.specs.Option.{option_to_list}
 use Rattle.fol_model.specs.Deed.{Deed}
 use Rattle.fol_model.specs.Nesting.{action_of}
 use Rattle.fol_model.specs.ActionStep.{plain_of}
@@ -9,6 +11,7 @@ use Rattle.fol_model.specs.declared.actions.Action.TheVariants.{Post, Every}
 use Rattle.fol_model.specs.declared.tasks.Task.{Task}
 use Rattle.fol_model.specs.declared.tasks.Wish.{Wish}
 use Rattle.fol_tick.specs.declared.prepared.Prepared.{Prepared}
+use Rattle.fol_tick.specs.declared.prepared.Stock.{Stock}
 
 -- the task that a `Post` asks for
 abbrev pub posted_by : Action → Option Wish
@@ -32,3 +35,8 @@ again_in _ = None
 
 abbrev pub prepared_of : Task → Prepared
 prepared_of t = record { own = own_in (plain_of t.action); again = again_in t.action }
+
+-- what is taken for tasks, that of the last task first
+pub record IsStockOf (ts : List Task) (s : Stock) : Type 0 where
+  pub own : s.own.items ≡ reverse (flat_map (λ t. option_to_list (own_in (plain_of t.action))) ts)
+  pub again : s.again.items ≡ reverse (flat_map (λ t. option_to_list (again_in t.action)) ts)

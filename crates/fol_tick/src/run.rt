@@ -1,23 +1,21 @@
 //! A whole tick.
 
-ghost use Rattle.std.specs.Prelude.{◌≡◌, ◌+◌, ◌≤◌, ◌<◌, ◌⊎◌, List, [], ◌∷◌, drop, length, map, IsTrue, OnErr, OnOk, vec_len};
+ghost use Rattle.std.specs.Prelude.{◌≡◌, ◌+◌, ◌-◌, ◌≤◌, ◌<◌, ◌⊎◌, List, [], ◌∷◌, drop, length, map, IsTrue, OnErr, OnOk, vec_len};
 ghost use Rattle.std.specs.List.{sum_by};
 ghost use Rattle.std.specs.Vec.{vec_capacity};
-ghost use Rattle.std.specs.VecDeque.{deque_len};
 ghost use Rattle.fol_tick.specs.Calls.{HostCall};
 ghost use Rattle.fol_tick.specs.MostAsked.{most_asked};
-ghost use Rattle.fol_tick.specs.Prepared.{prepared_of};
+ghost use Rattle.fol_tick.specs.Prepared.{IsStockOf, prepared_of};
 ghost use Rattle.fol_tick.specs.Runs.{MayRun, Runs, Finishes, StopsAtHost, next_task};
 ghost use Rattle.fol_tick.specs.Logs.{with_log};
 
 use crate::asked::most_asked;
 use crate::host::Host;
 use crate::log::{OpenLog, open};
-use crate::prepared::{Prepared, prepare, prepared_for};
+use crate::prepared::{Prepared, Stock, prepare, prepared_for};
 use crate::step::run_task;
 use fol_data::Tick;
 use std::alloc::{AllocError, Global};
-use std::collections::VecDeque;
 
 /// Runs what is left of a tick: the rest of its due tasks in order of number, and then the movement of the entities.
 ///
@@ -69,27 +67,28 @@ fn run_left<H: Host>(alloc: Global, tick: &mut Tick, host: &mut H) -> Result<(),
     let count = left.len();
     let asked = most_asked(left);
     let first = prepared_for(&left[0])?;
-    let others = prepare(alloc, &left[1..])?;
+    let mut stock = prepare(alloc, &left[1..])?;
     tick.body.chunks.reserve(count as u64)?;
     let mut log = open(alloc, &mut tick.log, count, asked)?;
-    let answer = run_all(alloc, tick, first, others, &mut log, host);
+    let answer = run_all(alloc, tick, first, &mut stock, &mut log, host);
     tick.log = log.close();
     answer
 }
 
-/// Runs the next task and those behind it, whose wishes are prepared.
+/// Runs the next task and those behind it, for which the stock was taken.
 fn run_all<H: Host>(
     alloc: Global,
     tick: &mut Tick,
     first: Prepared,
-    others: VecDeque<Prepared>,
+    stock: &mut Stock,
     log: &mut OpenLog,
     host: &mut H,
 ) -> Result<(), AllocError>
     requires may_run { MayRun tick.old }
-    requires prepared { first ∷ others.items ≡ map prepared_of (drop tick.old.next tick.old.due) }
-    requires spare { deque_len others + 1 ≤ tick.old.body.chunks.spare }
-    requires room_for_ran { vec_len log.old.ran + (deque_len others + 1)
+    requires first { first ∷ [] ≡ map prepared_of (next_task tick.old) }
+    requires stock { IsStockOf (drop 1 (drop tick.old.next tick.old.due)) stock.old }
+    requires spare { length tick.old.due - tick.old.next ≤ tick.old.body.chunks.spare }
+    requires room_for_ran { vec_len log.old.ran + (length tick.old.due - tick.old.next)
         ≤ vec_capacity log.old.ran }
     requires room_for_wishes { vec_len log.old.wishes
         + sum_by most_asked (drop tick.old.next tick.old.due) ≤ vec_capacity log.old.wishes }
@@ -100,21 +99,22 @@ fn run_all<H: Host>(
     ensures stop { OnErr result (StopsAtHost tick.new) }
 {
     run_next(alloc, tick, first, log, host)?;
-    run_tasks(alloc, tick, others, log, host)
+    run_tasks(alloc, tick, stock, log, host)
 }
 
-/// Runs the rest of the tasks, whose wishes are prepared.
+/// Runs the rest of the tasks, for which the stock was taken.
 fn run_tasks<H: Host>(
     alloc: Global,
     tick: &mut Tick,
-    mut prepared: VecDeque<Prepared>,
+    stock: &mut Stock,
     log: &mut OpenLog,
     host: &mut H,
 ) -> Result<(), AllocError>
     requires may_run { MayRun tick.old }
-    requires prepared { prepared.items ≡ map prepared_of (drop tick.old.next tick.old.due) }
-    requires spare { deque_len prepared ≤ tick.old.body.chunks.spare }
-    requires room_for_ran { vec_len log.old.ran + deque_len prepared ≤ vec_capacity log.old.ran }
+    requires stock { IsStockOf (drop tick.old.next tick.old.due) stock.old }
+    requires spare { length tick.old.due - tick.old.next ≤ tick.old.body.chunks.spare }
+    requires room_for_ran { vec_len log.old.ran + (length tick.old.due - tick.old.next)
+        ≤ vec_capacity log.old.ran }
     requires room_for_wishes { vec_len log.old.wishes
         + sum_by most_asked (drop tick.old.next tick.old.due) ≤ vec_capacity log.old.wishes }
     ensures runs { (calls : List HostCall) × H.reaches host.old calls host.new
@@ -123,10 +123,43 @@ fn run_tasks<H: Host>(
     ensures ok { OnOk result (tick.new.next ≡ length tick.new.due) }
     ensures stop { OnErr result (StopsAtHost tick.new) }
 {
-    while let Some(first) = prepared.pop_front() {
-        run_next(alloc, tick, first, log, host)?;
+    while (tick.next as usize) < tick.due.as_slice().len() {
+        run_from(alloc, tick, stock, log, host)?;
     }
     Ok(())
+}
+
+/// Runs the next task, for which and for those behind it the stock was taken. What was taken for that one goes from the stock.
+#[inline(always)]
+fn run_from<H: Host>(
+    alloc: Global,
+    tick: &mut Tick,
+    stock: &mut Stock,
+    log: &mut OpenLog,
+    host: &mut H,
+) -> Result<(), AllocError>
+    requires may_run { MayRun tick.old }
+    requires some { tick.old.next < length tick.old.due }
+    requires stock { IsStockOf (drop tick.old.next tick.old.due) stock.old }
+    requires spare { 1 ≤ tick.old.body.chunks.spare }
+    requires room_for_ran { vec_len log.old.ran < vec_capacity log.old.ran }
+    requires room_for_wishes { vec_len log.old.wishes + sum_by most_asked (next_task tick.old)
+        ≤ vec_capacity log.old.wishes }
+    ensures runs { (calls : List HostCall) × H.reaches host.old calls host.new
+        × Runs (with_log tick.old log.old) (with_log tick.new log.new) calls }
+    ensures may_run { MayRun tick.new }
+    ensures ok { OnOk result (tick.new.next ≡ tick.old.next + 1) }
+    ensures stock { IsStockOf (drop (tick.old.next + 1) tick.old.due) stock.new }
+    ensures stop { OnErr result (StopsAtHost tick.new) }
+    ensures spare { tick.old.body.chunks.spare ≤ tick.new.body.chunks.spare + 1 }
+    ensures ran_len { vec_len log.new.ran ≤ vec_len log.old.ran + 1 }
+    ensures ran_capacity { vec_capacity log.new.ran ≡ vec_capacity log.old.ran }
+    ensures wishes_len { vec_len log.new.wishes
+        ≤ vec_len log.old.wishes + sum_by most_asked (next_task tick.old) }
+    ensures wishes_capacity { vec_capacity log.new.wishes ≡ vec_capacity log.old.wishes }
+{
+    let prepared = stock.take(&tick.due.as_slice()[tick.next as usize]);
+    run_next(alloc, tick, prepared, log, host)
 }
 
 /// Runs the next task, whose wishes are prepared.

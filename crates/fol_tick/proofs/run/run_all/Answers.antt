@@ -1,15 +1,23 @@
-use Rattle.std.proofs.Common.{arith}
+use Rattle.std.proofs.Common.{arith, drop-drop}
 use Rattle.fol_tick.specs.Logs.{with_log}
 use Rattle.fol_tick.proofs.WishRoom.{asked_next}
 use Rattle.fol_tick.proofs.Stages.{came_on}
-use Rattle.fol_tick.proofs.NextTask.{rest_prepared}
 use Rattle.fol_tick.proofs.run.run_all.Goals as goal
 
-pub run_tasks-requires-clause-prepared : goal.run_tasks-requires-clause-prepared
-run_tasks-requires-clause-prepared g c =
+pub run_tasks-requires-clause-stock : goal.run_tasks-requires-clause-stock
+run_tasks-requires-clause-stock g c =
     let ran = c.in_ok-run_next.ensures in
-    let rest = rest_prepared c.args.tick.now.due c.args.tick.now.next c.args.first c.args.others.items c.requires.prepared in
-    rw (ran.ok, ran.runs.2.same.due) rest
+    rw (ran.ok, ran.runs.2.same.due) (rw (drop-drop 1 c.args.tick.now.next c.args.tick.now.due) at c.requires.stock)
+
+pub run_tasks-requires-clause-spare : goal.run_tasks-requires-clause-spare
+run_tasks-requires-clause-spare g c =
+    let ran = c.in_ok-run_next.ensures in
+    rw (ran.ok, ran.runs.2.same.due) (omega (arith, ran.spare, c.requires.spare))
+
+pub run_tasks-requires-clause-room_for_ran : goal.run_tasks-requires-clause-room_for_ran
+run_tasks-requires-clause-room_for_ran g c =
+    let ran = c.in_ok-run_next.ensures in
+    rw (ran.ok, ran.runs.2.same.due) (omega (arith, ran.ran_len, ran.ran_capacity, c.requires.room_for_ran))
 
 pub returns-clause-runs : goal.returns-clause-runs
 returns-clause-runs g c =

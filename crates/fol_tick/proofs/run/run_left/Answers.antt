@@ -10,8 +10,8 @@ pub returns-in_err-first-clause-runs : goal.returns-in_err-first-clause-runs
 returns-in_err-first-clause-runs g c =
     ([], g.met.H.Host.stays _, runs_none c.args.tick.now c.requires.may_run.unmoved c.requires.may_run.within)
 
-pub returns-in_err-others-clause-runs : goal.returns-in_err-others-clause-runs
-returns-in_err-others-clause-runs g c =
+pub returns-in_err-stock-clause-runs : goal.returns-in_err-stock-clause-runs
+returns-in_err-stock-clause-runs g c =
     ([], g.met.H.Host.stays _, runs_none c.args.tick.now c.requires.may_run.unmoved c.requires.may_run.within)
 
 -- only spare room has changed
