@@ -31,6 +31,10 @@ pub part_taken : (xs ys zs : List ChunkPos) (i : ℕ) → IsUnion xs (take i ys)
 part_taken xs ys zs i u = part_of xs ys (take i ys) zs u (λ q r.
     ap (λ l. is_recorded l q) (sym (take-append-drop i ys)) ∙ list_any-append (same_chunk q) (take i ys) (drop i ys) ∙ first (is_recorded (take i ys) q) (is_recorded (drop i ys) q) r)
 
+-- all came
+pub part_all : (xs ys zs : List ChunkPos) → IsUnion xs ys zs → IsPartOfUnion xs ys zs
+part_all xs ys zs u = part_of xs ys ys zs u (λ q r. r)
+
 -- none came
 pub part_none : (xs ys : List ChunkPos) → IsStrictlySortedBy chunk_cmp xs → IsPartOfUnion xs ys xs
 part_none xs ys order = record {

@@ -65,4 +65,5 @@ pub record IsSplit (pages split : List (Vec BlockAt)) (i : ℕ) : Type 0 where
   pub len : length split ≡ length pages + 1
   pub start : start_of split i ≡ start_of pages i
   pub front : (d : Vec BlockAt) → length (slice_index_or split i d).items ≡ HALF_PAGE
+  pub back_start : start_of split (i + 1) ≡ start_of pages i + HALF_PAGE
   pub back : (d : Vec BlockAt) → length (slice_index_or split (i + 1) d).items ≡ HALF_PAGE

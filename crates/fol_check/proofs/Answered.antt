@@ -15,11 +15,12 @@ use Rattle.fol_model.specs.declared.events.Unloaded.TheVariants as unloads
 use Rattle.fol_model.specs.declared.events.Event.TheVariants as events
 use Rattle.fol_model.specs.Add.{is_full}
 use Rattle.fol_model.specs.Counting.{some_below}
+use Rattle.fol_model.specs.Holds.{posting}
 use Rattle.fol_model.specs.Rules.{Rules}
 use Rattle.fol_model.specs.World.{World}
 use Rattle.fol_model.specs.Run.{Allowed, load_answer, unload_answer}
 use Rattle.fol_laws.proofs.NumbersBelow.{some_below-gives}
-use Rattle.fol_core.specs.Answers.{LoadRecords, PostRecords, UnloadRecords, close_result, is_busy, is_over, load_result, posting_of, state_result, unload_result}
+use Rattle.fol_core.specs.Answers.{LoadRecords, PostRecords, UnloadRecords, close_result, finish_result, is_busy, is_over, is_owing, load_result, phase_result, post_result, posting_of, state_result, unload_result}
 use Rattle.fol_core.specs.Meaning.{Meaning, Records}
 use Rattle.fol_core.specs.declared.answers.Posting.{Posting}
 use Rattle.fol_core.specs.declared.answers.Phase.TheVariants as phases
@@ -63,6 +64,12 @@ unload_recorded m n k c unloads.Over records on = absurd (on refl)
 
 -- ---- posts
 
+pub post_told : (w : World) (c : ChunkPos) (a : Action) (told : Posting) (answer : Accept) → told ≡ post_result w c a → w.finished ≡ false → answer ≡ posting w c → told ≡ posting_of answer
+post_told w c a told answer is going said = elim (cases_Bool (is_full w.grid c)) [
+  | inl full ↦ let same = rw (going, full) at is in let accept = rw full at said in rw accept same
+  | inr room ↦ let same = rw (going, room) at is in let accept = rw room at said in rw accept same
+]
+
 pub post_recorded : (m n : Meaning) (k : ℕ) (c : ChunkPos) (d : ℕ) (a : Action) (told : Posting) (answer : Accept) → PostRecords m n k c d a told → told ≡ posting_of answer
     → Records m n k (events.Post k c d a answer)
 post_recorded m n k c d a told (accepts.Posted number) records same = rw same at records
@@ -72,6 +79,9 @@ post_recorded m n k c d a told (accepts.Full present wanted) records same = rw s
 
 runs_on : (w : World) → w.finished ≡ false → w.stopped ≡ false → is_over w ≡ false
 runs_on w going on = rw (going, on) refl
+
+pub phase_opens : (w : World) (n : ℕ) → w.finished ≡ false → Allowed w (events.PhaseOpen n) → phase_result w ≡ phases.Opened
+phase_opens w n going ok = let calm = ok.0 in let on = ok.1 in rw (going, on, calm) refl
 
 not_busy : (w : World) (r : ℕ) → (w.grid.state r ≢ Dead → (w.grid.state r ≡ Ready) × (w.owed r ≡ 0)) → is_busy w r ≡ false
 not_busy w r rests = by_state (w.grid.state r) refl
@@ -92,6 +102,9 @@ phase_closes w going ok =
     ] in
     rw (going, on, inside, none) refl
 
+pub history_finishes : (w : World) → w.finished ≡ false → Allowed w events.Finish → finish_result w ≡ finishes.Finished
+history_finishes w going ok = let calm = ok.0 in let on = ok.1 in rw (going, on, calm) refl
+
 -- ---- begins
 
 -- a region that may begin was given out
@@ -101,6 +114,9 @@ ready_given w r s rules told ready =
     let above = lt-ltb 0 r (rules.given r lives) in
     let below = lt-ltb r w.grid.next (rules.below_next r lives) in
     rw told (rw (above, below) refl)
+
+pub owes_now : (w : World) (k r : ℕ) → Allowed w (events.Begin k r) → is_owing w r ≡ true
+owes_now w k r ok = let ready = ok.0 in let some = lt-ltb 0 (w.owed r) ok.1 in rw (ready, some) refl
 
 pub not_over : (w : World) (k r : ℕ) → w.finished ≡ false → Allowed w (events.Begin k r) → is_over w ≡ false
 not_over w k r going ok = runs_on w going ok.2

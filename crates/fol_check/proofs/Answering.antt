@@ -43,6 +43,16 @@ told_with (u ∷ ts) (x ∷ hs) t h at = ap (λ (xs : List Ran). (record { numbe
 
 -- ---- the asks of some tasks
 
+ask_is : (a : Action) (k : Ask) → ask_in a ≡ Some k → action_asked k ≡ a
+ask_is (action.Set at id) k e = absurd (cc)
+ask_is (action.Copy at to) k e = absurd (cc)
+ask_is (action.Load c) k e = let same : asks.Load c ≡ k = cc in rw (← same) refl
+ask_is (action.Unload c) k e = let same : asks.Unload c ≡ k = cc in rw (← same) refl
+ask_is (action.Post c d inner) k e = absurd (cc)
+ask_is (action.Send id to) k e = absurd (cc)
+ask_is (action.Arrive x) k e = absurd (cc)
+ask_is (action.Every p left inner) k e = absurd (cc)
+
 -- one task in front
 one_ask : (a : Action) (t : Task) (ts : List Task) (ks : List Ask) → plain_of t.action ≡ a → map action_asked ks ≡ plains (hosted ts)
     → map action_asked (cons_option (ask_in (plain_of t.action)) ks) ≡ plains (hosted (t ∷ ts))

@@ -73,6 +73,12 @@ has_asked s worker ask p b some most at test = (
       rw same has.asked)),
 )
 
+pub none_asked : (s : Replay) (worker : ℕ) (ask : Ask) → get_or s.workers.items (worker - 1) None ≡ None → HasAsked s worker ask → ⊥
+none_asked s worker ask at has =
+    let place : has.place ≡ worker - 1 = let own' = has.own in omega arith in
+    let there : get_or s.workers.items (worker - 1) None ≡ Some has.held = rw place at has.at in
+    cc
+
 pub load_not_asked : (s : Replay) (worker : ℕ) (c : ChunkPos) (a : Loaded) (b : Bool) → Stands s → 0 < worker → (IsTrue b ↔ HasAsked s worker (asks.Load c)) → b ≡ false
     → IsNext s (events.Load worker c a) → ⊥
 load_not_asked s zero c a b st some test not is = absurd (omega arith)

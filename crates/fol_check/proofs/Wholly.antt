@@ -12,7 +12,7 @@ use Rattle.fol_model.specs.declared.events.Event.{Event}
 use Rattle.fol_model.specs.declared.events.Event.TheVariants as events
 use Rattle.fol_report_laws.specs.Laws.{events as events_of}
 use Rattle.fol_events.specs.InRange.{InRange}
-use Rattle.fol_check.specs.Next.{entry_of}
+use Rattle.fol_check.specs.Next.{MayRecord, entry_of}
 use Rattle.fol_check.specs.Replays.{Closes, Ends, LastFinishes, Played, SoFarAt, StopsAt, entries, is_last}
 use Rattle.fol_check.specs.Standing.{Records, Starts, Went}
 use Rattle.fol_check.specs.declared.replay.Replay.{Replay}
@@ -132,6 +132,18 @@ module _ (h : List Entry) (b : Bool) (some : (hs : List Entry) (e : Entry) → h
 
 -- ---- events that a reader tells
 
+-- an event in range may be recorded
+pub may_record : (e : Event) → InRange e → MayRecord e
+may_record (events.Load k c a) range = range.1
+may_record (events.Unload k c a) range = range.1
+may_record (events.Post k c d a x) range = let post = range.1 in (post.chunk, post.delay, post.action, post.may_post)
+may_record (events.PhaseOpen n) range = tt
+may_record (events.Begin k r) range = tt
+may_record (events.End k r t xs ks) range = tt
+may_record events.PhaseClose range = tt
+may_record events.Finish range = tt
+may_record (events.Stop k) range = tt
+
 -- ---- the steps of a replay
 
 module _ (s u : Replay) (o : Opening) (cs : List Command) (h left rest : List Entry) (e : Entry) (n place : ℕ) (b : Bool)
@@ -160,6 +172,9 @@ module _ (s : Replay) (o : Opening) (cs : List Command) (h left : List Entry) (n
 
   pub short_here : place ≡ n + 1 → left ≡ [] → (LastFinishes s.core.history → ⊥) → StopsAt o cs (events_of h) place
   short_here at none refused = rw at (played_short s o cs (events_of h) n (none_left none) refused)
+
+  pub whole_here : (c : Closing) → left ≡ [] → Closes s c → Ends o cs (events_of h) c
+  whole_here c none closes = played_whole s o cs (events_of h) n (none_left none) c closes
 
 -- a queue in which nothing is left
 pub none_behind : {X : Type 0} (xs : List X) (n : ℕ) → length xs ≡ n → (0 < n → false ≡ true) → xs ≡ []

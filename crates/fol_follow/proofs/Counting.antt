@@ -35,6 +35,9 @@ standing_any (e ∷ es) id = elim (cases_Bool (nat_eq e.id id)) [ inl t ↦ rw t
 
 -- ---- a visit of each entity that is there
 
+pub raised_none : (counts : ℕ → Option ℕ) → AreRaised [] counts counts
+raised_none counts = record { raised = λ id h. absurd (cc); kept = λ id h. refl; known = λ id. refl }
+
 module _ (xs : List EntityAt) (p : EntityAt) (order : IsStrictlySortedBy by_id (xs ++ p ∷ [])) (old now more : ℕ → Option ℕ) (count : ℕ) (raised : AreRaised xs old now) where
   pub raised_more : is_some (old p.id) ≡ true → count ≡ unwrap_or (now p.id) 0 + 1 → ((id : ℕ) → more id ≡ cond (nat_eq p.id id) (Some count) (now id)) → AreRaised (xs ++ p ∷ []) old more
   raised_more some is put = record { raised = λ id h. up id h; kept = λ id h. same id h; known = λ id. known id }
@@ -69,6 +72,12 @@ module _ (xs : List EntityAt) (p : EntityAt) (order : IsStrictlySortedBy by_id (
             | inl e ↦ let s : p.id ≡ id = eqb-true p.id id e in rw (q, e) (sym some ∙ ap (λ (x : ℕ). is_some (old x)) s)
             | inr e ↦ rw (q, e) (raised.known id)
           ]
+
+pub raised_bound : (here : List EntityAt) (old new : ℕ → Option ℕ) → AreRaised here old new → (id : ℕ) → unwrap_or (new id) 0 ≤ unwrap_or (old id) 0 + 1
+raised_bound here old new raised id = elim (cases_Bool (is_some (place_in here id))) [
+  | inl e ↦ let r = raised.raised id e in omega arith
+  | inr e ↦ let r = raised.kept id e in omega arith
+]
 
 -- ---- what is left
 

@@ -114,3 +114,10 @@ module _ (here : List EntityAt) where
       | inl e ↦ ap (λ (n : ℕ). pending_at n r) (raised.raised r.entity e) ∙ nearer (before r.entity) r e
       | inr e ↦ ap (λ (n : ℕ). pending_at n r) (raised.kept r.entity e) ∙ as_far (before r.entity) r e
     ]
+
+    pub lowered_pending : pending_by behind rows ≡ λ n. lowered here (pending_by before rows n)
+    lowered_pending = fun_ext (λ n. at_number n)
+      where
+        at_number : (n : ℕ) → pending_by behind rows n ≡ lowered here (pending_by before rows n)
+        at_number zero = refl
+        at_number (suc k) = at_ask (slice_get rows k)

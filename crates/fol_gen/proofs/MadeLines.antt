@@ -17,7 +17,7 @@ use Rattle.fol_model.specs.Universe.{numbers_below}
 use Rattle.fol_model.specs.IsScript.{is_command, alternates, ticks_of, count_of}
 use Rattle.fol_model.specs.TextRows.{row_words}
 use Rattle.fol_model.specs.Texts.{command_row}
-use Rattle.fol_gen.specs.MadeTexts.{cluster_lines, unload_line, script_lines}
+use Rattle.fol_gen.specs.MadeTexts.{post_line, cluster_lines, unload_line, run_lines, script_lines}
 use Rattle.fol_gen.specs.MadeScript.{chunk_at, post_command, cluster_commands, unload_command, phase, made_commands, SpellsAScript}
 
 -- what follows the clusters
@@ -43,6 +43,10 @@ map_map : (f : ℕ → List Word) (h : ℕ → Command) → ((i : ℕ) → f i �
 map_map f h e [] = refl
 map_map f h e (i ∷ is) = let d = e i in let k = map_map f h e is in rw (d, k) refl
 
+post_spelled : (i j : ℕ) → post_line i j ≡ words_of (post_command i j)
+unfolding digits
+post_spelled i j = refl
+
 cluster_spelled : (i : ℕ) → cluster_lines i ≡ map words_of (cluster_commands i)
 unfolding digits numbers_below
 cluster_spelled i = refl
@@ -50,6 +54,9 @@ cluster_spelled i = refl
 unload_spelled : (i : ℕ) → unload_line i ≡ words_of (unload_command i)
 unfolding digits
 unload_spelled i = refl
+
+phase_spelled : (ticks : ℕ) → run_lines ticks ≡ map words_of (command.Run ticks ∷ command.End ∷ [])
+phase_spelled ticks = refl
 
 pub made_lines : (n : ℕ) → script_lines n ≡ map words_of (made_commands n)
 made_lines n =

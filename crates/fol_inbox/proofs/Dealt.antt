@@ -20,6 +20,9 @@ module _ {X : Type 0} where
   get_last (z ∷ zs) x zero last = absurd (omega arith)
   get_last (z ∷ zs) x (suc k) last = get_last zs x k (omega arith)
 
+pub no_senders : (inbox : InboxId) → AreNewSenders inbox 0 []
+no_senders inbox = record { as_many = refl; each = λ n low. absurd (omega arith) }
+
 pub one_more : (inbox : InboxId) (count : ℕ) (senders : List Sending) (s : Sending) → s ≡ new_sender inbox count → AreNewSenders inbox count senders → AreNewSenders inbox (count + 1) (senders ++ s ∷ [])
 one_more inbox count senders s is new = let as_many = new.as_many in record {
   as_many = length-append senders (s ∷ []) ∙ omega (arith, as_many);
@@ -36,3 +39,6 @@ from_get P [] each = All-nil P
 from_get P (x ∷ xs) each =
     let first = each zero (omega arith) in
     All-cons P x xs (subst P (ap (λ o. unwrap_or o x) (sym first.1)) first.2) (from_get P xs (λ k low. each (suc k) (omega arith)))
+
+pub new_inboxes : (inbox : InboxId) (count : ℕ) (senders : List Sending) → AreNewSenders inbox count senders → All (λ (s : Sending). s.inbox ≡ inbox) senders
+new_inboxes inbox count senders new = let as_many = new.as_many in from_get (λ (s : Sending). s.inbox ≡ inbox) senders (λ n low. (new_sender inbox n, new.each n (omega arith), refl))

@@ -56,6 +56,11 @@ notes_on v w (Some m) result t is = subst (λ (x : Notes). x ≡ drainer_notes x
 notes_on v w None (Some l) t is = subst (λ (x : Notes). x ≡ drainer_notes x.dealt x.taken []) (sym t) (ap (λ (x : Notes). notes_taken x l) is)
 notes_on v w None None t is = subst (λ (x : Notes). x ≡ drainer_notes x.dealt x.taken []) (sym t) is
 
+dealt_on : (v w : Notes) (held result : Option Letter) → TakesUp v w held result → w.dealt ≡ v.dealt
+dealt_on v w (Some m) result t = ap (λ (x : Notes). x.dealt) t.1
+dealt_on v w None (Some l) t = ap (λ (x : Notes). x.dealt) t
+dealt_on v w None None t = ap (λ (x : Notes). x.dealt) t
+
 -- the letter that was taken up is the last one that was taken
 last_taken : (v w : Notes) (ls : List Letter) (held : Option Letter) (l : Letter) → v.taken ≡ ls ++ held_list held → TakesUp v w held (Some l) → w.taken ≡ ls ++ l ∷ []
 last_taken v w ls (Some m) l is t = let same : l ≡ m = let e = t.0 in cc in ap (λ (x : Notes). x.taken) t.1 ∙ is ∙ ap (λ (x : Letter). ls ++ x ∷ []) (sym same)
@@ -178,6 +183,20 @@ module _ (s since : Shown) (p q : Pass) (rs : List Receipt) (held : Option Lette
 
   nothing : held ≡ None
   nothing = (none_taken p.me.view.client q.me.view.client held t).0
+
+  pub drainer_empty : IsDrainer s since q rs None
+  drainer_empty = record {
+    idle = idle;
+    notes = notes_on p.me.view.client q.me.view.client held None t h.notes;
+    taken = subst (λ (x : Notes × Option Letter). x.0.taken ≡ take (length rs) x.0.taken ++ held_list x.1) (λ i. (sym same i, nothing i)) h.taken;
+    may = tt;
+    no_tick = h.no_tick;
+    law = record {
+      does = subst (λ (x : Notes). Does since s (posts_of since.number (take (length rs) x.taken) rs)) (sym same) h.law.does;
+      places = h.law.places;
+      names = h.law.names ∙ ap (λ (x : Notes). letter_names (take (length rs) x.taken)) (sym same);
+    };
+  }
 
   pub posts_empty : PostsMore 0 (draining s since p rs held) (draining s since q rs None)
   posts_empty =

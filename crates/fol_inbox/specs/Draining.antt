@@ -37,4 +37,6 @@ pub record IsNewDrainer (inbox : InboxId) (senders : ℕ) (seat : Shown) (d : Dr
   pub senders_is : d.senders ≡ senders
   pub seat_is : d.seat ≡ seat
   pub since_is : d.since ≡ seat
+  pub letters_is : d.letters ≡ []
+  pub receipts_is : d.receipts ≡ []
   pub held_is : d.held ≡ None

@@ -23,7 +23,7 @@ use Rattle.fol_core.specs.declared.answers.Close.{Close}
 use Rattle.fol_core.specs.declared.answers.Close.TheVariants as closes
 use Rattle.fol_core.specs.declared.answers.Finish.{Finish}
 use Rattle.fol_core.specs.declared.answers.Finish.TheVariants as finishes
-use Rattle.fol_core.specs.Answers.{LoadRecords, PostRecords, StopRecords, UnloadRecords, is_over}
+use Rattle.fol_core.specs.Answers.{CloseRecords, FinishRecords, LoadRecords, PostRecords, StopRecords, UnloadRecords, is_over}
 use Rattle.fol_core.specs.Meaning.{Meaning, Records, Stays, Unchanged, world_of}
 use Rattle.fol_seat_laws.specs.Signed.{IsSigned, is_named, is_start}
 use Rattle.fol_offers.specs.InTurn.{InTurn}
@@ -69,6 +69,17 @@ pub grows_post : (m n : Meaning) (k : ℕ) (c : ChunkPos) (d : ℕ) (x : Action)
 grows_post m n k c d x (postings.Posted number) r = grows_one m n k _ (λ named. refl) r
 grows_post m n k c d x (postings.Full present wanted) r = grows_one m n k _ (λ named. refl) r
 grows_post m n k c d x (postings.Over y) u = grows_unchanged m n u
+
+pub grows_close : (m n : Meaning) (k : ℕ) (a : Close) → CloseRecords m n k a → Grows m n
+grows_close m n k closes.Closed r = grows_one m n k _ (λ named. absurd (cc)) r
+grows_close m n k (closes.NotYet q) u = grows_unchanged m n u
+grows_close m n k closes.NoPhase u = grows_unchanged m n u
+grows_close m n k closes.Over u = grows_unchanged m n u
+
+pub grows_finish : (m n : Meaning) (k : ℕ) (a : Finish) → FinishRecords m n k a → Grows m n
+grows_finish m n k finishes.Finished r = grows_one m n k _ (λ named. absurd (cc)) r
+grows_finish m n k finishes.InPhase u = grows_unchanged m n u
+grows_finish m n k finishes.Over u = grows_unchanged m n u
 
 pub grows_stop : (m n : Meaning) (k : ℕ) (over : Bool) → StopRecords m n k over → Grows m n
 grows_stop m n k true u = grows_unchanged m n u
@@ -173,6 +184,12 @@ module _ {A E : Type 0} (old new : offers.Shown) (by : ℕ) (gives : World → A
             (subst (λ (s : offers.Shown). Grows s.core new.core → Learns (shown old) (shown s) by × IsKept (shown new)) (sym same) (learns_still old new by kept tells workers) grows)
             f.answer f.recorded f.refused grows
       ]
+
+  -- where none had to be
+  pub answers_still : IfOk r (λ a. a ≡ gives (world_of old.core)) → IfOk r (λ a. records old.core new.core a) → OnErr r (Stays old.core new.core) → Answers (shown old) (shown new) by gives records r
+  answers_still answer recorded refused =
+      let grows = grows_answer old.core new.core records r (each old.core new.core) recorded refused in
+      answers_in old refl refl (learns_still old new by kept tells workers grows) answer recorded refused grows
 
 pub stops_back : (old new : offers.Shown) (by : ℕ) → IsKept (shown old) → Tells new → new.workers ≡ old.workers → offers.Stops old new by → Stops (shown old) (shown new) by
 stops_back old new by kept tells workers did =

@@ -22,6 +22,9 @@ module _ {X : Type 0} where
   get_last (z ∷ zs) x (suc k) last = get_last zs x k (omega arith)
 
 module _ {O E : Type 0} (lock : LockId) (origin : O) where
+  pub no_seats : AreNew {O = O} {E = E} lock origin 0 []
+  no_seats = record { as_many = refl; each = λ n low. absurd (omega arith) }
+
   pub one_more_seat : (count : ℕ) (seats : List (Shown O E)) (seat : Shown O E) → seat ≡ newcomer lock count origin → AreNew lock origin count seats → AreNew lock origin (count + 1) (seats ++ seat ∷ [])
   one_more_seat count seats seat is new = let as_many = new.as_many in record {
     as_many = length-append seats (seat ∷ []) ∙ omega (arith, as_many);

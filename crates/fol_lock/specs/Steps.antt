@@ -35,4 +35,5 @@ module _ {S O E : Type 0} where
     pub live : m.0.live ≡ 1
     pub draws : m.0.draws ≡ 1
     pub no_turn : m.0.turn ≡ false
+    pub ticket_is : ticket ≡ m.0.ticket % 2 ^ 64
     pub nothing_out : m.1 ≡ []

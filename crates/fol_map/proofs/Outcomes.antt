@@ -18,6 +18,16 @@ put_weaker P Q w before now f l p q ReadFault h = absurd h
 put_weaker P Q w before now f l p q TooLong h = absurd h
 put_weaker P Q w before now f l p q (Report line) h = absurd h
 
+pub report_ends : (o : Opening) (report : List ℕ) (before now : Option (List ℕ)) (f l p q : ℕ) (e : Ending) → PutEnds (IsDrawn o report) before now f l p q e → ReportEnds o report before now f l p q e
+report_ends o report before now f l p q Written h = h
+report_ends o report before now f l p q WriteFault h = h
+report_ends o report before now f l p q NoMemory h = h
+report_ends o report before now f l p q Words h = absurd h
+report_ends o report before now f l p q (World line cause) h = absurd h
+report_ends o report before now f l p q ReadFault h = absurd h
+report_ends o report before now f l p q TooLong h = absurd h
+report_ends o report before now f l p q (Report line) h = absurd h
+
 -- a picture over the opening is one over its text
 over : (world report : List ℕ) (o : Opening) → IsWorldText world o → (b : List ℕ) → IsDrawn o report b → IsDrawnOver world report b
 over world report o t b d = record { opening = o; text = t; drawn = d }

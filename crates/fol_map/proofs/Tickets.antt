@@ -15,7 +15,7 @@ use Rattle.fol_model.specs.declared.closings.TaskRow.{TaskRow}
 use Rattle.fol_model.specs.Geometry.{same_chunk}
 use Rattle.fol_model.proofs.PlaceKeys.{same_chunk-true}
 use Rattle.fol_map.specs.Counts.{AreCounted, by_place, count_in}
-use Rattle.fol_map.specs.Holds.{one_at, ticketed, tickets_from}
+use Rattle.fol_map.specs.Holds.{holds, one_at, ticketed, tickets_from}
 use Rattle.fol_map.proofs.Chunks.{place_test}
 
 pub tickets_more : (f : ChunkPos → ℕ) (es : List Entry) (e : Entry) → tickets_from f (es ++ e ∷ []) ≡ ticketed (tickets_from f es) e.event
@@ -95,3 +95,6 @@ counted_at m n d w e h all q = elim (cases_Bool (same_chunk d q)) [
 
 count_more : {X : Type 0} (p : X → Bool) (xs : List X) (x : X) → count_by p (xs ++ x ∷ []) ≡ count_by p xs + cond (p x) 1 0
 count_more {X} p xs x = sum_by-append (λ (y : X). cond (p y) 1 0) xs (x ∷ []) ∙ ap (λ (n : ℕ). count_by p xs + n) (zero-add (cond (p x) 1 0))
+
+pub holds_more : (es : List Entry) (ts : List TaskRow) (t : TaskRow) (c : ChunkPos) → holds es (ts ++ t ∷ []) c ≡ holds es ts c + one_at t.task.chunk c
+holds_more es ts t c = omega (arith, count_more (λ (r : TaskRow). same_chunk r.task.chunk c) ts t)

@@ -1,7 +1,7 @@
 -- The picture of a closing.
 use Rattle.std.specs.Prelude.{◌≡◌, ℕ, ◌+◌, ◌*◌, ◌/◌, max, List, ◌++◌, flat_map, codes, decimal}
 use Rattle.fol_model.specs.declared.closings.Closing.{Closing}
-use Rattle.fol_map.specs.Layouts.{width}
+use Rattle.fol_map.specs.Layouts.{IsLayout, width}
 use Rattle.fol_map.specs.Marks.{chunk_mark, entity_mark, section_mark, task_mark}
 use Rattle.fol_map.specs.Legends.{axis_marks, legend, region_line_count}
 use Rattle.fol_map.specs.declared.layouts.Layout.{Layout}
@@ -57,4 +57,5 @@ picture_text c l = head (wide l) (high c l) ++ sections_text c l ++ inside_text 
 -- the bytes are the picture of the closing
 pub record IsPicture (c : Closing) (bytes : List ℕ) : Type 0 where
   pub layout : Layout
+  pub is_layout : IsLayout c layout
   pub text : bytes ≡ picture_text c layout

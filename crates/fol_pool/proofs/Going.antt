@@ -2,7 +2,7 @@
 use Rattle.std.proofs.Common.{◌≡◌, ℕ, refl, sym, ◌∙◌, subst, inl, inr, Bool, true, false, List, [], ◌∷◌, ◌++◌, append_assoc, append-nil}
 use Rattle.std.specs.Prelude.{Result, Ok, Err, nat_eq}
 use Rattle.std.specs.List.{AllByRecursion}
-use Rattle.std.specs.Result.{OnOk, is_err}
+use Rattle.std.specs.Result.{OnErr, OnOk, is_err}
 use Rattle.std.proofs.lemmas.Bool.{cases_Bool, or_cases, true≢false}
 use Rattle.fol_lock.proofs.Logs.{given_by-append}
 use Rattle.fol_model.specs.declared.openings.Opening.{Opening}
@@ -36,6 +36,10 @@ stopped_before o h rest go = let whole : (after_all (world o h) rest).stopped �
 pub went_well : {P E : Type 0} (r : Result (Unit {0}) E) → is_err r ≡ false → OnOk r P → P
 went_well (Ok x) well h = h
 went_well (Err e) well h = absurd (cc)
+
+pub went_wrong : {P E : Type 0} (r : Result (Unit {0}) E) → is_err r ≡ true → OnErr r P → P
+went_wrong (Ok x) wrong h = absurd (cc)
+went_wrong (Err e) wrong h = h
 
 -- ---- entries
 
@@ -99,8 +103,18 @@ looks_begin s now l =
 pub same_self : (s : Shown) → SameSeat s s
 same_self s = record { lock = refl; opening = refl; number = refl }
 
+pub back_self : (s : Shown) → Works s → IsBack s s
+back_self s works = record { same = same_self s; works = works }
+
 pub same_then : (s t u : Shown) → SameSeat s t → SameSeat t u → SameSeat s u
 same_then s t u a b = record { lock = b.lock ∙ a.lock; opening = b.opening ∙ a.opening; number = b.number ∙ a.number }
+
+pub same_turn : (s now u : Shown) → Turn s now u → SameSeat s u
+same_turn s now u t = record {
+  lock = t.adds.lock ∙ t.looks.lock;
+  opening = t.adds.opening ∙ t.looks.opening;
+  number = t.adds.number ∙ t.looks.number;
+}
 
 pub back_then : (s t u : Shown) → IsBack s t → SameSeat t u → Works u → IsBack s u
 back_then s t u back same works = record { same = same_then s t u back.same same; works = works }

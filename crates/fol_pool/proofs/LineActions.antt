@@ -23,6 +23,9 @@ line_deed a line =
 
 -- ---- the action itself
 
+pub line_within : (a : Action) → IsTrue (is_line_action a) → IsTrue (is_action a)
+line_within a line = (line_deed a line).within
+
 fewer : (n : ℕ) → nat_le (suc n) 7 ≡ true → nat_le n 6 ≡ true
 fewer n h = le-leb n 6 (omega (arith, leb-true (suc n) 7 h))
 

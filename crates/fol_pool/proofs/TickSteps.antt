@@ -1,5 +1,5 @@
 -- A tick of a worker, from its claim to its End.
-use Rattle.std.proofs.Common.{◌≡◌, ℕ, refl, ◌∙◌, ap, subst, inl, inr, true, false, List, [], ◌∷◌, ◌++◌, filter, length, map, append_assoc, Some}
+use Rattle.std.proofs.Common.{◌≡◌, ℕ, refl, ◌∙◌, ap, subst, inl, inr, true, false, List, [], ◌∷◌, ◌++◌, filter, length, map, append_assoc, Some, None}
 use Rattle.std.specs.Prelude.{◌+◌, nat_eq, Ok, Err, IsSome}
 use Rattle.std.specs.Global.{Box}
 use Rattle.std.specs.List.{AllByRecursion, list_any}
@@ -37,21 +37,44 @@ use Rattle.fol_seat_laws.specs.Worked.{WasWhole}
 use Rattle.fol_seat_laws.proofs.LateTicks.{late_turn}
 use Rattle.fol_seat_laws.proofs.LateTurns.{deeds_go_on, stays_in_tick}
 use Rattle.fol_seat_laws.proofs.Turning.{turned, turns_more}
-use Rattle.fol_live.specs.Calls.{PassesOn, Releases}
+use Rattle.fol_live.specs.Calls.{Claims, Misses, PassesOn, Releases}
 use Rattle.fol_live.specs.Goes.{Hosts, Serves, deeds, does_both, does_looks, entries_of}
 use Rattle.fol_live.specs.Kept.{Keeps}
-use Rattle.fol_live.specs.Seat.{Shown, held, meaning_of}
+use Rattle.fol_live.specs.Seat.{Shown, held, held_in, meaning_of}
 use Rattle.fol_live.specs.Turned.{Looks}
 use Rattle.fol_live.specs.Turns.{IsLate}
-use Rattle.fol_live.proofs.HeldTicks.{run_held}
+use Rattle.fol_live.proofs.HeldTicks.{claimed_held, run_held}
 use Rattle.fol_live.proofs.Hosted.{still_holds}
 use Rattle.fol_live.proofs.OwnTurns.{goes_turn}
-use Rattle.fol_pool.specs.Works.{Calm, HasRun, Holds, IsStuck, Rests}
+use Rattle.fol_pool.specs.Works.{Calm, HasRun, Holds, IsStuck, Rests, SameSeat}
 use Rattle.fol_pool.proofs.Asked.{turns_asked}
 use Rattle.fol_pool.proofs.Going.{IsCalm, IsStart, begins_both, calm_does, calm_goes, does_still, late_starts, looks_begin, own_starts, starts_calm, stopped_before}
 use Rattle.fol_pool.proofs.QuietTurns.{quiet_calm, whole_passed}
 
 -- ---- the claim
+
+pub claim_same : (s u : Shown) (tick : Tick) → Claims s u tick → SameSeat s u
+claim_same s u tick did = let is = did.same in rw is (record { lock = refl; opening = refl; number = refl })
+
+pub claim_holds : (s u : Shown) (tick : Tick) → Rests s → Claims s u tick → Holds u tick
+claim_holds s u tick rests did = record {
+  works = (let is = did.same in rw is (record { calm = record { some = rests.works.calm.some; keeps = rests.works.calm.keeps; own = rests.works.calm.own; calm = rests.works.calm.calm }; whole = rests.works.whole }));
+  out = claimed_held s u tick did;
+}
+
+pub miss_same : (s u : Shown) → Misses s u → SameSeat s u
+miss_same s u did = let is = did.is in rw is (record { lock = refl; opening = refl; number = refl })
+
+pub miss_rests : (s u : Shown) → Rests s → Misses s u → Rests u
+miss_rests s u rests did =
+    let after = did.misses.misses.is in
+    let was = did.was in
+    let free : held_in (Some did.after) ≡ None = rw after (rw was at rests.free) in
+    let is = did.is in
+    rw is (record {
+      works = record { calm = record { some = rests.works.calm.some; keeps = rests.works.calm.keeps; own = rests.works.calm.own; calm = rests.works.calm.calm }; whole = rests.works.whole };
+      free = free;
+    })
 
 -- ---- the Begin, whoever recorded it
 

@@ -1,5 +1,5 @@
 -- Beginnings of one list, and fronts that rise.
-use Rattle.std.proofs.Common.{◌≡◌, ℕ, zero, ◌≤◌, List, [], ◌∷◌, ◌++◌, length, All, refl, sym, subst, arith}
+use Rattle.std.proofs.Common.{◌≡◌, ℕ, zero, ◌≤◌, List, [], ◌∷◌, ◌++◌, length, All, refl, sym, subst, arith, append-nil}
 use Rattle.std.proofs.lemmas.List.Elements.{All-nil, All-cons, All-head, All-tail, All-push, All-contains, Contains-append_right}
 use mathlib.Core.List.{IsPrefix}
 use Rattle.fol_lock.specs.Log.{StartsWith}
@@ -11,6 +11,9 @@ use Rattle.fol_view.specs.declared.board.SeenOwner.{SeenOwner}
 
 pub starts : {A : Type 0} (xs ys : List A) → IsPrefix xs ys → StartsWith ys xs
 starts xs ys p = (p.0, sym p.1)
+
+pub starts_self : {A : Type 0} (xs : List A) → StartsWith xs xs
+starts_self xs = ([], sym (append-nil xs))
 
 pub prefix_shorter : {A : Type 0} (xs ys zs : List A) → IsPrefix xs zs → IsPrefix ys zs → length xs ≤ length ys → IsPrefix xs ys
 prefix_shorter [] ys zs p q le = (ys, refl)
