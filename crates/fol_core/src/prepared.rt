@@ -199,7 +199,7 @@ fn room_again(tables: &Tables, id: u64, due: Vec<Task>) -> Option<Room>
     if tables.course.is_over() || !tables.store.is_whole(id) {
         return None;
     }
-    if tables.store.count_due(id) > due.capacity() as u64 {
+    if tables.store.most_due(id) > due.capacity() as u64 {
         return None;
     }
     Some(Room::Begin { id, due })

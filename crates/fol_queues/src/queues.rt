@@ -61,6 +61,13 @@ impl Queues {
         self.tasks.is_empty()
     }
 
+    /// How many tasks wait.
+    pub fn len(&self) -> u64
+        ensures { result ≡ len_of self.now }
+    {
+        self.tasks.len() as u64
+    }
+
     /// Makes `spare` at least `n`. The tasks stay either way.
     pub fn reserve(&mut self, n: u64) -> Result<(), AllocError>
         ensures tasks { self.new.tasks ≡ self.old.tasks }

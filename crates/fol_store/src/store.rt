@@ -34,9 +34,12 @@ use fol_bags::{Bags, Places, Taken, slots};
 use fol_data::RegionData;
 use fol_keyed::ChunkSet;
 use fol_model::{ChunkPos, Opening};
-use fol_queues::Dated;
+use fol_queues::{Dated, Queues};
 use std::alloc::{AllocError, Global};
 use std::marker::Model;
+
+/// Up to so many tasks are not counted to know how many of them may be due.
+const FEW_TASKS: u64 = 256;
 
 /// What no worker has in its hands. Contracts see a `Stock`, whose words are `flat_of`, `jobs_of`, `bag_of` and `next_of`.
 #[derive(Drop)]
@@ -154,13 +157,13 @@ impl Store {
         slots::is_whole(self.bags.slot(id as usize))
     }
 
-    /// How many tasks of a bag are due in the next tick of its region.
-    pub fn count_due(&self, id: u64) -> u64
+    /// At least as many as the tasks of a bag that are due in the next tick of its region: where few tasks wait there, none is looked at.
+    pub fn most_due(&self, id: u64) -> u64
         requires { (bag_of self.now id).here ≡ true }
-        ensures { result ≡ due_of self.now id }
+        ensures { due_of self.now id ≤ result }
     {
         let slot = self.bags.slot(id as usize);
-        slot.body.queues.count_due(slot.body.tick + 1)
+        due_at_most(&slot.body.queues, slot.body.tick + 1)
     }
 
     /// Whether a task of a bag is due in the next tick of its region. Costs the same however many there are.
@@ -289,5 +292,17 @@ impl Store {
         }
         sorting::sort_tasks(&mut rows.tasks);
         Ok(rows)
+    }
+}
+
+/// At least as many as the tasks that are due; all, where they are few.
+fn due_at_most(queues: &Queues, now: u64) -> u64
+    ensures { due_count now queues.now ≤ result }
+{
+    let all = queues.len();
+    if all <= FEW_TASKS {
+        all
+    } else {
+        queues.count_due(now)
     }
 }

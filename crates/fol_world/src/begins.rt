@@ -105,7 +105,7 @@ fn owed_list(
     settle(alloc, regions, store, id)?;
     let mut due = list;
     due.clear();
-    due.reserve(store.count_due(id) as usize)?;
+    due.reserve(store.most_due(id) as usize)?;
     Ok(due)
 }
 

@@ -7,7 +7,7 @@ use Rattle.fol_store.specs.Stock.{slot, due_of}
 use Rattle.fol_bags.specs.Things.{IsTimely}
 use Rattle.fol_bags.proofs.OpenBags.{here_open}
 use Rattle.fol_store.proofs.BagSteps.{bag_slot}
-use Rattle.fol_store.proofs.store.Store.count_due.Goals as goal
+use Rattle.fol_store.proofs.store.Store.most_due.Goals as goal
 
 pub slot-slot-requires : goal.slot-slot-requires
 slot-slot-requires c =
@@ -27,4 +27,5 @@ unfolding due_of
 returns c =
     let h : (slot (the_view c.self.inside) c.args.id).here ≡ true = sym (ap (λ (b : Bag). b.here) (bag_slot (the_view c.self.inside) c.args.id)) ∙ (rw (← c.self.view_is) at c.requires) in
     let e : c.slot-slot.result.now ≡ slot (the_view c.self.inside) c.args.id = c.slot-slot.ensures in
-    rw (← c.self.view_is) (c.count_due.ensures ∙ ap (λ (b : Slot). due_count (b.body.tick + 1) b.body.queues) e)
+    let same : due_count (c.slot-slot.result.now.body.tick + 1) c.slot-slot.result.now.body.queues ≡ due_count ((slot (the_view c.self.inside) c.args.id).body.tick + 1) (slot (the_view c.self.inside) c.args.id).body.queues = ap (λ (b : Slot). due_count (b.body.tick + 1) b.body.queues) e in
+    rw (← c.self.view_is) (omega (arith, sym same, c.due_at_most.ensures))
