@@ -16,7 +16,7 @@ use fol_bags::slots;
 
 /// In how many entities with a speed, at most, a tick is done in the store: moving these costs less than handing the bag to a worker and
 /// taking it back.
-const FEW_WALKERS: usize = 16;
+const FEW_WALKERS: usize = 256;
 
 impl Store {
     ghost use Rattle.fol_store.specs.Stock.{Stock, flat_of, jobs_of, bag_of, next_of, due_of};
