@@ -16,8 +16,8 @@ use Rattle.fol_core.specs.declared.answers.Finish.{Finish}
 use Rattle.fol_core.specs.Answers.{CloseRecords, FinishRecords, LoadRecords, PostRecords, StopRecords, UnloadRecords, close_result, finish_result, is_over, load_result, post_result, unload_result}
 use Rattle.fol_world.specs.AtEnd.{end_event}
 use Rattle.fol_core.specs.Meaning.{Meaning, Records, Stays, world_of}
-use Rattle.fol_core.specs.Quiet.{Passes}
 use Rattle.fol_core.specs.Ticks.{SameTick}
+use Rattle.fol_offers.specs.PassedTicks.{PassesMany}
 use Rattle.fol_live.specs.declared.answers.LivePhase.{LivePhase}
 use Rattle.fol_live.specs.declared.answers.Owners.{Owners}
 use Rattle.fol_live.specs.Calls.{AsksForEnd, Closes, Finishes, ListsOwners, Loads, Opens, PassesOn, Posts, Releases, Stops, Unloads}
@@ -143,11 +143,11 @@ module _ {E : Type 0} {old new : Shown} {y n : worlds.Shown} {answer : Result �
       subst (λ (x : Meaning). Records (meaning_of d.now) x tick.worker (end_event (world_of (meaning_of d.now)) tick.worker tick.region tick.log.ran))
       (bare_is e.ended d.now.opening e.ended.history opening_now refl) here
 
-  pub passes_here : turns.PassesOn e.ended n tick.worker tick.region most → PassesOn ended new tick.region most
+  pub passes_here : turns.PassesOn e.ended n tick.worker most → PassesOn ended new most
   passes_here p =
       let there : Shown = record d.now { seen = p.now.history } in
-      let here = subst (λ (x : Meaning). Passes x (worlds.meaning_of n) tick.worker tick.region p.count) (bare_is p.now d.now.opening p.now.history (p.learns.same.opening ∙ opening_now) refl) p.passes in
-      let both = subst (λ (x : Meaning). Passes (meaning_of there) x tick.worker tick.region p.count) d.there here in
+      let here = subst (λ (x : Meaning). PassesMany x (worlds.meaning_of n) tick.worker p.count) (bare_is p.now d.now.opening p.now.history (p.learns.same.opening ∙ opening_now) refl) p.passes in
+      let both = subst (λ (x : Meaning). PassesMany (meaning_of there) x tick.worker p.count) d.there here in
       record {
         now = there;
         learnt = p.learns.learnt;
@@ -156,7 +156,7 @@ module _ {E : Type 0} {old new : Shown} {y n : worlds.Shown} {answer : Result �
         opening = refl;
         count = p.count;
         few = p.few;
-        passes = subst (λ (k : ℕ). Passes (meaning_of there) (meaning_of new) k tick.region p.count) worker_now both;
+        passes = subst (λ (k : ℕ). PassesMany (meaning_of there) (meaning_of new) k p.count) worker_now both;
       }
 
   pub released : (length : ℕ) → answer ≡ Ok length → held new ≡ None → Releases old new tick most (Ok length)

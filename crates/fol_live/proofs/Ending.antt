@@ -9,11 +9,11 @@ use Rattle.fol_model.specs.declared.events.Entry.{Entry}
 use Rattle.fol_model.specs.declared.events.Event.TheVariants.{Begin}
 use Rattle.fol_model.specs.World.{World}
 use Rattle.fol_data.specs.declared.tick.Tick.{Tick}
-use Rattle.fol_core.specs.Quiet.{quiet_ticks}
 use Rattle.fol_core.specs.Meaning.{Meaning, Records, Stays, is_prepared, world_of}
 use Rattle.fol_world.specs.AtEnd.{end_event}
 use Rattle.fol_offers.specs.Ends.{Meets, wishes_may_touch}
 use Rattle.fol_offers.specs.Ends as offers_ends
+use Rattle.fol_offers.specs.PassedTicks.{quiet_entries}
 use Rattle.fol_offers.specs.Shown as offers
 use Rattle.fol_live.specs.Kept.{IsKept}
 use Rattle.fol_live.specs.Shown.{shown}
@@ -95,15 +95,14 @@ ends {E} old new tick r kept tells did =
     grown m n w (Err e) recorded refused = grows_same m n refused
 
 -- ticks that were passed over
-pub passes_on : (old new : offers.Shown) (by region count most : ℕ) → IsKept (shown old) → Tells new → count ≤ most → offers.PassesOver old new by region count → PassesOn (shown old) (shown new) by region most
+pub passes_on : (old new : offers.Shown) (by region count most : ℕ) → IsKept (shown old) → Tells new → count ≤ most → offers.PassesOver old new by region count → PassesOn (shown old) (shown new) by most
 passes_on old new by region count most kept tells few did =
     let c = did.cleared in
-    let t : ℕ = (world_of c.core).tick region in
     let grows : Grows c.core new.core = record {
       opening = did.passes.opening;
-      added = quiet_ticks by region t count;
+      added = quiet_entries by did.passes.ticks;
       history = did.passes.history;
-      signed = quiet_signed by region t count;
+      signed = quiet_signed by did.passes.ticks;
     } in
     let learns = learns_back old c new by (nat_eq region) kept tells (did.workers) grows did.clears in
     record {
@@ -111,7 +110,7 @@ passes_on old new by region count most kept tells few did =
       learns = learns.0;
       count = count;
       few = few;
-      passes = record { opening = did.passes.opening; history = did.passes.history; prepared = refl };
+      passes = record { ticks = did.passes.ticks; count = did.passes.count; opening = did.passes.opening; history = did.passes.history; prepared = refl };
       same = record { opening = grows.opening; slots = did.slots ∙ sym did.clears.slots; workers = did.workers ∙ sym did.clears.workers };
       keeps = learns.1;
     }

@@ -6,7 +6,7 @@ use Rattle.fol_model.specs.declared.events.Entry.{Entry}
 use Rattle.fol_data.specs.declared.tick.Tick.{Tick}
 use Rattle.fol_world.specs.AtEnd.{end_event}
 use Rattle.fol_core.specs.Meaning.{Meaning, world_of}
-use Rattle.fol_core.specs.Quiet.{quiet_ticks}
+use Rattle.fol_offers.specs.PassedTicks.{quiet_entries}
 use Rattle.fol_live.specs.Kept.{IsKept}
 use Rattle.fol_live.specs.Shown.{Shown, meaning_of}
 use Rattle.fol_live.specs.Turns.{EndsAndPasses, PassesOn, SameWorld}
@@ -22,13 +22,13 @@ added_both a b c k p q = record {
   own = All-append (λ (e : Entry). e.by ≡ k) p.added q.added p.own q.own;
 }
 
-added_passed : (m n : Shown) (k r most : ℕ) → PassesOn m n k r most → Added (meaning_of m) (meaning_of n) k
-added_passed m n k r most p =
-    let quiet : List Entry = quiet_ticks k r ((world_of (meaning_of p.now)).tick r) p.count in
+added_passed : (m n : Shown) (k most : ℕ) → PassesOn m n k most → Added (meaning_of m) (meaning_of n) k
+added_passed m n k most p =
+    let quiet : List Entry = quiet_entries k p.passes.ticks in
     record {
       added = p.learns.learnt ++ quiet;
       history = p.passes.history ∙ ap (λ (es : List Entry). es ++ quiet) p.learns.history ∙ append_assoc m.history p.learns.learnt quiet;
-      own = All-append (λ (e : Entry). e.by ≡ k) p.learns.learnt quiet (late_by k p.learns.learnt p.learns.late) (quiet_own k r ((world_of (meaning_of p.now)).tick r) p.count);
+      own = All-append (λ (e : Entry). e.by ≡ k) p.learns.learnt quiet (late_by k p.learns.learnt p.learns.late) (quiet_own k p.passes.ticks);
     }
 
 module _ {E : Type 0} (y n : Shown) (tick : Tick) (most : ℕ) where
@@ -46,7 +46,7 @@ module _ {E : Type 0} (y n : Shown) (tick : Tick) (most : ℕ) where
 
   added_after : (r : Result ℕ E) → (e : EndsAndPasses y n tick most r) → Added (meaning_of e.ends.now) (meaning_of n) tick.worker
   added_after (Ok k) e =
-      added_both (meaning_of e.ends.now) (meaning_of e.ended) (meaning_of n) tick.worker (ended_added (Ok k) e) (added_passed e.ended n tick.worker tick.region most e.passed)
+      added_both (meaning_of e.ends.now) (meaning_of e.ended) (meaning_of n) tick.worker (ended_added (Ok k) e) (added_passed e.ended n tick.worker most e.passed)
   added_after (Err x) e = subst (λ (s : Shown). Added (meaning_of e.ends.now) (meaning_of s) tick.worker) (sym e.refused) (ended_added (Err x) e)
 
 -- the turn in which it was given back

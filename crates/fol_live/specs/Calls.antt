@@ -18,11 +18,11 @@ use Rattle.fol_core.specs.declared.answers.Finish.{Finish}
 use Rattle.fol_core.specs.Answers.{CloseRecords, FinishRecords, LoadRecords, PostRecords, StopRecords, UnloadRecords, close_result, finish_result, is_over, load_result, post_result, unload_result}
 use Rattle.fol_world.specs.AtEnd.{end_event}
 use Rattle.fol_core.specs.Meaning.{Records, Stays, world_of}
-use Rattle.fol_core.specs.Quiet.{Passes}
 use Rattle.fol_core.specs.Ticks.{SameTick}
 use Rattle.fol_slots.specs.Shown.{Worker}
 use Rattle.fol_offers.specs.Offered.{Offered}
 use Rattle.fol_offers.specs.Fit.{IsFitTick}
+use Rattle.fol_offers.specs.PassedTicks.{PassesMany}
 use Rattle.fol_live.specs.declared.answers.LivePhase.{LivePhase}
 use Rattle.fol_live.specs.Hands.{MissesAll}
 use Rattle.fol_live.specs.Results.{LivePhaseRecords, live_phase_result}
@@ -141,8 +141,8 @@ abbrev pub TriesToBegin : Shown → Shown → TryBegin → Type 0
 TriesToBegin old new (Got boxed) = Claims old new boxed.value
 TriesToBegin old new Idle = Misses old new
 
--- behind what the seat showed, it recorded Begins that it learnt of, and then quiet ticks of this region, at most so many
-pub record PassesOn (old new : Shown) (region most : ℕ) : Type 0 where
+-- behind what the seat showed, it recorded Begins that it learnt of, and then quiet ticks of whichever regions, at most so many
+pub record PassesOn (old new : Shown) (most : ℕ) : Type 0 where
   pub now : Shown
   pub learnt : List Entry
   pub late : AllByRecursion (IsLate old.number) learnt
@@ -150,7 +150,7 @@ pub record PassesOn (old new : Shown) (region most : ℕ) : Type 0 where
   pub opening : now.opening ≡ old.opening
   pub count : ℕ
   pub few : count ≤ most
-  pub passes : Passes (meaning_of now) (meaning_of new) old.number region count
+  pub passes : PassesMany (meaning_of now) (meaning_of new) old.number count
 
 -- a tick was given back: the answer is how long the history is with its End; out of memory hands the same tick back. `ended` is what the seat
 -- would show right behind the End
@@ -161,7 +161,7 @@ pub record Releases (old new : Shown) (tick : Tick) (most : ℕ) (r : Result ℕ
   pub number : ended.number ≡ old.number
   pub told : IfOk r (λ n. n ≡ length ended.seen)
   pub recorded : OnOk r (Records (meaning_of now) (meaning_of ended) tick.worker (end_event (world_of (meaning_of now)) tick.worker tick.region tick.log.ran))
-  pub passed : OnOk r (PassesOn ended new tick.region most)
+  pub passed : OnOk r (PassesOn ended new most)
   pub free : OnOk r (held new ≡ None)
   pub back : IfErr r (λ t. SameTick tick t.value)
   pub kept : OnErr r (new.hand ≡ old.hand)

@@ -14,12 +14,12 @@ use Rattle.fol_core.specs.declared.answers.Close.{Close}
 use Rattle.fol_core.specs.declared.answers.Finish.{Finish}
 use Rattle.fol_core.specs.Answers.{CloseRecords, FinishRecords, LoadRecords, PostRecords, StopRecords, UnloadRecords, close_result, finish_result, is_over, load_result, post_result, unload_result}
 use Rattle.fol_core.specs.Meaning.{Meaning, Records, Stays, world_of}
-use Rattle.fol_core.specs.Quiet.{Passes}
 use Rattle.fol_seat_laws.specs.Signed.{is_start}
 use Rattle.fol_slots.specs.Shown.{Worker}
 use Rattle.fol_tick_laws.specs.OpenTicks.{IsOpen}
 use Rattle.fol_world.specs.AtEnd.{end_event}
 use Rattle.fol_offers.specs.Offered.{Offered, of_tick}
+use Rattle.fol_offers.specs.PassedTicks.{PassesMany}
 use Rattle.fol_live.specs.declared.answers.LivePhase.{LivePhase}
 use Rattle.fol_live.specs.Results.{LivePhaseRecords, live_phase_result}
 use Rattle.fol_live.specs.Kept.{IsKept}
@@ -84,13 +84,13 @@ pub record Stops (old new : Shown) (by : ℕ) : Type 0 where
 abbrev pub HasOpen : Shown → Worker Offered → Type 0
 HasOpen s seat = (t : Tick) → seat.claimed ≡ Some (of_tick t) → IsOpen (meaning_of s) (record t { worker = seat.number })
 
--- the worker recorded Begins that it learnt of, and behind them quiet ticks of this region, at most so many
-pub record PassesOn (old new : Shown) (by region most : ℕ) : Type 0 where
+-- the worker recorded Begins that it learnt of, and behind them quiet ticks of whichever regions, at most so many
+pub record PassesOn (old new : Shown) (by most : ℕ) : Type 0 where
   pub now : Shown
   pub learns : Learns old now by
   pub count : ℕ
   pub few : count ≤ most
-  pub passes : Passes (meaning_of now) (meaning_of new) by region count
+  pub passes : PassesMany (meaning_of now) (meaning_of new) by count
   pub same : SameWorld now new
   pub keeps : IsKept new
 
@@ -108,5 +108,5 @@ pub record Ends {E : Type 0} (old new : Shown) (tick : Tick) (r : Result ℕ E) 
 pub record EndsAndPasses {E : Type 0} (old new : Shown) (tick : Tick) (most : ℕ) (r : Result ℕ E) : Type 0 where
   pub ended : Shown
   pub ends : Ends old ended tick r
-  pub passed : OnOk r (PassesOn ended new tick.worker tick.region most)
+  pub passed : OnOk r (PassesOn ended new tick.worker most)
   pub refused : OnErr r (new ≡ ended)

@@ -287,9 +287,10 @@ impl Live {
     /// Ends the tick that the seat holds, once all of its tasks ran. Returns the length of the history with the End, or out of memory with the
     /// tick, which is the same, and which the seat holds still. It also works after a Stop.
     ///
-    /// Behind the End the seat may begin and end further quiet ticks of the region, at most `most`: where no task is due in them, few entities
-    /// have a speed, which are moved then and there, and their release changes nothing. How many of these ticks it leaves to `try_begin` is
-    /// free. `Seat::saw_none_owing` then tells, where it is true, that no tick is left to look for.
+    /// Behind the End the seat may begin and end further quiet ticks, at most `most`, of any region that owes one and is not offered, that of
+    /// the tick first: where no task is due in them, few entities have a speed, which are moved then and there, and their release changes
+    /// nothing. How many of these ticks it leaves to `try_begin` is free. `Seat::saw_none_owing` then tells, where it is true, that no tick is
+    /// left to look for.
     pub fn release<R: Wait>(
         &self,
         rt: &R,

@@ -37,9 +37,9 @@ impl World {
         seat
     }
 
-    /// Ends the tick that a worker claimed, once all of its tasks ran, passes over at most `most` quiet ticks of its region behind it, and offers
-    /// what is owed then. Returns the length of the history with the End, with the seat, which holds no slot any more. If memory runs out, no
-    /// End is recorded, and the worker has its tick still, which is the same.
+    /// Ends the tick that a worker claimed, once all of its tasks ran, and passes over at most `most` quiet ticks behind it, of any region that
+    /// owes one and is not offered, that of the tick first. Then it offers what is owed. Returns the length of the history with the End, with
+    /// the seat, which holds no slot any more. If memory runs out, no End is recorded, and the worker has its tick still, which is the same.
     pub fn end(
         &mut self,
         slots: &Slots<Offer>,
@@ -94,11 +94,11 @@ impl World {
         (seat, answer)
     }
 
-    /// Begins and ends quiet ticks of a region, by a worker that has no tick open.
+    /// Begins and ends quiet ticks of any regions, of this one first, by a worker that has no tick open: at most `most`.
     fn pass(&mut self, slots: &Slots<Offer>, by: u32, region: u64, most: u32)
         requires own { self.old.slots ≡ slots_id slots.now }
         requires free { IsFree self.old.workers self.old.history by }
-        ensures { PassesOn self.old self.new by region most }
+        ensures { PassesOn self.old self.new by most }
     {
         self.is_short = true;
         let _passed = self.offers.pass(slots, by, region, most);

@@ -8,6 +8,7 @@ pub mod Matching
 pub mod MetTicks
 pub mod NoneLeft
 pub mod Offering
+pub mod PassedTicks
 pub mod Passing
 pub mod QuietTicks
 pub mod Turns

@@ -1,15 +1,13 @@
 -- Quiet ticks leave what is offered where it is.
-use Rattle.std.proofs.Common.{◌≡◌, ◌≢◌, ℕ, zero, suc, ◌+◌, ◌<◌, ◌≤◌, List, [], ◌∷◌, ◌++◌, length, sym, refl, ap, ◌∙◌, subst, Option, Some, None, true, false, true≢false, append_assoc, inl, inr, ◌||◌}
+use Rattle.std.proofs.Common.{◌≡◌, ℕ, zero, suc, ◌+◌, ◌<◌, ◌≤◌, List, [], ◌∷◌, ◌++◌, length, sym, refl, ap, ◌∙◌, subst, Option, Some, None, false, true≢false, append_assoc, inl, inr, Bool, arith, length-append}
 use Rattle.std.specs.Prelude.{nat_eq}
-use Rattle.std.specs.List.{AllByRecursion}
-use Rattle.std.proofs.lemmas.Bool.{eq-eqb, eqb-true, ne_eqb}
+use Rattle.std.proofs.lemmas.Bool.{eq-eqb, ne_eqb}
 use Rattle.std.proofs.lemmas.List.{append-nil}
 use Rattle.fol_model.specs.declared.events.Entry.{Entry}
 use Rattle.fol_model.specs.declared.events.Event.TheVariants.{Begin, End}
 use Rattle.fol_model.specs.declared.regions.State.TheVariants.{Ready, Ticking}
 use Rattle.fol_model.specs.declared.tasks.Wish.{Wish}
 use Rattle.fol_model.specs.End.{answers, run_down, ticked}
-use Rattle.fol_model.specs.GridNumbers.{IsGrid}
 use Rattle.fol_model.specs.OpenTick.{NoEnd}
 use Rattle.fol_model.specs.World.{World, start}
 use Rattle.fol_model.specs.Run.{Allowed, Run, RunFrom, after, after_all}
@@ -23,10 +21,10 @@ use Rattle.fol_seat_laws.proofs.Splits.{none_before}
 use Rattle.fol_slots.specs.Shown.{Keeper, place_at}
 use Rattle.fol_offers.specs.Offered.{Offered}
 use Rattle.fol_offers.specs.Places.{region_at}
-use Rattle.fol_offers.specs.Shown.{CallsBack, IsLearnt, Shown}
+use Rattle.fol_offers.specs.InTurn.{IsFree}
+use Rattle.fol_offers.specs.Shown.{CallsBack, Shown}
 use Rattle.fol_offers.specs.Tied.{Tied}
-use Rattle.fol_offers.proofs.CalledBack.{learnt_no_end}
-use Rattle.fol_offers.proofs.Facts.{begun_ticks, open_ticks}
+use Rattle.fol_offers.proofs.Facts.{open_ticks}
 use Rattle.fol_offers.proofs.Passing.{in_use_passes, passes_one}
 use Rattle.fol_offers.proofs.Turns.{in_longer, turns_begin, turns_other}
 use Rattle.fol_offers.proofs.Tying.{one_more, over_begun, ticked_more, tied_stays}
@@ -67,7 +65,7 @@ module _ (m n : Meaning) (s : Keeper Offered) (xs : List ℕ) (tied : Tied m s x
   ready = (entry_allowed (start m.opening) m.history (end by r t ∷ []) (begin by r) whole).0
 
   marks : (q : ℕ) → is_prepared n q ≡ is_prepared m q
-  marks q = ap (λ (f : ℕ → Rattle.std.proofs.Common.Bool). f q) prepared
+  marks q = ap (λ (f : ℕ → Bool). f q) prepared
 
   -- no slot is that of the region
   no_slot : (j : ℕ) → j < length xs → 0 < region_at xs j → nat_eq r (region_at xs j) ≡ false
@@ -165,39 +163,20 @@ module _ (s : Keeper Offered) (xs : List ℕ) (by r t : ℕ) (few : (1 ≤ by) �
         one_closed mid n s xs first.0 by r (t + suc k) opening longer prepared run unprepared first.1,
       )
 
-no_ticks : (by r t : ℕ) → quiet_ticks by r t zero ≡ []
-unfolding quiet_ticks
-no_ticks by r t = refl
+-- the worker passed ticks of a region that is not prepared, and has none open still
+pub tied_passes : (m n : Meaning) (s : Keeper Offered) (xs : List ℕ) (by r k : ℕ) → Tied m s xs → Run n.opening n.history → is_prepared m r ≡ false → IsFree s.workers m.history by → Passes m n by r k
+    → Tied n s xs × IsFree s.workers n.history by
+tied_passes m n s xs by r k tied run unprepared free did =
+    let more = tied_some s xs by r ((world_of m).tick r) (free.some, free.low) k m n tied did.opening did.history did.prepared run unprepared free.none in
+    (more.0, record { some = free.some; low = free.low; none = more.1 })
 
--- the first of them begins
-quiet_first : (by r t k : ℕ) → (rest : List Entry) × (quiet_ticks by r t (suc k) ≡ begin by r ∷ rest)
-unfolding quiet_ticks
-quiet_first by r t zero = (end by r (t + suc zero) ∷ [], refl)
-quiet_first by r t (suc k) = let more = quiet_first by r t k in (more.0 ++ quiet_tick by r (t + suc (suc k)), ap (λ (l : List Entry). l ++ quiet_tick by r (t + suc (suc k))) more.1)
-
--- where the region is Ready once it was called back, no Begin was learnt
-none_learnt : (a b : Shown) (caller by r : ℕ) → IsGrid b.core.opening.grid → Run b.core.opening b.core.history → CallsBack a b caller (nat_eq r) → (world_of b.core).grid.state r ≡ Ready → NoneOpen by a.core.history → NoneOpen by b.core.history
-none_learnt a b caller by r grid run back ready none = go back.learnt back.history back.begins
+-- where a Begin was learnt of, the history is longer
+pub back_same : (a b : Shown) (by : ℕ) (f : ℕ → Bool) → CallsBack a b by f → length b.core.history ≤ length a.core.history → b.core.history ≡ a.core.history
+back_same a b by f back short = back.history ∙ go back.learnt (
+    let all = ap (λ (h : List Entry). length h) back.history in
+    let both = length-append a.core.history back.learnt in
+    omega (arith, all, both, short))
   where
-    never : Ready ≡ Ticking → ⊥
-    never e = cc
-
-    go : (es : List Entry) → b.core.history ≡ a.core.history ++ es → AllByRecursion (IsLearnt a.core (nat_eq r) caller) es → NoneOpen by b.core.history
-    go [] history begins = subst (NoneOpen by) (sym (history ∙ append-nil a.core.history)) none
-    go (e ∷ es) history begins =
-        let l = begins.0 in
-        let same : l.region ≡ r = sym (eqb-true r l.region l.chosen) in
-        let is : b.core.history ≡ a.core.history ++ (record { by = caller; event = Begin l.worker r }) ∷ es = history ∙ ap (λ (x : Entry). a.core.history ++ x ∷ es) (l.is ∙ ap (λ (q : ℕ). record { by = caller; event = Begin l.worker q }) same) in
-        absurd (never (sym ready ∙ (begun_ticks b.core.opening b.core.history a.core.history es caller l.worker r grid run is (learnt_no_end a.core (nat_eq r) caller r [] es tt begins.1)).0))
-
--- the worker passed ticks of a region that was called back
-pub tied_passes : (a b : Shown) (n : Meaning) (s : Keeper Offered) (xs : List ℕ) (by r k : ℕ) → Tied b.core s xs → Run b.core.opening b.core.history → Run n.opening n.history → CallsBack a b by (nat_eq r) → is_prepared b.core r ≡ false
-    → (1 ≤ by) × (by ≤ s.workers) → NoneOpen by a.core.history → Passes b.core n by r k → Tied n s xs
-tied_passes a b n s xs by r zero tied run after_it back unprepared few none did = tied_stays b.core n s xs record { opening = did.opening; history = did.history ∙ (ap (λ (es : List Entry). b.core.history ++ es) (no_ticks by r ((world_of b.core).tick r)) ∙ append-nil b.core.history); prepared = did.prepared } tied
-tied_passes a b n s xs by r (suc k) tied run after_it back unprepared few none did =
-    let m : Meaning = b.core in
-    let t : ℕ = (world_of m).tick r in
-    let first = quiet_first by r t k in
-    let whole : Run m.opening (m.history ++ begin by r ∷ first.0) = subst (λ (es : List Entry). Run m.opening (m.history ++ es)) first.1 (rw (did.opening, did.history) at after_it) in
-    let ready : (world_of m).grid.state r ≡ Ready = (entry_allowed (start m.opening) m.history first.0 (begin by r) whole).0 in
-    (tied_some s xs by r t few (suc k) m n tied did.opening did.history did.prepared after_it unprepared (none_learnt a b by by r tied.grid run back ready none)).0
+    go : (es : List Entry) → length es ≡ 0 → a.core.history ++ es ≡ a.core.history
+    go [] none = append-nil a.core.history
+    go (e ∷ es) none = absurd (omega (arith, none))

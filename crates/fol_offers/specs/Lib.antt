@@ -2,6 +2,7 @@ pub mod Ends
 pub mod Fit
 pub mod InTurn
 pub mod Offered
+pub mod PassedTicks
 pub mod Places
 pub mod Shown
 pub mod Starts

@@ -14,7 +14,7 @@ use Rattle.fol_core.specs.declared.answers.Posting.{Posting}
 use Rattle.fol_core.specs.Ahead.{Prepares, may_touch}
 use Rattle.fol_core.specs.Answers.{LoadRecords, PostRecords, StopRecords, UnloadRecords, is_free, is_over, load_result, post_result, unload_result}
 use Rattle.fol_core.specs.Meaning.{Meaning, Stays, is_prepared, world_of}
-use Rattle.fol_core.specs.Quiet.{Passes}
+use Rattle.fol_offers.specs.PassedTicks.{PassesMany}
 
 -- the core, which slots its ticks are offered in, and how many workers have seats there, which are numbered from 1
 pub record Shown : Type 0 where
@@ -85,13 +85,13 @@ pub record OffersMore (old new : Shown) : Type 0 where
   pub prepared : (r : ℕ) → is_prepared old.core r ≡ true → is_prepared new.core r ≡ true
   pub free : (r : ℕ) → is_prepared new.core r ≡ true → (is_prepared old.core r ≡ true) ⊎ (is_free old.core r ≡ true)
 
--- the tick of the region was called back, if it was offered, and then the worker passed so many ticks of it in which nothing happened
+-- the tick of the region was called back, if it was offered, and then the worker passed so many quiet ticks of whichever regions
 pub record PassesOver (old new : Shown) (by region n : ℕ) : Type 0 where
   pub cleared : Shown
   pub clears : CallsBack old cleared by (nat_eq region)
   pub slots : new.slots ≡ old.slots
   pub workers : new.workers ≡ old.workers
-  pub passes : Passes cleared.core new.core by region n
+  pub passes : PassesMany cleared.core new.core by n
 
 -- a Stop was recorded, unless the history was over, once every offered tick was called back
 pub record Stops (old new : Shown) (by : ℕ) : Type 0 where

@@ -24,7 +24,7 @@ use Rattle.fol_tick.specs.Calls as calls
 use Rattle.fol_tick.specs.Runs.{Finishes, Runs}
 use Rattle.fol_world.specs.AtEnd.{end_event}
 use Rattle.fol_core.specs.Meaning.{world_of}
-use Rattle.fol_core.specs.Quiet.{quiet_ticks}
+use Rattle.fol_offers.specs.PassedTicks.{quiet_entries}
 use Rattle.fol_tick_laws.proofs.BegunTicks.{due_is}
 use Rattle.fol_tick_laws.proofs.FinishedTicks.{all_ran, all_served}
 use Rattle.fol_tick_laws.proofs.ToldAgain.{told_again}
@@ -280,18 +280,16 @@ module _ (s u : Shown) (tick : Tick) (most n : ℕ) (ran : HasRun s tick) (did :
   abbrev end : Entry
   end = record { by = tick.worker; event = end_event (world_of (meaning_of now)) tick.worker tick.region tick.log.ran }
 
-  abbrev passed : PassesOn did.ended u tick.region most
+  abbrev passed : PassesOn did.ended u most
   passed = did.passed
 
   -- what stands behind the End
   abbrev quiet : List Entry
-  quiet = quiet_ticks k tick.region ((world_of (meaning_of passed.now)).tick tick.region) passed.count
+  quiet = quiet_entries k passed.passes.ticks
 
   seen_is : u.seen ≡ ((now.seen ++ end ∷ []) ++ passed.learnt) ++ quiet
   seen_is =
-      let counter = (world_of (meaning_of passed.now)).tick tick.region in
-      let passes : u.seen ≡ passed.now.seen ++ quiet
-      = subst (λ (j : ℕ). u.seen ≡ passed.now.seen ++ quiet_ticks j tick.region counter passed.count) did.number passed.passes.history in
+      let passes : u.seen ≡ passed.now.seen ++ quiet = subst (λ (j : ℕ). u.seen ≡ passed.now.seen ++ quiet_entries j passed.passes.ticks) did.number passed.passes.history in
       passes ∙ ap (λ (es : List Entry). es ++ quiet) (passed.seen ∙ ap (λ (es : List Entry). es ++ passed.learnt) did.recorded.history)
 
   late : AllByRecursion (IsLate k) passed.learnt
@@ -316,9 +314,8 @@ module _ (s u : Shown) (tick : Tick) (most n : ℕ) (ran : HasRun s tick) (did :
       let opening = did.turn.adds.opening in
       let all = ((now.seen ++ end ∷ []) ++ passed.learnt) ++ quiet in
       let keeps : Keeps u.lock.workers now.opening all = keeps_to u.lock.workers now.opening u.opening all u.seen opening seen_is did.turn.adds.keeps in
-      let counter = (world_of (meaning_of passed.now)).tick tick.region in
       whole_to now.opening u.opening all u.seen k u.number opening seen_is number
-      (whole_passed now.opening k u.lock.workers (now.seen ++ end ∷ []) passed.learnt ran.calm.some (own_starts k passed.learnt starts) turns_ended tick.region counter passed.count keeps)
+      (whole_passed now.opening k u.lock.workers (now.seen ++ end ∷ []) passed.learnt ran.calm.some (own_starts k passed.learnt starts) turns_ended passed.passes.ticks keeps)
 
   ended_calm : Calm u
   ended_calm =
@@ -326,7 +323,7 @@ module _ (s u : Shown) (tick : Tick) (most n : ℕ) (ran : HasRun s tick) (did :
       let seen : u.seen ≡ now.seen ++ rest = seen_is ∙ append_assoc (now.seen ++ end ∷ []) passed.learnt quiet ∙ append_assoc now.seen (end ∷ []) (passed.learnt ++ quiet) in
       let calm : AllByRecursion IsCalm rest = (
         refl,
-        all_append IsCalm passed.learnt quiet (starts_calm passed.learnt starts) (quiet_calm k tick.region ((world_of (meaning_of passed.now)).tick tick.region) passed.count),
+        all_append IsCalm passed.learnt quiet (starts_calm passed.learnt starts) (quiet_calm k passed.passes.ticks),
       ) in
       let at_turn : Calm now = calm_does s now [] ran.calm (does_looks s now did.turn.looks) tt in
       calm_goes now u rest at_turn (goes_turn s now u rest did.turn seen) calm

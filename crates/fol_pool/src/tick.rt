@@ -12,8 +12,8 @@ use fol_tick::run_tick;
 use std::alloc::{AllocError, Global};
 use std::sync::Wait;
 
-/// How many quiet ticks are passed over in one turn of the lock: as many as take a few microseconds, or some more where entities
-/// walk, so that nobody waits long for the lock.
+/// How many quiet ticks are passed over in one turn of the lock, of any regions that owe one and are not offered, that of the tick first: as
+/// many as take a few microseconds, or some more where entities walk, so that nobody waits long for the lock.
 const QUIET_TICKS: u32 = 64;
 
 /// Why a worker has no tick.
@@ -26,7 +26,8 @@ pub(crate) enum Rest {
 }
 
 /// Claims, runs and ends ticks, until there is no next one. The gate is passed between the claim and the End of each; but where it does not
-/// watch, quiet ticks of the same region are passed over with the End. If memory was not found, the world was stopped.
+/// watch, quiet ticks of any region that owes one and is not offered are passed over with the End. If memory was not found, the world was
+/// stopped.
 pub(crate) fn ticks<R: Wait, G: Gate + Sync>(
     rt: &R,
     alloc: Global,

@@ -11,9 +11,8 @@ returns-in-Ok-clause-ends c = record {
   ended = c.end_tick-seat.new.self;
   ends = subst (λ (r : Result ℕ (Box Tick)). Ends c.args.self.now c.end_tick-seat.new.self c.args.tick.value r) c.in-Ok.is c.end_tick-seat.ensures.ends;
   passed =
-      let by = subst (λ (t : Tick). PassesOn c.end_tick-seat.new.self c.pass.new.self t.worker c.deref-2.result.now.region c.args.most) c.deref.ensures c.pass.ensures in
-      let here = subst (λ (t : Tick). PassesOn c.end_tick-seat.new.self c.pass.new.self c.args.tick.value.worker t.region c.args.most) c.deref-2.ensures by in
-      subst (λ (s : Shown). PassesOn c.end_tick-seat.new.self s c.args.tick.value.worker c.args.tick.value.region c.args.most) (sym c.offer_rest.ensures) here;
+      let here = subst (λ (t : Tick). PassesOn c.end_tick-seat.new.self c.pass.new.self t.worker c.args.most) c.deref.ensures c.pass.ensures in
+      subst (λ (s : Shown). PassesOn c.end_tick-seat.new.self s c.args.tick.value.worker c.args.most) (sym c.offer_rest.ensures) here;
   refused = tt;
 }
 

@@ -24,5 +24,5 @@ returns c =
     let kept : IsKept (shown old) = rw c.deref_mut.ensures.value c.self.invariant.0 in
     let there : Tells c.deref.result.now = record { grid = c.keeps.ensures.grid; run = c.keeps.ensures.run; turns = c.keeps.ensures.in_turn } in
     let tells : Tells new = subst Tells c.deref.ensures there in
-    carried (λ a b. PassesOn a b c.args.by c.args.region c.args.most) (ap shown c.deref_mut.ensures.value ∙ c.self.view_is) refl
+    carried (λ a b. PassesOn a b c.args.by c.args.most) (ap shown c.deref_mut.ensures.value ∙ c.self.view_is) refl
     (passes_on old new c.args.by c.args.region c.pass-passed.result c.args.most kept tells c.pass-passed.ensures.few c.pass-passed.ensures.passed)

@@ -1,25 +1,37 @@
-use Rattle.std.proofs.Common.{rules, ◌≤◌, ℕ, ap, ◌∙◌, subst, sym}
+use Rattle.std.proofs.Common.{◌≤◌, ◌∙◌, length, arith}
 use Rattle.std.specs.Prelude.{nat_eq}
-use Rattle.fol_core.specs.Quiet.{Passes}
-use Rattle.fol_offers.specs.Shown.{CallsBack, Shown}
-use Rattle.fol_offers.proofs.CalledBack.{back_gone}
-use Rattle.fol_offers.proofs.QuietTicks.{tied_passes}
+use Rattle.fol_offers.specs.Shown.{Shown}
+use Rattle.fol_offers.proofs.PassedTicks.{passes_none}
+use Rattle.fol_offers.proofs.QuietTicks.{back_same}
 use Rattle.fol_offers.proofs.offers.Offers.pass.Goals as goal
 
-pub invariant_of-self : goal.invariant_of-self
-invariant_of-self c =
+pub returns-then-front-clause-passed : goal.returns-then-front-clause-passed
+returns-then-front-clause-passed c = record {
+  cleared = c.call_back_one.new.self;
+  clears = c.call_back_one.ensures;
+  slots = c.call_back_one.ensures.slots;
+  workers = c.call_back_one.ensures.workers;
+  passes = passes_none c.call_back_one.new.self.core c.args.by;
+}
+
+pub pass_owing-requires : goal.pass_owing-requires
+pass_owing-requires c =
     let old : Shown = c.args.self.now in
-    let mid : Shown = record { core = c.self.inside.core; slots = c.self.inside.keeper.slots; workers = c.self.inside.keeper.workers } in
-    let back : CallsBack old mid c.args.by (nat_eq c.args.region) = subst (λ (v : Shown). CallsBack old v c.args.by (nat_eq c.args.region)) (sym c.self.view_is) c.call_back_one.ensures in
-    tied_passes old mid c.pass-passed.new.self c.self.inside.keeper c.self.inside.places c.args.by c.args.region c.pass-passed.result c.self.invariant (search rules) (search rules) back
-    (back_gone old mid c.args.by c.args.region back) (c.requires.free.some, subst (λ (x : ℕ). c.args.by ≤ x) (sym back.workers) c.requires.free.low) c.requires.free.none c.pass-passed.ensures.passed
+    let new : Shown = c.call_back_one.new.self in
+    let back = c.call_back_one.ensures in
+    let short : length new.core.history ≤ length old.core.history
+    = (let now = c.front.ensures in let before = c.front-front.ensures in let no_more = c.if-front.false in omega (arith, now, before, no_more)) in
+    let same = back_same old new c.args.by (nat_eq c.args.region) back short in record {
+      free = rw (same, back.workers) c.requires.free;
+    }
 
 pub returns-clause-passed : goal.returns-clause-passed
 returns-clause-passed c =
-    let back = c.call_back_one.ensures in record {
+    let back = c.call_back_one.ensures in
+    let did = c.pass_owing.ensures in record {
       cleared = c.call_back_one.new.self;
       clears = back;
-      slots = ap (λ (v : Shown). v.slots) c.self.view_is ∙ back.slots;
-      workers = ap (λ (v : Shown). v.workers) c.self.view_is ∙ back.workers;
-      passes = subst (λ (v : Shown). Passes v.core c.pass-passed.new.self c.args.by c.args.region c.pass-passed.result) c.self.view_is c.pass-passed.ensures.passed;
+      slots = did.slots ∙ back.slots;
+      workers = did.workers ∙ back.workers;
+      passes = did.passed;
     }
