@@ -123,3 +123,35 @@ fn quiet_ticks_are_passed_over(rt: HostRuntime) {
     let closing = close(&rt, alloc, live, [caller, first, second, third]);
     has_entries(&rt, &closing, 11);
 }
+
+/// Loads a row of chunks that are of one region, gives the one between up again, and opens a phase of four ticks. At the next End the region
+/// falls apart.
+fn open_row<R: Abort + Wait>(rt: &R, live: &Live, caller: &mut Seat)
+    requires own { caller.old.lock ≡ live_id live.now }
+    ensures own { caller.new.lock ≡ live_id live.now }
+    ensures number { caller.new.number ≡ caller.old.number }
+{
+    load(rt, live, caller, 0, Loaded::Counted);
+    load(rt, live, caller, 3, Loaded::Counted);
+    load(rt, live, caller, 6, Loaded::Counted);
+    unload(rt, live, caller, 3, Unloaded::Lowered);
+    open_phase(rt, live, caller, 4, LivePhase::Opened);
+}
+
+#[test]
+fn quiet_ticks_of_parts_are_passed_over(rt: HostRuntime) {
+    let alloc = rt.alloc();
+    let LiveAndSeats { live, mut seats } = start(&rt, alloc, 4);
+    let third = last(&rt, &live, &mut seats, 3);
+    let second = last(&rt, &live, &mut seats, 2);
+    let mut first = last(&rt, &live, &mut seats, 1);
+    let mut caller = last(&rt, &live, &mut seats, 0);
+    open_row(&rt, &live, &mut caller);
+    let tick = claim(&rt, &live, &mut first);
+    // Behind this End each of the two parts owes three ticks.
+    let first = end(&rt, alloc, &live, first, tick, 6);
+    same(&rt, &first.saw_none_owing(), &true);
+    close_phase(&rt, &live, &mut caller, Close::Closed);
+    let closing = close(&rt, alloc, live, [caller, first, second, third]);
+    has_entries(&rt, &closing, 20);
+}
