@@ -110,6 +110,21 @@ def crowds(size):
     yield from run(400)
 
 
+def corners(size):
+    """SIZE entities in each of 64 regions of 15 chunks, a square without one corner, walk for 400 ticks."""
+    places = [(24 * (region % 8), 24 * (region // 8)) for region in range(64)]
+    yield from grid(0, 1, 1, 2, 1, 6)
+    for region, (left, top) in enumerate(places):
+        for number in range(size):
+            x, z = 16 * left + 37 * number % 48, 16 * top + 7 * number % 48
+            yield f"entity {size * region + number + 1} {x} {number % 256} {z} {number % 7 - 3} {number % 5 - 2}"
+    yield from script()
+    for left, top in places:
+        yield from square(left, top, 4, 3)
+        yield from square(left, top + 3, 3, 1)
+    yield from run(400)
+
+
 def chains(size):
     """SIZE tasks in 256 regions repeat 20 times each: they set blocks, post to another region, send entities there, and load a chunk."""
     corners = [(8 * (region % 16), 8 * (region // 16)) for region in range(256)]
@@ -241,6 +256,7 @@ WORKLOADS = {
     "large": (large, 2_500),
     "table": (table, 4),
     "crowds": (crowds, 50),
+    "corners": (corners, 50),
     "chains": (chains, 2_500),
     "churn": (churn, 25),
     "repeating": (repeating, 900),

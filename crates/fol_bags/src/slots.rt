@@ -1,6 +1,7 @@
 //! What is done to a bag, or to two.
 
 ghost use Rattle.std.specs.Prelude.{◌≡◌, ◌≢◌, All, IsTrue, IfOk, OnOk, OnErr, None, ◌+◌, ◌-◌, ◌<◌, ◌^◌, ◌≤◌, ◌&&◌, ◌||◌, not, ℕ, nat_eq, if◌then◌else◌, true, false, [], ◌∷◌, ◌++◌, length};
+ghost use Rattle.std.specs.Fn.{iterate};
 ghost use Rattle.std.specs.Option.{is_none, ForSome};
 ghost use Rattle.fol_bags.specs.Slots.{no_slot, slot_in, stays_calm, is_open, SetsSlot, SetsTwo};
 ghost use Rattle.fol_bags.specs.Things.{Key, no_data, things, of_task, IsTimely};
@@ -339,39 +340,52 @@ pub fn next_change(alloc: Global, bags: &mut Bags, id: usize) -> Option<ChunkPos
     last
 }
 
-/// Counts a tick of a region, which owes one less, and moves the entities in its bag.
-pub fn count_tick(bags: &mut Bags, id: usize)
+/// Counts ticks of a region, which owes as many less, and moves the entities in its bag once for each.
+pub fn count_ticks(bags: &mut Bags, id: usize, ticks: u32)
     requires open { is_open (slot_in bags.old.items id) ≡ true }
-    requires owes { 0 < (slot_in bags.old.items id).body.owed }
-    requires early { (slot_in bags.old.items id).body.tick < 2 ^ 62 }
+    requires owes { ticks ≤ (slot_in bags.old.items id).body.owed }
+    requires early { (slot_in bags.old.items id).body.tick + ticks ≤ 2 ^ 62 }
     requires order { IsStrictlySortedBy chunk_cmp (slot_in bags.old.items id).list }
     requires places { All (λ c. IsTrue (is_chunk c)) (slot_in bags.old.items id).list }
     ensures contents { flat_of (slot_in bags.new.items id).body.chunks
-        ≡ moved (is_recorded (slot_in bags.old.items id).list)
+        ≡ iterate (moved (is_recorded (slot_in bags.old.items id).list)) ticks
         (flat_of (slot_in bags.old.items id).body.chunks) }
     ensures sets { SetsSlot id (record (slot_in bags.old.items id) {
       body = record (slot_in bags.old.items id).body {
-        tick = (slot_in bags.old.items id).body.tick + 1;
-        owed = (slot_in bags.old.items id).body.owed - 1;
+        tick = (slot_in bags.old.items id).body.tick + ticks;
+        owed = (slot_in bags.old.items id).body.owed - ticks;
         chunks = (slot_in bags.new.items id).body.chunks;
       };
     }) bags.old bags.new }
 {
     let slot = bags.slot_mut(id);
-    slot.body.tick += 1;
-    slot.body.owed -= 1;
-    walk(&mut slot.list, &mut slot.body.chunks);
+    slot.body.tick += ticks as u64;
+    slot.body.owed -= ticks;
+    walk(&mut slot.list, &mut slot.body.chunks, ticks);
 }
 
-/// Moves the entities by their speeds, where they stay on these chunks. Where none has a speed, it looks at nothing else.
-fn walk(list: &mut ChunkSet, chunks: &mut Chunks)
+/// Moves the entities so many times by their speeds, where they stay on these chunks. Where none has a speed, it looks at nothing else.
+fn walk(list: &mut ChunkSet, chunks: &mut Chunks, ticks: u32)
     requires order { IsStrictlySortedBy chunk_cmp list.old }
     requires places { All (λ c. IsTrue (is_chunk c)) list.old }
     ensures list { list.new ≡ list.old }
-    ensures contents { flat_of chunks.new ≡ moved (is_recorded list.old) (flat_of chunks.old) }
+    ensures contents { flat_of chunks.new
+        ≡ iterate (moved (is_recorded list.old)) ticks (flat_of chunks.old) }
 {
     if !chunks.is_still() {
         list.settle_for(chunks.walkers());
+        stride(list, chunks, ticks);
+    }
+}
+
+/// Moves the entities so many times by their speeds, where they stay on these chunks.
+fn stride(list: &ChunkSet, chunks: &mut Chunks, ticks: u32)
+    requires order { IsStrictlySortedBy chunk_cmp list.now }
+    requires places { All (λ c. IsTrue (is_chunk c)) list.now }
+    ensures { flat_of chunks.new
+        ≡ iterate (moved (is_recorded list.now)) ticks (flat_of chunks.old) }
+{
+    for _tick in 0..ticks {
         chunks.step_entities(list);
     }
 }

@@ -1,21 +1,18 @@
 -- The blocks of a rectangle of chunks, and what walks there.
-use Rattle.std.proofs.Common.{◌≡◌, ℕ, ◌-◌, ◌<◌, ◌%◌, true, false, List, refl, sym, ◌∙◌, inl, inr, arith, IsTrue, div-add-mod', to_z, of_z}
-use Rattle.std.specs.Prelude.{ℤ, pos, negsuc, ◌+ℤ◌, ◌*ℤ◌, ◌≤ℤ◌, int_le, All, FitsSigned}
-use Rattle.std.specs.Int.{int_div_euclid, w32, w64}
+use Rattle.std.proofs.Common.{◌≡◌, ℕ, ◌-◌, ◌<◌, ◌%◌, List, [], ◌∷◌, map, refl, sym, ◌∙◌, ap, inl, inr, arith, div-add-mod'}
+use Rattle.std.specs.Prelude.{ℤ, pos, negsuc, ◌+ℤ◌, ◌*ℤ◌, ◌≤ℤ◌, int_le}
+use Rattle.std.specs.Int.{int_div_euclid}
 use Rattle.std.proofs.lemmas.Bool.{cases_Bool}
 use Rattle.std.proofs.lemmas.Int.{ints}
 use Rattle.fol_model.specs.declared.places.ChunkPos.{ChunkPos}
-use Rattle.fol_model.specs.declared.places.BlockPos.{BlockPos}
 use Rattle.fol_model.specs.declared.entities.Entity.{Entity}
-use Rattle.fol_model.specs.Geometry.{chunk_of, is_chunk}
+use Rattle.fol_model.specs.Geometry.{chunk_of}
 use Rattle.fol_model.specs.ActionStep.{Recorded}
-use Rattle.fol_model.specs.FlatTick.{ahead}
 use Rattle.fol_keyed.specs.Rectangles.{is_between}
 use Rattle.fol_keyed.proofs.Rectangles.{le_z_true, true_le_z}
-use Rattle.fol_chunks.specs.Areas.{is_in_area}
-use Rattle.fol_chunks.specs.Contents.{is_recorded}
+use Rattle.fol_chunks.specs.declared.area.Area.{Area}
+use Rattle.fol_chunks.specs.Areas.{is_in_area, is_inside, stepped_in}
 use Rattle.fol_chunks.specs.Rows.{stepped}
-use Rattle.fol_chunks.proofs.Movement.{chunk_fits, outside_limits, step_stays}
 
 -- a number is one of the 16 from 16 times its quotient
 in_sixteen : (x : ℤ) → (i : ℕ) × (i < 16) × (x ≡ (pos 16 *ℤ int_div_euclid x (pos 16)) +ℤ pos i)
@@ -53,42 +50,12 @@ pub in_area : (first last : ChunkPos) (x z : ℤ)
 unfolding chunk_of
 in_area first last x z = rw (from_low x first.x, to_high x last.x, from_low z first.z, to_high z last.z) refl
 
--- the coordinates of a block in a recorded chunk are small
-pub recorded_fits : (chunks : List ChunkPos) (x z : ℤ) → All (λ c. IsTrue (is_chunk c)) chunks → is_recorded chunks (chunk_of (record { x = x; y = pos 0; z = z })) ≡ true
-    → FitsSigned w32 x × FitsSigned w32 z
-recorded_fits chunks x z h t =
-    let b : BlockPos = record { x = x; y = pos 0; z = z } in
-    elim (cases_Bool (is_chunk (chunk_of b))) [
-      | inl e ↦ chunk_fits b e
-      | inr e ↦ let f : true ≡ false = sym t ∙ outside_limits chunks (chunk_of b) h e in cc
-    ]
-
--- an entity goes ahead where both tests of its coordinates pass, and else stays
-module _ (rec : Recorded) (e : Entity) where
-  pub goes_ahead : rec (chunk_of (record { x = e.at.x; y = pos 0; z = e.at.z })) ≡ true → rec (chunk_of (record { x = e.at.x +ℤ e.vx; y = pos 0; z = e.at.z +ℤ e.vz })) ≡ true
-      → record e { at = ahead e.vx e.vz e.at } ≡ stepped rec e
+-- where the chunks are those of an area, to walk on them is to walk inside it
+module _ (rec : Recorded) (area : Area) (exact : (x z : ℤ) → rec (chunk_of (record { x = x; y = pos 0; z = z })) ≡ is_inside area x z) where
+  step_inside : (e : Entity) → stepped_in area e ≡ stepped rec e
   unfolding chunk_of
-  goes_ahead here there = rw (here, there) refl
+  step_inside e = rw (exact e.at.x e.at.z, exact (e.at.x +ℤ e.vx) (e.at.z +ℤ e.vz)) refl
 
-  pub is_outside : rec (chunk_of (record { x = e.at.x; y = pos 0; z = e.at.z })) ≡ false → e ≡ stepped rec e
-  unfolding chunk_of
-  is_outside here = rw here refl
-
-  pub stays_inside : rec (chunk_of (record { x = e.at.x +ℤ e.vx; y = pos 0; z = e.at.z +ℤ e.vz })) ≡ false → e ≡ stepped rec e
-  unfolding chunk_of
-  stays_inside there = step_stays rec e there
-
--- a number in a wider type
-pub widened : (a : ℤ) → FitsSigned w32 a → to_z w64 (of_z w64 (to_z w32 (of_z w32 a))) ≡ a
-widened a f = omega (arith, ints)
-
--- the sides of an area, as the code has them
-pub low_side : (a : ℤ) → FitsSigned w32 a → to_z w64 (of_z w64 (pos 16 *ℤ to_z w64 (of_z w64 (to_z w32 (of_z w32 a))))) ≡ pos 16 *ℤ a
-low_side a f = rw (widened a f) (omega (arith, ints))
-
-pub high_side : (a : ℤ) → FitsSigned w32 a → to_z w64 (of_z w64 (to_z w64 (of_z w64 (pos 16 *ℤ to_z w64 (of_z w64 (to_z w32 (of_z w32 a))))) +ℤ pos 15)) ≡ (pos 16 *ℤ a) +ℤ pos 15
-high_side a f = rw (low_side a f) (omega (arith, ints))
-
--- the sum of a coordinate and a speed, as the code has it
-pub far_sum : (a b : ℤ) → FitsSigned w32 a → FitsSigned w32 b → to_z w64 (of_z w64 (to_z w64 (of_z w64 (to_z w32 (of_z w32 a))) +ℤ to_z w64 (of_z w64 (to_z w32 (of_z w32 b))))) ≡ a +ℤ b
-far_sum a b f g = rw (widened a f, widened b g) (omega (arith, ints))
+  pub steps_inside : (es : List Entity) → map (stepped_in area) es ≡ map (stepped rec) es
+  steps_inside [] = refl
+  steps_inside (e ∷ es) = ap (λ f. f ∷ map (stepped_in area) es) (step_inside e) ∙ ap (λ l. stepped rec e ∷ l) (steps_inside es)

@@ -5,4 +5,6 @@ pub mod Flats
 pub mod Tallies
 pub mod Parts
 pub mod Areas
-pub mod Walkers
+pub mod Speeds
+pub mod Strides
+pub mod Owing

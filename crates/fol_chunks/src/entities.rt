@@ -17,8 +17,9 @@ ghost use Rattle.fol_chunks.specs.Rows.{by_id};
 ghost use Rattle.fol_chunks.specs.Crowds.{is_still, walks};
 
 use crate::counted::Counted;
-use crate::{entity_list, steps};
-use fol_keyed::{ChunkList, ChunkSet, count_listed, join};
+use crate::entity_list;
+use crate::walkers::Walkers;
+use fol_keyed::{ChunkSet, join};
 use fol_model::{BlockPos, ChunkPos, Entity};
 use std::alloc::{AllocError, Global};
 use std::marker::Model;
@@ -27,24 +28,23 @@ use std::marker::Model;
 #[derive(Drop)]
 pub struct Entities {
     /// Those that have a speed, by id.
-    walking: Vec<Entity>,
+    walking: Walkers,
     /// Those that have none.
     still: Counted,
 }
 
 impl Model for Entities {
-    ghost use Rattle.std.specs.Prelude.{◌-◌, ◌++◌, min, vec_len};
-    ghost use Rattle.std.specs.Vec.{vec_capacity};
+    ghost use Rattle.std.specs.Prelude.{◌++◌, min};
     ghost use Rattle.fol_chunks.specs.Crowds.{Crowd, AreParted};
 
     ghost Value = { Crowd };
 
     ghost view = { λ e. record {
-      members = e.walking.items ++ e.still.members;
-      spare = min (vec_capacity e.walking - vec_len e.walking) e.still.spare;
+      members = e.walking.members ++ e.still.members;
+      spare = min e.walking.spare e.still.spare;
     } };
 
-    ghost invariant = { λ e. AreParted e.walking.items e.still.members };
+    ghost invariant = { λ e. AreParted e.walking.members e.still.members };
 }
 
 impl Entities {
@@ -53,7 +53,7 @@ impl Entities {
         ensures { result.members ≡ [] }
     {
         Entities {
-            walking: Vec::new(alloc),
+            walking: Walkers::new(alloc),
             still: Counted::new(alloc),
         }
     }
@@ -84,7 +84,7 @@ impl Entities {
     pub fn spare(&self) -> usize
         ensures { result ≡ self.now.spare }
     {
-        let walking = self.walking.capacity() - self.walking.len();
+        let walking = self.walking.spare();
         walking.min(self.still.spare())
     }
 
@@ -102,7 +102,7 @@ impl Entities {
     pub fn find(&self, id: u32) -> Option<BlockPos>
         ensures { result ≡ option_map (λ s. s.at) (standing_in self.now.members id) }
     {
-        match entity_list::find(&self.walking, id) {
+        match self.walking.find(id) {
             Some(at) => Some(at),
             None => entity_list::find(self.still.as_slice(), id),
         }
@@ -116,7 +116,7 @@ impl Entities {
         ensures len { length self.new.members + option_len result ≡ length self.old.members }
         ensures spare { self.old.spare ≤ self.new.spare }
     {
-        match entity_list::take(&mut self.walking, id) {
+        match self.walking.take(id) {
             Some(entity) => Some(entity),
             None => self.still.take(id),
         }
@@ -134,7 +134,7 @@ impl Entities {
         if stands_still(entity) {
             self.still.put(entity);
         } else {
-            entity_list::put(&mut self.walking, entity);
+            self.walking.put(entity);
         }
     }
 
@@ -148,7 +148,7 @@ impl Entities {
         ensures len { length self.new.members ≡ length self.old.members }
         ensures spare { self.old.spare ≤ self.new.spare }
     {
-        steps::step_all(&mut self.walking, chunks);
+        self.walking.step(chunks);
     }
 
     /// Adds all entities to a list, in no stated order.
@@ -156,7 +156,7 @@ impl Entities {
         ensures members { OnOk result (list.new.items ≡ list.old.items ++ self.now.members) }
         ensures differ { IsDistinct (λ a b. nat_eq a.id b.id) self.now.members }
     {
-        list.extend_from_slice(&self.walking)?;
+        self.walking.add_to(list)?;
         list.extend_from_slice(self.still.as_slice())
     }
 
@@ -168,7 +168,7 @@ impl Entities {
     {
         let still = self.still.as_slice();
         let mut list = Vec::with_capacity(alloc, self.walking.len() + still.len())?;
-        list.extend_from_slice(&self.walking)?;
+        self.walking.add_to(&mut list)?;
         join(&mut list, still);
         Ok(list)
     }
@@ -180,7 +180,7 @@ impl Entities {
             is_listed chunks.now (chunk_around e.at)) self.now.members }
         ensures few { result < 2 ^ 63 }
     {
-        count_listed(&self.walking, &ChunkList::of(chunks)) + self.still.count_listed(chunks)
+        self.walking.count_listed(chunks) + self.still.count_listed(chunks)
     }
 
     /// Moves the entities that lie in the chunks, which stand by z, and then by x. Goes over those that have a speed, and over the others
@@ -210,7 +210,7 @@ impl Entities {
         ensures into_spare { into.old.spare ≤ into.new.spare + count_by (λ (e : Entity).
             is_listed chunks.now (chunk_around e.at)) self.old.members }
     {
-        entity_list::move_listed(&mut self.walking, chunks, &mut into.walking);
+        self.walking.move_listed(chunks, &mut into.walking);
         self.still.move_listed(chunks, &mut into.still);
     }
 }

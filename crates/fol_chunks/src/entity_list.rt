@@ -19,7 +19,7 @@ use fol_keyed::ChunkList;
 use fol_model::{BlockPos, ChunkPos, Entity};
 
 /// Where the entity stands in the list, or where it would stand.
-fn place_of(entities: &[Entity], id: u32) -> Result<usize, usize>
+pub fn place_of(entities: &[Entity], id: u32) -> Result<usize, usize>
     requires { IsStrictlySortedBy by_id entities.now }
     ensures { MatchResult result (λ i. (i < length entities.now)
         × ((d : Entity) → (slice_index_or entities.now i d).id ≡ id)) (λ i.

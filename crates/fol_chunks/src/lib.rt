@@ -7,17 +7,21 @@
 //! `step_entities` is the movement at the end of a tick, and that what is moved to another value is exactly what lies in the chunks of
 //! a list. Only `reserve` and what lists blocks or entities need memory; `set` takes some where there is. Its blocks are those of
 //! `fol_blocks`. It serves the data of a region.
+//!
+//! Entities that have a speed move only when somebody looks at one: where the recorded chunks are a rectangle, a movement is noted at the cost of
+//! a look at each chunk, and all that are noted are made at once, by a division for each axis, when an entity is looked for, comes or leaves.
 #![tactic(auto)]
 
-mod block_area;
+mod area;
 mod chunks;
 mod counted;
 mod entities;
 mod entity_list;
-mod ground;
 mod held;
 mod lookup;
+mod owed;
 mod steps;
 mod tally;
+mod walkers;
 
 pub use chunks::Chunks;

@@ -1,35 +1,18 @@
 //! The movement of entities at the end of a tick.
 
-ghost use Rattle.std.specs.Prelude.{◌≡◌, ◌&&◌, IsTrue, All, map, IfSome, if◌then◌else◌};
+ghost use Rattle.std.specs.Prelude.{◌≡◌, ◌&&◌, ℤ, pos, vec_len, IsTrue, All, map, IfSome, if◌then◌else◌};
+ghost use Rattle.std.specs.Vec.{vec_capacity};
 ghost use Rattle.std.specs.List.Sorted.{IsStrictlySortedBy};
 ghost use Rattle.fol_model.specs.Geometry.{is_chunk, chunk_of as chunk_around};
 ghost use Rattle.fol_keyed.specs.Order.{chunk_cmp};
+ghost use Rattle.fol_chunks.specs.Areas.{is_inside};
 ghost use Rattle.fol_chunks.specs.Contents.{is_recorded};
 ghost use Rattle.fol_chunks.specs.Rows.{stepped};
 
-use crate::block_area::BlockArea;
-use crate::ground::Ground;
+use crate::area::Area;
 use crate::lookup::Lookup;
 use fol_keyed::{ChunkList, ChunkSet};
 use fol_model::{BlockPos, ChunkPos, Entity, chunk_of};
-
-/// Any chunks in one list: those of the entity's blocks are looked up.
-impl<'a> Ground for ChunkList<'a> {
-    ghost listed = { λ list. list.chunks.now };
-
-    fn step(&self, entity: Entity) -> Entity {
-        walk(entity, self)
-    }
-}
-
-/// Chunks of which some may still wait: those of the entity's blocks are looked up.
-impl Ground for ChunkSet {
-    ghost listed = { λ set. set };
-
-    fn step(&self, entity: Entity) -> Entity {
-        walk(entity, self)
-    }
-}
 
 /// The entity after its movement, where the chunks of its blocks are looked up.
 fn walk<L: Lookup>(entity: Entity, recorded: &L) -> Entity
@@ -77,47 +60,41 @@ fn has_both<L: Lookup>(recorded: &L, here: ChunkPos, there: ChunkPos) -> bool
     recorded.holds(here) && (here == there || recorded.holds(there))
 }
 
-/// Moves every entity of a list on the same ground.
-fn step_on<G: Ground>(entities: &mut [Entity], ground: &G)
-    requires order { IsStrictlySortedBy chunk_cmp (G.listed ground.now) }
-    requires places { All (λ c. IsTrue (is_chunk c)) (G.listed ground.now) }
-    ensures { entities.new ≡ map (stepped (is_recorded (G.listed ground.now))) entities.old }
+/// Moves every entity of a list, where the chunks of its blocks are looked up.
+fn step_on<L: Lookup>(entities: &mut [Entity], recorded: &L)
+    requires order { IsStrictlySortedBy chunk_cmp (L.listed recorded.now) }
+    requires places { All (λ c. IsTrue (is_chunk c)) (L.listed recorded.now) }
+    ensures { entities.new ≡ map (stepped (is_recorded (L.listed recorded.now))) entities.old }
 {
     for i in 0..entities.len() {
-        entities[i] = ground.step(entities[i]);
+        entities[i] = walk(entities[i], recorded);
     }
 }
 
-/// The area of the chunks, where they are a rectangle and where there are entities enough to pay for the search.
-fn area_for(entities: usize, chunks: &[ChunkPos]) -> Option<BlockArea>
-    ensures { IfSome result (λ area. area.chunks.now ≡ chunks.now) }
+/// The area of the chunks, where they are a rectangle, no change of them waits, and there are entities enough to pay for the search.
+pub fn area_for(entities: usize, chunks: &ChunkSet) -> Option<Area>
+    ensures { IfSome result (λ area. (x z : ℤ)
+        → is_recorded chunks.now (chunk_around (record { x = x; y = pos 0; z = z }))
+        ≡ is_inside area x z) }
 {
-    if entities < chunks.len() / 4 {
+    let list = chunks.as_slice()?;
+    if entities < list.len() / 4 {
         return None;
     }
-    BlockArea::of(chunks)
-}
-
-/// Moves every entity of a list, where no change of the chunks waits.
-fn step_listed(entities: &mut [Entity], chunks: &[ChunkPos])
-    requires order { IsStrictlySortedBy chunk_cmp chunks.now }
-    requires places { All (λ c. IsTrue (is_chunk c)) chunks.now }
-    ensures { entities.new ≡ map (stepped (is_recorded chunks.now)) entities.old }
-{
-    match area_for(entities.len(), chunks) {
-        Some(area) => step_on(entities, &area),
-        None => step_on(entities, &ChunkList::of(chunks)),
-    }
+    Area::of(list)
 }
 
 /// Moves every entity of a list.
-pub fn step_all(entities: &mut [Entity], chunks: &ChunkSet)
+pub fn step_all(entities: &mut Vec<Entity>, chunks: &ChunkSet)
     requires order { IsStrictlySortedBy chunk_cmp chunks.now }
     requires places { All (λ c. IsTrue (is_chunk c)) chunks.now }
-    ensures { entities.new ≡ map (stepped (is_recorded chunks.now)) entities.old }
+    ensures steps { entities.new.items
+        ≡ map (stepped (is_recorded chunks.now)) entities.old.items }
+    ensures len { vec_len entities.new ≡ vec_len entities.old }
+    ensures capacity { vec_capacity entities.new ≡ vec_capacity entities.old }
 {
     match chunks.as_slice() {
-        Some(list) => step_listed(entities, list),
+        Some(list) => step_on(entities, &ChunkList::of(list)),
         None => step_on(entities, chunks),
     }
 }

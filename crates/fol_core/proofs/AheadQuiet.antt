@@ -27,13 +27,14 @@ use Rattle.fol_world.specs.declared.tables.Course.{Course}
 use Rattle.fol_world.specs.declared.tables.Tables.{Tables}
 use Rattle.fol_core.specs.Ahead.{RunsAhead, StandsAhead}
 use Rattle.fol_core.specs.Answers.{is_over}
-use Rattle.fol_world.specs.Quiet.{IsQuiet, PassesTick}
+use Rattle.fol_world.specs.Agenda.{owes}
+use Rattle.fol_world.specs.Quiet.{CanPass, PassesTick}
 use Rattle.fol_core.specs.Quiet.{quiet_tick}
 use Rattle.fol_world.specs.Stands.{Stands}
 use Rattle.fol_core.proofs.Ahead.{event_runs, over_is, runs_entries}
 use Rattle.fol_core.proofs.AheadBegins.{begin_allowed, begin_spares}
 use Rattle.fol_core.proofs.AheadRuns.{good_at}
-use Rattle.fol_core.proofs.QuietKept.{quiet_counter, quiet_counts, quiet_kept}
+use Rattle.fol_core.proofs.QuietKept.{counter_is, quiet_counts, quiet_kept}
 
 none_answered : (w : World) (xs : List Wish) → answers w xs ≡ [] → xs ≡ []
 none_answered w [] e = refl
@@ -66,7 +67,11 @@ last_allowed : (w : World) (es : List Entry) (e : Entry) → RunFrom w (es ++ e 
 last_allowed w [] e run = run.1
 last_allowed w (x ∷ es) e run = last_allowed (after w x.event) es e run.2
 
-module _ (o : Opening) (h : List Entry) (p : ℕ → Bool) (t : Tables) (s : StandsAhead o h p t) (id : ℕ) (quiet : IsQuiet (grid_state t.regions) t.store id) (u : Tables) (passes : PassesTick t u id) (worker : ℕ)
+-- the counter of a region that owes a tick
+pub counter_now : (o : Opening) (h : List Entry) (p : ℕ → Bool) (t : Tables) (s : StandsAhead o h p t) (id : ℕ) → owes (grid_state t.regions) (bag_of t.store) id ≡ true → (bag_of t.store id).tick ≡ (world o h).tick id
+counter_now o h p t s id owing = counter_is o s.runs.ahead.entries t s.stands id owing ∙ tick_same p (world o h) (world o s.runs.ahead.entries) s.runs.ahead.is id
+
+module _ (o : Opening) (h : List Entry) (p : ℕ → Bool) (t : Tables) (s : StandsAhead o h p t) (id : ℕ) (quiet : CanPass (grid_state t.regions) t.store id) (u : Tables) (passes : PassesTick t u id) (worker : ℕ)
     (on : (t.course.finished || t.course.stopped) ≡ false) (few : t.course.size + 2 ≤ 2 ^ 50)
     (tick : ℕ) (ran : List Ran) (accepts : List Accept) (told : tick ≡ (bag_of t.store id).tick + 1) (no_ran : ran ≡ []) (no_accepts : accepts ≡ []) where
   abbrev b : Entry
@@ -160,11 +165,8 @@ module _ (o : Opening) (h : List Entry) (p : ℕ → Bool) (t : Tables) (s : Sta
         (quiet_kept o s.runs.ahead.entries t s.stands id quiet u passes worker on few tick ran accepts told no_ran no_accepts c d one two);
   }
 
-  counter_now : (bag_of t.store id).tick ≡ (world o h).tick id
-  counter_now = quiet_counter o s.runs.ahead.entries t s.stands id quiet u passes worker ∙ tick_same p (world o h) (world o s.runs.ahead.entries) s.runs.ahead.is id
-
   tick_is : tick ≡ (world o h).tick id + 1
-  tick_is = told ∙ ap (λ n. n + 1) counter_now
+  tick_is = told ∙ ap (λ n. n + 1) (counter_now o h p t s id quiet.owing)
 
   counter_then : (world o ((h ++ b ∷ []) ++ f ∷ [])).tick id ≡ (world o h).tick id + 1
   counter_then = sym (tick_same p (world o ((h ++ b ∷ []) ++ f ∷ [])) (world o second.ahead.entries) second.ahead.is id)

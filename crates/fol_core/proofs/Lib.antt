@@ -36,6 +36,7 @@ pub mod QuietWorlds
 pub mod QuietHands
 pub mod QuietKept
 pub mod QuietRuns
+pub mod AheadQuietTicks
 pub mod UndoneTasks
 pub mod OwedMost
 pub mod UndoneTicks

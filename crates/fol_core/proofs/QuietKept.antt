@@ -44,7 +44,7 @@ use Rattle.fol_world.specs.Begun.{due_task}
 use Rattle.fol_world.specs.Bags.{IsBagOf}
 use Rattle.fol_world.specs.Hands.{at_rest, in_hands, rests, since}
 use Rattle.fol_world.specs.Agenda.{IsAgenda, owes}
-use Rattle.fol_world.specs.Quiet.{IsQuiet, PassesTick}
+use Rattle.fol_world.specs.Quiet.{CanPass, PassesTick}
 use Rattle.fol_world.specs.Stands.{Fits, IsCourse, Stands}
 use Rattle.fol_core.proofs.BeginKept.{begin_due, begun_marks, its_chunks}
 use Rattle.fol_core.proofs.BegunHands.{not_in_hands}
@@ -94,14 +94,15 @@ none_due rec n (Some j) h = elim (cases_Bool (rec j.chunk)) [
   | inr e ↦ rw e refl
 ]
 
--- the counter of a region that owes a tick has room to rise
-pub early : (o : Opening) (h : List Entry) (t : Tables) → Stands o h t → (id : ℕ) → owes (grid_state t.regions) (bag_of t.store) id ≡ true → (bag_of t.store id).tick < 2 ^ 62
-early o h t s id owing =
-    let now : (bag_of t.store id).tick ≡ (world o h).tick id = (s.fits.stored.bags id).counter (sym (s.fits.stored.bags id).here ∙ ready_here o h t s id owing) in
-    omega (arith, now, all_most (start o) h 0 (λ q. omega arith) id, ends_most h, s.size.size, s.size.most)
+-- the counter of a region that owes a tick; it is no higher than the history is long
+pub counter_is : (o : Opening) (h : List Entry) (t : Tables) → Stands o h t → (id : ℕ) → owes (grid_state t.regions) (bag_of t.store) id ≡ true → (bag_of t.store id).tick ≡ (world o h).tick id
+counter_is o h t s id owing = (s.fits.stored.bags id).counter (sym (s.fits.stored.bags id).here ∙ ready_here o h t s id owing)
+
+pub counter_most : (o : Opening) (h : List Entry) (t : Tables) → Stands o h t → (id : ℕ) → owes (grid_state t.regions) (bag_of t.store) id ≡ true → (bag_of t.store id).tick ≤ 2 ^ 50 + 1
+counter_most o h t s id owing = omega (arith, counter_is o h t s id owing, all_most (start o) h 0 (λ q. omega arith) id, ends_most h, s.size.size, s.size.most)
 
 -- the chunks of the region's bag are in order, and within the limits
-module _ (o : Opening) (h : List Entry) (t : Tables) (s : Stands o h t) (id : ℕ) (quiet : IsQuiet (grid_state t.regions) t.store id) where
+module _ (o : Opening) (h : List Entry) (t : Tables) (s : Stands o h t) (id : ℕ) (quiet : CanPass (grid_state t.regions) t.store id) where
   exact_chunks : (bag_of t.store id).chunks ≡ filter (is_chunk_of (world o h).grid id) all_chunks
   exact_chunks = its_chunks o h t s id quiet.owing (and_parts (bag_of t.store id).listed (bag_of t.store id).calm quiet.whole).0
 
@@ -111,7 +112,7 @@ module _ (o : Opening) (h : List Entry) (t : Tables) (s : Stands o h t) (id : �
   pub in_limits : All (λ c. IsTrue (is_chunk c)) (bag_of t.store id).chunks
   in_limits = rw exact_chunks (kept_within (is_chunk_of (world o h).grid id))
 
-module _ (o : Opening) (h : List Entry) (t : Tables) (s : Stands o h t) (id : ℕ) (quiet : IsQuiet (grid_state t.regions) t.store id) (u : Tables) (passes : PassesTick t u id) (worker : ℕ) where
+module _ (o : Opening) (h : List Entry) (t : Tables) (s : Stands o h t) (id : ℕ) (quiet : CanPass (grid_state t.regions) t.store id) (u : Tables) (passes : PassesTick t u id) (worker : ℕ) where
   abbrev w : World
   w = world o h
 
@@ -162,9 +163,6 @@ module _ (o : Opening) (h : List Entry) (t : Tables) (s : Stands o h t) (id : �
 
   rests_again : grid_state t.regions ≡ w.grid
   rests_again = s.fits.regions
-
-  pub quiet_counter : (bag_of t.store id).tick ≡ w.tick id
-  quiet_counter = (s.fits.stored.bags id).counter (sym (s.fits.stored.bags id).here ∙ ready_here o h t s id quiet.owing)
 
   -- the world after the Begin and the End
   ended_world : ended (begun w worker id) id [] ≡ passed w worker id
@@ -267,7 +265,7 @@ module _ (o : Opening) (h : List Entry) (t : Tables) (s : Stands o h t) (id : �
       f = record { by = worker; event = End worker id tick ran accepts }
 
       same_counter : tick ≡ (begun w worker id).tick id + 1
-      same_counter = told ∙ ap (λ n. n + 1) (quiet_counter ∙ sym begun_counter)
+      same_counter = told ∙ ap (λ n. n + 1) (counter_is o h t s id quiet.owing ∙ sym begun_counter)
 
       same_end : e ≡ f
       same_end = λ i. record { by = worker; event = End worker id (sym same_counter i) (sym no_ran i) (sym no_accepts i) }

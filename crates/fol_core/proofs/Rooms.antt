@@ -30,9 +30,9 @@ not_grown o h g p t room early marks items len capacity kept =
 pub room_left : (d : Course) (l m a b k e : ℕ) → k ≡ e → l + 2 + k ≤ a → m ≡ l + 1 → b ≡ a → (d.finished || d.stopped) ≡ false → m + e < b
 room_left d l m a b k e q r s n x = omega arith
 
--- the same after two entries
-pub room_left_by_two : (d : Course) (l m n a b s k e : ℕ) → k ≡ e → l + 3 + k ≤ a → m ≡ l + 1 → b ≡ a → n ≡ m + 1 → s ≡ b → (d.finished || d.stopped) ≡ false → n + e < s
-room_left_by_two d l m n a b s k e q r one same two still x = omega arith
+-- the same after so many entries
+pub room_left_by : (d : Course) (n l m a b k e : ℕ) → k ≡ e → l + n + 1 + k ≤ a → m ≡ l + n → b ≡ a → (d.finished || d.stopped) ≡ false → m + e < b
+room_left_by d n l m a b k e q r more same x = omega arith
 
 -- ---- the places of the stack
 

@@ -18,10 +18,3 @@ pub record Passes (old new : Meaning) (worker r n : ℕ) : Type 0 where
   pub opening : new.opening ≡ old.opening
   pub history : new.history ≡ old.history ++ quiet_ticks worker r ((world_of old).tick r) n
   pub prepared : is_prepared new ≡ is_prepared old
-
--- one was
-pub record PassesOne (old new : Meaning) (worker r : ℕ) : Type 0 where
-  pub opening : new.opening ≡ old.opening
-  pub history : new.history ≡ old.history ++ quiet_tick worker r ((world_of old).tick r + 1)
-  pub counter : (world_of new).tick r ≡ (world_of old).tick r + 1
-  pub prepared : is_prepared new ≡ is_prepared old

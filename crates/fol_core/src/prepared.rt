@@ -9,7 +9,7 @@ ghost use Rattle.fol_regions.specs.Touched.{is_touched};
 ghost use Rattle.fol_store.specs.Stock.{bag_of};
 ghost use Rattle.fol_core.specs.Ahead.{Learns, NonePrepared, PreparedAreReady, Prepares, Withdraws, may_touch};
 ghost use Rattle.fol_core.specs.Answers.{is_free, is_over};
-ghost use Rattle.fol_core.specs.Meaning.{IsReadyToBegin, is_prepared, mark_count, world_of};
+ghost use Rattle.fol_core.specs.Meaning.{IsReadyToBegin, Stays, is_prepared, mark_count, world_of};
 ghost use Rattle.fol_core.specs.Ticks.{IsTick};
 ghost use Rattle.fol_core.specs.Undone.{IsRoomAgain};
 
@@ -17,7 +17,7 @@ use crate::machine::{Core, Room};
 use crate::ticks::due_room;
 use crate::undone::undo;
 use fol_data::Tick;
-use fol_model::{ChunkPos, Event, PackedEntry, SectionPos, State, Task, section_of};
+use fol_model::{ChunkPos, Event, PackedEntry, SectionPos, Sequence, State, Task, section_of};
 use fol_regions::Regions;
 use fol_world::begins::{blank, hand_out};
 use fol_world::tables::Tables;
@@ -132,11 +132,24 @@ impl Core {
         ensures ready { IsTrue result → IsReadyToBegin self.new tick.region }
     {
         let mut tick = tick;
-        self.withdraw_in(&mut tick)
+        self.take_back(&mut tick)
     }
 
-    /// The same where the tick stands. Nothing is left in it that is worth keeping.
-    pub fn withdraw_in(&mut self, tick: &mut Tick) -> bool
+    /// The same where the tick stands, but the core is ready for nothing then. The list of due tasks keeps its memory there, emptied; nothing else is
+    /// left in the tick that is worth keeping.
+    pub fn withdraw_in(&mut self, tick: &mut Tick)
+        requires prepared { is_prepared self.old tick.old.region ≡ true }
+        requires tick { IsTick (world_of self.old) tick.old.begun 0 tick.old.region tick.old }
+        requires room { length tick.old.due ≤ tick.old.body.queues.spare }
+        ensures withdrawn { Withdraws self.old self.new tick.old.region }
+        ensures empty { tick.new.due ≡ [] }
+    {
+        let _is_ready = self.take_back(tick);
+        tick.due = Sequence::of(self.give_up_room());
+    }
+
+    /// Takes a tick back as `withdraw` does. Nothing is left in it that is worth keeping.
+    fn take_back(&mut self, tick: &mut Tick) -> bool
         requires prepared { is_prepared self.old tick.old.region ≡ true }
         requires tick { IsTick (world_of self.old) tick.old.begun 0 tick.old.region tick.old }
         requires room { length tick.old.due ≤ tick.old.body.queues.spare }
@@ -149,6 +162,18 @@ impl Core {
         self.tables.course.size -= 1;
         self.room = room_again(&self.tables, id, due);
         self.room.is_some()
+    }
+
+    /// Gives up what was taken for the next Begin or End. Returns the list that was taken for due tasks, where there is one; it is empty.
+    fn give_up_room(&mut self) -> Vec<Task>
+        ensures stays { Stays self.old self.new }
+        ensures empty { result.items ≡ [] }
+    {
+        match self.room.take() {
+            Some(Room::Begin { id: _, due }) => due,
+            Some(Room::End { .. }) => Vec::new(self.alloc),
+            None => Vec::new(self.alloc),
+        }
     }
 }
 

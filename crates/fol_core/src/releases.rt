@@ -207,7 +207,7 @@ fn grow_to_end(
     tables
         .agenda
         .reserve(asked + parts as usize + early as usize)?;
-    if asked > 0 {
+    if asked as u64 > tick.body.chunks.spare() {
         tick.body.chunks.reserve(asked as u64)?;
     }
     Ok(accepts)

@@ -2,3 +2,4 @@ mod Returning
 mod SingleTask
 mod TwoChunks
 mod OneTask
+mod Taken

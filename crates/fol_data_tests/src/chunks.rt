@@ -119,6 +119,62 @@ fn entities_walk_within_any_chunks(rt: HostRuntime) -> Result<(), Fail> {
     Ok(())
 }
 
+/// An entity that walks along both axes.
+fn roamer(id: u32, at: BlockPos, vx: i32, vz: i32) -> Entity
+    ensures { result.id ≡ id }
+{
+    Entity { id, at, vx, vz }
+}
+
+/// Moves the entities on the two chunks so many times.
+fn step_often(chunks: &mut Chunks, times: u32, alloc: Global) -> Result<(), AllocError> {
+    for _ in 0..times {
+        step(chunks, alloc)?;
+    }
+    Ok(())
+}
+
+/// Puts three entities in that walk to three borders.
+fn put_roamers(chunks: &mut Chunks) -> Result<(), AllocError> {
+    let _ = put(chunks, roamer(1, block(3, 0), 5, 0))?;
+    let _ = put(chunks, roamer(2, block(30, 15), -7, -2))?;
+    let _ = put(chunks, roamer(3, block(0, 0), 0, 3))?;
+    Ok(())
+}
+
+/// Whether the entities stand where three steps lead, the first to a block before the border.
+fn walks_three_steps(chunks: &mut Chunks, alloc: Global) -> Result<bool, AllocError> {
+    step_often(chunks, 3, alloc)?;
+    let first = chunks.find(1) == Some(block(18, 0));
+    let second = chunks.find(2) == Some(block(9, 9));
+    Ok(first && second && chunks.find(3) == Some(block(0, 9)))
+}
+
+/// Whether the entities stay where the next step would lead out of the two chunks, and one goes on once a third chunk is recorded.
+fn walks_to_the_end(chunks: &mut Chunks, alloc: Global) -> Result<bool, AllocError> {
+    step_often(chunks, 100, alloc)?;
+    step_in_corner(chunks, alloc)?;
+    let list = chunks.entities_by_id(alloc)?;
+    let wanted = [
+        roamer(1, block(28, 0), 5, 0),
+        roamer(2, block(2, 7), -7, -2),
+        roamer(3, block(0, 18), 0, 3),
+    ];
+    Ok(list.as_slice() == wanted.as_slice())
+}
+
+/// Entities that nobody looks at for many steps stand where the steps lead.
+#[test]
+fn entities_walk_unseen(rt: HostRuntime) -> Result<(), Fail> {
+    let mut chunks = Chunks::new(rt.alloc());
+    put_roamers(&mut chunks)?;
+    let is_seen = walks_three_steps(&mut chunks, rt.alloc())?;
+    assert!(rt; is_seen);
+    let is_right = walks_to_the_end(&mut chunks, rt.alloc())?;
+    assert!(rt; is_right);
+    Ok(())
+}
+
 /// Whether the blocks with a number are these two.
 fn lists(
     alloc: Global,

@@ -36,7 +36,7 @@ impl Offers {
                 let mut boxed = slots
                     .body(&mut self.keeper, i, Offer::nothing())
                     .into_tick();
-                let _is_ready = self.core.withdraw_in(&mut *boxed);
+                self.core.withdraw_in(&mut *boxed);
                 self.boxes.put(boxed);
                 self.places.clear(i);
             }

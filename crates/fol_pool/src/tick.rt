@@ -14,7 +14,7 @@ use std::sync::Wait;
 
 /// How many quiet ticks are passed over in one turn of the lock, of any regions that owe one and are not offered, that of the tick first: as
 /// many as take a few microseconds, or some more where entities walk, so that nobody waits long for the lock.
-const QUIET_TICKS: u32 = 64;
+const QUIET_TICKS: u32 = 256;
 
 /// Why a worker has no tick.
 #[derive(Clone, Copy)]

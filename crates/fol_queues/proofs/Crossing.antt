@@ -9,4 +9,4 @@ pub Dated-send : IsSend (dated.the_field).row
 Dated-send = search (sendable, Task-send) depth 14
 
 pub Queues-send : IsSend (queues.the_field).row
-Queues-send = search (sendable, Dated-send, Vec-send) depth 14
+Queues-send = search (sendable, Task-send, Dated-send, Vec-send) depth 14

@@ -1,5 +1,5 @@
 -- A loop that parts a list: it looks at the elements in turn, moves one that passes, and puts the last element in its place.
-use Rattle.std.proofs.Common.{◌≡◌, ℕ, ◌+◌, ◌<◌, ◌≤◌, Bool, true, false, cond, List, [], ◌∷◌, ◌++◌, length, get_or, map, sym, ◌∙◌, ap, subst, arith, append_assoc, length-append}
+use Rattle.std.proofs.Common.{◌≡◌, ℕ, ◌+◌, ◌<◌, ◌≤◌, Bool, true, false, cond, List, [], ◌∷◌, ◌++◌, length, get_or, map, refl, sym, ◌∙◌, ap, subst, arith, append_assoc, length-append}
 use Rattle.std.specs.Prelude.{All, Contains, count_by}
 use Rattle.std.specs.List.{AllWithin, swap_remove}
 use Rattle.std.specs.List.Sorted.{IsPermutation}
@@ -54,6 +54,10 @@ module _ {X : Type 0} (p : X → Bool) (xs : List X) where
   pub still_there : (left moved : List X) (i : ℕ) (d : X) → IsPermutation xs (moved ++ left) → i < length left → Contains xs (get_or left i d)
   still_there left moved i d all l = Contains-permutation (moved ++ left) xs (get_or left i d) (IsPermutation-sym xs (moved ++ left) all) (Contains-append_right moved left (get_or left i d) (Contains-get_or left i d l))
 
+-- the list may have stood in another order before
+pub parted_before : {X : Type 0} (p : X → Bool) (xs ys left moved : List X) → IsPermutation xs ys → Parted p ys left moved → Parted p xs left moved
+parted_before p xs ys left moved m h = record { all = IsPermutation-trans xs ys (moved ++ left) m h.all; yes = h.yes; no = h.no }
+
 -- what is left may stand in another order
 pub parted_again : {X : Type 0} (p : X → Bool) (xs left rest moved : List X) → Parted p xs left moved → IsPermutation left rest → Parted p xs rest moved
 parted_again p xs left rest moved h m = record {
@@ -63,9 +67,6 @@ parted_again p xs left rest moved h m = record {
 }
 
 module _ (now : ℕ) (xs : List Dated) where
-  pub due_none : (out : List Task) → out ≡ [] → IsTakingDue now xs xs out
-  due_none out e = record { due = []; tasks = e; all = IsPermutation-refl xs; yes = All-nil (λ d. is_due now d ≡ true) }
-
   pub due_moves : (left rest : List Dated) (out more : List Task) (d : Dated) → IsTakingDue now xs left out → IsPermutation left (d ∷ rest) → is_due now d ≡ true → more ≡ out ++ d.task ∷ [] → IsTakingDue now xs rest more
   due_moves left rest out more d h m t e =
       record {
@@ -76,7 +77,22 @@ module _ (now : ℕ) (xs : List Dated) where
       }
 
   pub due_done : (left : List Dated) (out : List Task) → IsTakingDue now xs left out → All (λ d. is_due now d ≡ false) left → DueParted now xs left out
-  due_done left out h none = record { due = h.due; tasks = h.tasks; parted = record { all = h.all; yes = h.yes; no = none } }
+  due_done left out h none = record {
+    due = h.due;
+    tasks = rw h.tasks (IsPermutation-refl _);
+    parted = record { all = h.all; yes = h.yes; no = none };
+  }
+
+-- the tasks that were taken stand in another order now
+pub due_again : (now : ℕ) (xs left : List Dated) (out ts : List Task) → IsPermutation out ts → DueParted now xs left out → DueParted now xs left ts
+due_again now xs left out ts m h = record { due = h.due; tasks = IsPermutation-trans _ _ _ h.tasks m; parted = h.parted }
+
+-- all that is due has gone, or is left
+pub taking_count : (now : ℕ) (xs left : List Dated) (out : List Task) → IsTakingDue now xs left out → length out + count_by (is_due now) left ≡ count_by (is_due now) xs
+taking_count now xs left out h =
+    let one : Dated → ℕ = λ d. cond (is_due now d) 1 0 in
+    let gone : length out ≡ length h.due = ap (λ (ts : List Task). length ts) h.tasks ∙ length-map h.due (λ (d : Dated). d.task) in
+    omega (arith, sum_by-IsPermutation one xs (h.due ++ left) h.all, sum_by-append one h.due left, count_all (is_due now) h.due h.yes)
 
 -- so far moved to others: elements that pass, each changed by f
 pub record IsMovingInto (p : Dated → Bool) (f : Dated → Dated) (xs left others joined : List Dated) (i : ℕ) : Type 0 where
@@ -122,13 +138,18 @@ pub one_less : {X : Type 0} (p : X → Bool) (xs rest : List X) (x : X) → IsPe
 one_less p xs rest x m t =
     sym (sum_by-IsPermutation (λ z. cond (p z) 1 0) xs (x ∷ rest) m) ∙ sum_by-cons (λ z. cond (p z) 1 0) x rest ∙ ap (λ b. cond b 1 0 + count_by p rest) t
 
--- what is left may stand in another order
-pub taking_again : (now : ℕ) (xs left rest : List Dated) (out : List Task) → IsTakingDue now xs left out → IsPermutation left rest → IsTakingDue now xs rest out
-taking_again now xs left rest out h m = record { due = h.due; tasks = h.tasks; all = IsPermutation-trans xs (h.due ++ left) (h.due ++ rest) h.all (IsPermutation-append_right h.due left rest m); yes = h.yes }
+-- both lists may have stood in another order before
+pub moved_before : (p : Dated → Bool) (f : Dated → Dated) (xs ys left others more joined : List Dated) → IsPermutation xs ys → IsPermutation others more → MovedInto p f ys left more joined → MovedInto p f xs left others joined
+moved_before p f xs ys left others more joined m n h = record {
+  moved = h.moved;
+  joins = IsPermutation-trans _ _ _ (IsPermutation-append_left (map f h.moved) others more n) h.joins;
+  parted = parted_before p xs ys left h.moved m h.parted;
+}
 
--- all that is due has gone, or is left
-pub taking_count : (now : ℕ) (xs left : List Dated) (out : List Task) → IsTakingDue now xs left out → length out + count_by (is_due now) left ≡ count_by (is_due now) xs
-taking_count now xs left out h =
-    let one : Dated → ℕ = λ d. cond (is_due now d) 1 0 in
-    let gone : length out ≡ length h.due = ap (λ (ts : List Task). length ts) h.tasks ∙ length-map h.due (λ (d : Dated). d.task) in
-    omega (arith, sum_by-IsPermutation one xs (h.due ++ left) h.all, sum_by-append one h.due left, count_all (is_due now) h.due h.yes)
+-- where none is counted, none passes
+pub all_fail : {X : Type 0} (p : X → Bool) (xs : List X) → count_by p xs ≡ 0 → All (λ x. p x ≡ false) xs
+all_fail p xs e = λ k d l. fails (p (get_or xs k d)) (omega (arith, e, get_or-le-sum_by (λ z. cond (p z) 1 0) xs k d l))
+  where
+    fails : (b : Bool) → cond b 1 0 ≤ 0 → b ≡ false
+    fails false l = refl
+    fails true l = absurd (omega arith)

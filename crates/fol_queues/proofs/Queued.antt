@@ -82,31 +82,26 @@ module _ (tasks : List Dated) where
       let own : dated_in tasks (number_of (get_or tasks k e)) ≡ Some (get_or tasks k e) = find_own nat_eq eqb-true nat_self number_of tasks (get_or tasks k e) d (Contains-get_or tasks k e l) in
       h (number_of (get_or tasks k e)) (get_or tasks k e) (rw (own, t) refl)
 
-  -- the tasks that were taken, in another order: those of the due ones
-  pub takes : (now : ℕ) (left : List Dated) (out ts : List Task) → DueParted now tasks left out → IsPermutation out ts → Distinct tasks → task_in ts ≡ λ n. option_map (λ d. d.task) (option_filter (is_due now) (dated_in tasks n))
-  takes now left out ts h m d =
+  -- the tasks that were taken are those of the due ones
+  pub takes : (now : ℕ) (left : List Dated) (out : List Task) → DueParted now tasks left out → Distinct tasks → task_in out ≡ λ n. option_map (λ d. d.task) (option_filter (is_due now) (dated_in tasks n))
+  takes now left out h d =
       fun_ext (λ n.
-      let a : find (λ (t : Task). nat_eq t.number n) ts ≡ task_in (map (λ (e : Dated). e.task) h.due) n = permuted now left out ts h m d n in
-      a ∙ tasks_found h.due n ∙ ap (λ o. option_map (λ (e : Dated). e.task) o) (find_moved nat_eq eqb-true nat_self number_of (is_due now) tasks left h.due h.parted d n))
-    where
-      permuted : (now : ℕ) (left : List Dated) (out ts : List Task) (h : DueParted now tasks left out) → IsPermutation out ts → Distinct tasks → (n : ℕ) → task_in ts n ≡ task_in (map (λ (e : Dated). e.task) h.due) n
-      permuted now left out ts h m d n =
-          let apart : Apart (map (λ (e : Dated). e.task) h.due) = tasks_apart h.due (moved_distinct (is_due now) left h.due h.parted d) in
-          let w : IsPermutation (map (λ (e : Dated). e.task) h.due) ts = rw (← h.tasks) m in
-          find_permuted nat_eq eqb-true nat_self (λ (t : Task). t.number) (map (λ (e : Dated). e.task) h.due) ts apart w n
-
-  pub takes_in_order : (now : ℕ) (left : List Dated) (out ts : List Task) → DueParted now tasks left out → IsPermutation out ts → Distinct tasks → IsNonDecreasingBy (λ (t : Task). t.number) ts → Rising ts
-  takes_in_order now left out ts h m d up =
       let apart : Apart (map (λ (e : Dated). e.task) h.due) = tasks_apart h.due (moved_distinct (is_due now) left h.due h.parted d) in
-      let w : IsPermutation (map (λ (e : Dated). e.task) h.due) ts = rw (← h.tasks) m in
-      rising_from_sorted ts (differ_permuted nat_eq eqb-true nat_self (λ (t : Task). t.number) (map (λ (e : Dated). e.task) h.due) ts w apart) up
+      let a : find (λ (t : Task). nat_eq t.number n) out ≡ task_in (map (λ (e : Dated). e.task) h.due) n =
+      find_permuted nat_eq eqb-true nat_self (λ (t : Task). t.number) (map (λ (e : Dated). e.task) h.due) out apart h.tasks n in
+      a ∙ tasks_found h.due n ∙ ap (λ o. option_map (λ (e : Dated). e.task) o) (find_moved nat_eq eqb-true nat_self number_of (is_due now) tasks left h.due h.parted d n))
 
-  pub takes_count : (now : ℕ) (left : List Dated) (out ts : List Task) → DueParted now tasks left out → IsPermutation out ts → length ts ≡ count_by (is_due now) tasks
-  takes_count now left out ts h m = length_permutation out ts m ∙ ap (λ (l : List Task). length l) h.tasks ∙ length-map h.due (λ (e : Dated). e.task) ∙ count_moved (is_due now) tasks left h.due h.parted
+  pub takes_in_order : (now : ℕ) (left : List Dated) (out : List Task) → DueParted now tasks left out → Distinct tasks → IsNonDecreasingBy (λ (t : Task). t.number) out → Rising out
+  takes_in_order now left out h d up =
+      let apart : Apart (map (λ (e : Dated). e.task) h.due) = tasks_apart h.due (moved_distinct (is_due now) left h.due h.parted d) in
+      rising_from_sorted out (differ_permuted nat_eq eqb-true nat_self (λ (t : Task). t.number) (map (λ (e : Dated). e.task) h.due) out h.tasks apart) up
 
-  pub takes_len : (now : ℕ) (left : List Dated) (out ts : List Task) → DueParted now tasks left out → IsPermutation out ts → length left + length ts ≡ length tasks
-  takes_len now left out ts h m =
-      let e : length ts ≡ length h.due = length_permutation out ts m ∙ ap (λ (l : List Task). length l) h.tasks ∙ length-map h.due (λ (e : Dated). e.task) in
+  pub takes_count : (now : ℕ) (left : List Dated) (out : List Task) → DueParted now tasks left out → length out ≡ count_by (is_due now) tasks
+  takes_count now left out h = length_permutation _ out h.tasks ∙ length-map h.due (λ (e : Dated). e.task) ∙ count_moved (is_due now) tasks left h.due h.parted
+
+  pub takes_len : (now : ℕ) (left : List Dated) (out : List Task) → DueParted now tasks left out → length left + length out ≡ length tasks
+  takes_len now left out h =
+      let e : length out ≡ length h.due = length_permutation _ out h.tasks ∙ length-map h.due (λ (e : Dated). e.task) in
       omega (arith, length_parted (is_due now) tasks left h.due h.parted)
 
 -- what passes joined others

@@ -1,5 +1,5 @@
 -- The order of tasks in a heap.
-use Rattle.std.proofs.Common.{◌≡◌, ℕ, ◌<◌, ◌≤◌, ◌*◌, ◌+◌, ◌∙◌, ap, cond, inl, inr, true, false, refl, List, [], ◌∷◌, take, length-take, length, get_or, rules, arith, sym, subst}
+use Rattle.std.proofs.Common.{◌≡◌, ℕ, ◌<◌, ◌≤◌, ◌*◌, ◌+◌, ◌∙◌, ap, cond, inl, inr, true, false, refl, List, [], ◌∷◌, length, get_or, rules, arith, sym, subst}
 use Rattle.std.specs.Cmp.{IsTotalOrder}
 use Rattle.std.specs.Cmp.Rules.{comparing}
 use Rattle.std.specs.Slice.Heapsort.{IsHeapWithin}
@@ -10,7 +10,6 @@ use Rattle.std.specs.List.{swap_remove}
 use Rattle.std_alloc.proofs.HeapSift.{at_most, popped, greatest}
 use Rattle.std.proofs.lemmas.List.Elements.{All-from_recursion}
 use Rattle.std.specs.Prelude.{All, count_by, nat_lt}
-use Rattle.std.proofs.lemmas.List.{get_or-take}
 use Rattle.std.proofs.lemmas.List.Elements.{at_read}
 use Rattle.std.proofs.lemmas.List.Sums.{get_or-le-sum_by}
 use Rattle.fol_keyed.proofs.Keyed.{at_own, count_none}
@@ -72,17 +71,6 @@ none_tells now (d ∷ ds) e = absurd (omega (arith, e))
 -- the first ones stay a heap where they stay as they are
 pub heap_stays : (n : ℕ) (xs ys : List Dated) → ((k : ℕ) (d : Dated) → k < n → get_or ys k d ≡ get_or xs k d) → IsHeapWithin (lt_by_cmp by_turn) xs 0 n → IsHeapWithin (lt_by_cmp by_turn) ys 0 n
 heap_stays n xs ys same h = λ p k d low a b l. (λ i. lt_by_cmp by_turn (same p d (omega arith) i) (same k d l i)) ∙ h p k d low a b l
-
--- the first ones are a heap of their own, and all of them where they are all
-pub heap_first : (n : ℕ) (xs : List Dated) → IsHeapWithin (lt_by_cmp by_turn) xs 0 n → n ≤ length xs → IsHeap by_turn (take n xs)
-unfolding IsHeap
-heap_first n xs h l = λ p k d low a b m.
-    let few : length (take n xs) ≡ n = omega (arith, length-take n xs, l) in
-    heap_stays n xs (take n xs) (λ j e s. get_or-take n xs j e s) h p k d low a b (omega (arith, few, m))
-
-pub heap_whole : (n : ℕ) (xs : List Dated) → n ≡ length xs → IsHeapWithin (lt_by_cmp by_turn) xs 0 n → IsHeap by_turn xs
-unfolding IsHeap
-heap_whole n xs e h = λ p k d low a b l. h p k d low a b (omega (arith, e, l))
 
 pub heap_to : (n : ℕ) (xs : List Dated) → n ≡ length xs → IsHeap by_turn xs → IsHeapWithin (lt_by_cmp by_turn) xs 0 n
 unfolding IsHeap

@@ -1,5 +1,5 @@
 -- Tasks that wait again.
-use Rattle.std.specs.Prelude.{ℕ, ◌||◌, List, Option, IsTrue}
+use Rattle.std.specs.Prelude.{ℕ, ◌||◌, ◌++◌, List, Option, IsTrue, map}
 use Rattle.std.specs.Option.{is_none, option_map, option_or}
 use Rattle.fol_model.specs.declared.tasks.Task.{Task}
 use Rattle.fol_queues.specs.declared.dated.Dated.{Dated}
@@ -8,6 +8,10 @@ use Rattle.fol_queues.specs.Waiting.{task_in}
 -- the task waits with this deadline
 abbrev pub dated_at : ℕ → Task → Dated
 dated_at deadline t = record { task = t; deadline = deadline }
+
+-- the tasks, and those that came back and wait with this deadline
+abbrev pub with_again : List Dated → List Task → ℕ → List Dated
+with_again ds again deadline = ds ++ map (dated_at deadline) again
 
 -- these tasks wait besides the others, with this deadline
 abbrev pub queued_again : ℕ → List Task → (ℕ → Option Dated) → ℕ → Option Dated

@@ -9,7 +9,7 @@ use Rattle.fol_queues.specs.Waiting.{is_due}
 -- the due tasks were moved, and their deadlines are gone
 pub record DueParted (now : ℕ) (xs left : List Dated) (out : List Task) : Type 0 where
   pub due : List Dated
-  pub tasks : out ≡ map (λ d. d.task) due
+  pub tasks : IsPermutation (map (λ d. d.task) due) out
   pub parted : Parted (is_due now) xs left due
 
 -- some due tasks were moved, and their deadlines are gone

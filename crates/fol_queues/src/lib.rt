@@ -9,6 +9,7 @@
 //! `reserve` takes memory. It serves the data of a region.
 #![tactic(auto)]
 
+mod again;
 mod dated;
 mod due;
 mod heap;

@@ -8,34 +8,39 @@ ghost use Rattle.fol_model.specs.ActionStep.{at_id};
 ghost use Rattle.fol_model.specs.FlatTick.{Rising};
 ghost use Rattle.fol_keyed.specs.Order.{chunk_cmp};
 
-use crate::{Dated, due, heap, walks};
+use crate::{Dated, again, due, heap, walks};
 use fol_keyed::ChunkList;
 use fol_model::{ChunkPos, Task};
 use std::alloc::{AllocError, Global};
 use std::marker::Model;
+use std::mem;
 
 /// The tasks that wait for the ticks of one region. Contracts see the tasks by number, and how many more it can accept.
 #[derive(Drop)]
 pub struct Queues {
+    /// A heap by deadline, with room for those that came back.
     tasks: Vec<Dated>,
-    /// So many of the first tasks are a heap. The others came back from a tick before one of them ran.
-    ordered: usize,
+    /// The due tasks of a tick that came back before one of them ran, by number.
+    again: Vec<Task>,
+    /// Those that came back wait with it.
+    deadline: u64,
 }
 
 impl Model for Queues {
-    ghost use Rattle.std.specs.Prelude.{◌-◌, vec_len};
+    ghost use Rattle.std.specs.Prelude.{◌+◌, ◌-◌, vec_len};
     ghost use Rattle.std.specs.Vec.{vec_capacity};
     ghost use Rattle.fol_queues.specs.Waiting.{Waiting};
+    ghost use Rattle.fol_queues.specs.Again.{with_again};
     ghost use Rattle.fol_queues.specs.Turn.{IsQueue};
 
     ghost Value = { Waiting };
 
     ghost view = { λ q. record {
-      tasks = q.tasks.items;
-      spare = vec_capacity q.tasks - vec_len q.tasks;
+      tasks = with_again q.tasks.items q.again.items q.deadline;
+      spare = vec_capacity q.tasks - (vec_len q.tasks + vec_len q.again);
     } };
 
-    ghost invariant = { λ q. IsQueue q.tasks.items q.ordered };
+    ghost invariant = { λ q. IsQueue q.tasks.items q.again.items q.deadline (vec_capacity q.tasks) };
 }
 
 impl Queues {
@@ -50,7 +55,8 @@ impl Queues {
     {
         Queues {
             tasks: Vec::new(alloc),
-            ordered: 0,
+            again: Vec::new(alloc),
+            deadline: 0,
         }
     }
 
@@ -58,14 +64,14 @@ impl Queues {
     pub fn is_empty(&self) -> bool
         ensures { IsTrue result ↔ (self.now.tasks ≡ []) }
     {
-        self.tasks.is_empty()
+        self.tasks.is_empty() && self.again.is_empty()
     }
 
     /// How many tasks wait.
     pub fn len(&self) -> u64
         ensures { result ≡ len_of self.now }
     {
-        self.tasks.len() as u64
+        (self.tasks.len() + self.again.len()) as u64
     }
 
     /// Makes `spare` at least `n`. The tasks stay either way.
@@ -74,7 +80,8 @@ impl Queues {
         ensures ok { OnOk result (n ≤ self.new.spare) }
         ensures spare { self.old.spare ≤ self.new.spare }
     {
-        self.tasks.reserve(n as usize)
+        self.tasks
+            .reserve(self.again.len().saturating_add(n as usize))
     }
 
     /// Adds a task that is due in the `delay`-th tick begun from now on, where the region has begun `begun` ticks so far.
@@ -89,29 +96,21 @@ impl Queues {
         ensures spare { self.old.spare ≤ self.new.spare + 1 }
     {
         let deadline = begun + delay as u64;
-        let dated = Dated { task, deadline };
-        if self.ordered == self.tasks.len() {
-            heap::push(&mut self.tasks, dated);
-            self.ordered += 1;
-        } else {
-            self.tasks.push_reserved(dated);
-        }
+        heap::push(&mut self.tasks, Dated { task, deadline });
     }
 
     /// How many tasks have their deadline at `now` or before.
     pub fn count_due(&self, now: u64) -> u64
         ensures { result ≡ due_count now self.now }
     {
-        let (heap, others) = self.tasks.split_at(self.ordered);
-        due::count_due(heap, now) + walks::count_due(others, now)
+        due::count_due(&self.tasks, now) + again::count_due(&self.again, self.deadline, now)
     }
 
-    /// Whether a task has its deadline at `now` or before. Looks at the first task and at those that came back.
+    /// Whether a task has its deadline at `now` or before. Looks at the first task of the heap.
     pub fn is_any_due(&self, now: u64) -> bool
         ensures { result ≡ nat_lt 0 (due_count now self.now) }
     {
-        let (heap, others) = self.tasks.split_at(self.ordered);
-        walks::count_due(others, now) > 0 || due::is_any_due(heap, now)
+        again::count_due(&self.again, self.deadline, now) > 0 || due::is_any_due(&self.tasks, now)
     }
 
     /// Moves the tasks whose deadline is at most `now` into `out`, in order of number. Takes no memory, and the room that they had is
@@ -128,13 +127,11 @@ impl Queues {
         ensures count { length out.new.items ≡ due_count now self.old }
         ensures spare { self.old.spare + length out.new.items ≤ self.new.spare }
     {
-        walks::move_due(&mut self.tasks, self.ordered, now, out);
-        self.ordered = self.tasks.len();
-        out.sort_unstable_by_key(|task| task.number);
+        walks::take_due(&mut self.tasks, &mut self.again, self.deadline, now, out);
     }
 
     /// Lets the due tasks of a tick of which none ran wait for the next tick of the region again, which has begun `begun` ticks then. Returns
-    /// their list, emptied. Takes no memory, and sorts nothing: they mostly go out again as they came.
+    /// an empty list. Takes no memory, and sorts nothing: they mostly go out again as they came.
     pub fn give_back(&mut self, due: Vec<Task>, begun: u64) -> Vec<Task>
         requires spare { length due.items ≤ self.old.spare }
         requires begun { begun ≤ 2 ^ 62 }
@@ -146,7 +143,9 @@ impl Queues {
         ensures empty { result.items ≡ [] }
     {
         let mut due = due;
-        walks::put_back(&mut self.tasks, &mut due, begun + 1);
+        again::put_back(&mut self.tasks, &mut self.again, self.deadline);
+        self.deadline = begun + 1;
+        mem::swap(&mut self.again, &mut due);
         due
     }
 
@@ -173,11 +172,12 @@ impl Queues {
         ensures into_spare { into.old.spare ≤ into.new.spare + count_listed chunks.now self.old }
     {
         let list = ChunkList::of(chunks);
+        again::put_back(&mut self.tasks, &mut self.again, self.deadline);
+        again::put_back(&mut into.tasks, &mut into.again, into.deadline);
+        let ordered = into.tasks.len();
         walks::move_listed(&mut self.tasks, &list, &mut into.tasks, offset);
         heap::build(&mut self.tasks);
-        self.ordered = self.tasks.len();
-        heap::restore(&mut into.tasks, into.ordered);
-        into.ordered = into.tasks.len();
+        heap::restore(&mut into.tasks, ordered);
     }
 
     /// How many tasks are on the chunks, which stand by z, and then by x.
@@ -185,7 +185,8 @@ impl Queues {
         requires { IsStrictlySortedBy chunk_cmp chunks.now }
         ensures { result ≡ count_listed chunks.now self.now }
     {
-        walks::count_listed(&self.tasks, &ChunkList::of(chunks))
+        let list = ChunkList::of(chunks);
+        walks::count_listed(&self.tasks, &list) + again::count_listed(&self.again, &list)
     }
 
     /// All tasks with their deadlines, in no stated order.
@@ -193,6 +194,6 @@ impl Queues {
         ensures tasks { result.items ≡ self.tasks }
         ensures distinct { Distinct result.items }
     {
-        self.tasks
+        again::joined(self.tasks, self.again, self.deadline)
     }
 }

@@ -1,19 +1,19 @@
 //! Walks over the tasks of a queue.
 
-ghost use Rattle.std.specs.Prelude.{◌≡◌, ◌+◌, ◌++◌, ◌<◌, ◌≤◌, ℕ, ℤ, pos, nat_abs, ◌+ℤ◌, ◌≤ℤ◌, ◌^◌, List, [], All, IsTrue, count_by, length, map, slice_index_or, vec_len};
-ghost use Rattle.std.specs.List.Sorted.{IsPermutation};
+ghost use Rattle.std.specs.Prelude.{◌≡◌, ◌+◌, ◌<◌, ◌≤◌, ℕ, ℤ, pos, nat_abs, ◌+ℤ◌, ◌≤ℤ◌, ◌^◌, List, [], All, IsTrue, count_by, length, slice_index_or, vec_len};
 ghost use Rattle.std.specs.Vec.{vec_capacity};
-ghost use Rattle.std.specs.Slice.Heapsort.{IsHeapWithin};
-ghost use Rattle.std.specs.BinaryHeap.{IsHeap, lt_by_cmp};
+ghost use Rattle.std.specs.BinaryHeap.{IsHeap};
+ghost use Rattle.fol_model.specs.FlatTick.{Rising};
 ghost use Rattle.fol_queues.specs.Waiting.{is_due, lies_listed, raised, IsRaisable};
-ghost use Rattle.fol_queues.specs.Again.{dated_at};
+ghost use Rattle.fol_queues.specs.Again.{with_again};
 ghost use Rattle.fol_queues.specs.Parted.{MovedInto, DueParted, IsTakingDue};
 ghost use Rattle.fol_queues.specs.declared.dated.Dated.{Dated};
-ghost use Rattle.fol_queues.specs.Turn.{by_turn};
+ghost use Rattle.fol_queues.specs.Turn.{by_turn, IsQueue};
 
-use crate::{Dated, heap};
+use crate::{Dated, again, due, heap};
 use fol_keyed::ChunkList;
 use fol_model::Task;
+use std::mem;
 
 /// How many of the tasks are on the chunks of the list.
 pub fn count_listed(tasks: &[Dated], list: &ChunkList) -> u64
@@ -25,52 +25,63 @@ pub fn count_listed(tasks: &[Dated], list: &ChunkList) -> u64
         .count() as u64
 }
 
-/// How many of the tasks are due.
-pub fn count_due(tasks: &[Dated], now: u64) -> u64
-    ensures { result ≡ count_by (is_due now) tasks.now }
-{
-    tasks.iter().filter(|task| task.deadline <= now).count() as u64
-}
-
-/// Moves the due tasks into `out`, those behind the first `ordered`, which are a heap, before the others. What stays is a heap.
-pub fn move_due(tasks: &mut Vec<Dated>, ordered: usize, now: u64, out: &mut Vec<Task>)
+/// Moves the due tasks into `out`, in order of number, where those that came back wait with this deadline. What stays is a heap. Where just these
+/// are due the lists change places, and nothing is sorted.
+pub fn take_due(
+    tasks: &mut Vec<Dated>,
+    again: &mut Vec<Task>,
+    deadline: u64,
+    now: u64,
+    out: &mut Vec<Task>,
+)
     requires empty { out.old.items ≡ [] }
-    requires room { count_by (is_due now) tasks.old.items ≤ vec_capacity out.old }
-    requires bound { ordered ≤ vec_len tasks.old }
-    requires heap { IsHeapWithin (lt_by_cmp by_turn) tasks.old.items 0 ordered }
-    ensures parted { DueParted now tasks.old.items tasks.new.items out.new.items }
+    requires room { count_by (is_due now) (with_again tasks.old.items again.old.items deadline)
+        ≤ vec_capacity out.old }
+    requires queue { IsQueue tasks.old.items again.old.items deadline (vec_capacity tasks.old) }
+    ensures none { again.new.items ≡ [] }
+    ensures parted { DueParted now (with_again tasks.old.items again.old.items deadline)
+        tasks.new.items out.new.items }
+    ensures rising { Rising out.new.items }
     ensures order { IsHeap by_turn tasks.new.items }
     ensures capacity { vec_capacity tasks.new ≡ vec_capacity tasks.old }
 {
-    move_behind(tasks, ordered, now, out);
-    heap::restore(tasks, ordered);
-    move_first(tasks, now, out);
+    if deadline <= now && !due::is_any_due(tasks, now) {
+        mem::swap(again, out);
+    } else {
+        move_again(tasks, again, deadline, now, out);
+        move_due(tasks, now, out);
+        out.sort_unstable_by_key(|task| task.number);
+    }
 }
 
-/// Moves the due tasks behind the first `ordered` into `out`, the last of them first.
-fn move_behind(tasks: &mut Vec<Dated>, ordered: usize, now: u64, out: &mut Vec<Task>)
+/// Moves those that came back into `out` where they are due, and else into the heap.
+fn move_again(
+    tasks: &mut Vec<Dated>,
+    again: &mut Vec<Task>,
+    deadline: u64,
+    now: u64,
+    out: &mut Vec<Task>,
+)
     requires empty { out.old.items ≡ [] }
-    requires room { count_by (is_due now) tasks.old.items ≤ vec_capacity out.old }
-    requires bound { ordered ≤ vec_len tasks.old }
-    requires heap { IsHeapWithin (lt_by_cmp by_turn) tasks.old.items 0 ordered }
-    ensures taking { IsTakingDue now tasks.old.items tasks.new.items out.new.items }
-    ensures bound { ordered ≤ vec_len tasks.new }
-    ensures heap { IsHeapWithin (lt_by_cmp by_turn) tasks.new.items 0 ordered }
+    requires room { count_by (is_due now) (with_again tasks.old.items again.old.items deadline)
+        ≤ vec_capacity out.old }
+    requires queue { IsQueue tasks.old.items again.old.items deadline (vec_capacity tasks.old) }
+    ensures none { again.new.items ≡ [] }
+    ensures taking { IsTakingDue now (with_again tasks.old.items again.old.items deadline)
+        tasks.new.items out.new.items }
+    ensures order { IsHeap by_turn tasks.new.items }
     ensures capacity { vec_capacity tasks.new ≡ vec_capacity tasks.old }
-    ensures out_capacity { vec_capacity out.new ≡ vec_capacity out.old }
+    ensures out_capacity { vec_capacity out.old ≤ vec_capacity out.new }
 {
-    let mut i = tasks.len();
-    while ordered < i {
-        i -= 1;
-        if tasks[i].deadline <= now {
-            let Dated { task, deadline: _ } = tasks.swap_remove(i);
-            out.push_reserved(task);
-        }
+    if deadline <= now {
+        again::move_into(again, out);
+    } else {
+        again::put_back(tasks, again, deadline);
     }
 }
 
 /// Moves the due tasks of a heap behind those in `out`, those that are due first before the others.
-fn move_first(tasks: &mut Vec<Dated>, now: u64, out: &mut Vec<Task>)
+fn move_due(tasks: &mut Vec<Dated>, now: u64, out: &mut Vec<Task>)
     requires room { length out.old.items + count_by (is_due now) tasks.old.items
         ≤ vec_capacity out.old }
     requires order { IsHeap by_turn tasks.old.items }
@@ -82,21 +93,6 @@ fn move_first(tasks: &mut Vec<Dated>, now: u64, out: &mut Vec<Task>)
     while !tasks.is_empty() && tasks[0].deadline <= now {
         let Dated { task, deadline: _ } = heap::take_first(tasks);
         out.push_reserved(task);
-    }
-}
-
-/// Moves tasks out of a list, the last one first, and lets each wait with this deadline.
-pub fn put_back(tasks: &mut Vec<Dated>, due: &mut Vec<Task>, deadline: u64)
-    requires room { vec_len tasks.old + length due.old.items ≤ vec_capacity tasks.old }
-    ensures none { due.new.items ≡ [] }
-    ensures back { IsPermutation (tasks.old.items ++ map (dated_at deadline) due.old.items)
-        tasks.new.items }
-    ensures first { (k : ℕ) (d : Dated) → k < length tasks.old.items
-        → slice_index_or tasks.new.items k d ≡ slice_index_or tasks.old.items k d }
-    ensures capacity { vec_capacity tasks.new ≡ vec_capacity tasks.old }
-{
-    while let Some(task) = due.pop() {
-        tasks.push_reserved(Dated { task, deadline });
     }
 }
 

@@ -8,6 +8,7 @@ pub mod Stirring
 pub mod WholeBag
 pub mod Taking
 pub mod Passing
+pub mod ManyTicks
 pub mod Putting
 pub mod Opening
 pub mod Drawing

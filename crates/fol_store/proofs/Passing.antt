@@ -2,7 +2,7 @@
 use Rattle.std.proofs.Common.{◌≡◌, ◌≢◌, ◌⊎◌, ◌&&◌, ℕ, ◌+◌, ◌-◌, ◌<◌, ◌≤◌, ◌^◌, Bool, true, false, List, [], ◌∷◌, length, refl, sym, ◌∙◌, ap, subst, inl, inr, arith, Option, Some, None, cond}
 use Rattle.std.specs.Prelude.{nat_eq, if◌then◌else◌, count_by}
 use Rattle.std.specs.Option.{option_map, unwrap_or, ForSome}
-use Rattle.std.proofs.lemmas.Bool.{cases_Bool, cases_eq, leb-false}
+use Rattle.std.proofs.lemmas.Bool.{cases_Bool, cases_eq, leb-true, leb-false}
 use Rattle.std.proofs.lemmas.List.Sums.{sum_by-cons}
 use Rattle.std.proofs.Math.Path.{fun_ext}
 use Rattle.fol_model.specs.declared.places.ChunkPos.{ChunkPos}
@@ -44,6 +44,23 @@ due_later now (x ∷ xs) c n d q =
             | inr y ↦ let l : now < x.deadline = leb-false x.deadline now y in omega (arith, l, ap (λ (z : Dated). z.deadline) is)
           ]
       | inr e ↦ due_later now xs (omega (arith, s, c)) n d (rw e at q)
+    ]
+
+-- where no task of a list is due, none was due before
+pub none_sooner : (now later : ℕ) (ds : List Dated) → now ≤ later → count_by (is_due later) ds ≡ 0 → count_by (is_due now) ds ≡ 0
+none_sooner now later [] l c = refl
+none_sooner now later (x ∷ xs) l c =
+    let a : count_by (is_due later) (x ∷ xs) ≡ cond (is_due later x) 1 0 + count_by (is_due later) xs = sum_by-cons (λ z. cond (is_due later z) 1 0) x xs in
+    let b : count_by (is_due now) (x ∷ xs) ≡ cond (is_due now x) 1 0 + count_by (is_due now) xs = sum_by-cons (λ z. cond (is_due now z) 1 0) x xs in
+    elim (cases_Bool (is_due later x)) [
+      | inl y ↦ let one : weight (is_due later x) ≡ weight true = ap weight y in absurd (omega (arith, a, one, c))
+      | inr y ↦
+          let far : later < x.deadline = leb-false x.deadline later y in
+          let rest : count_by (is_due now) xs ≡ 0 = none_sooner now later xs l (omega (arith, a, c)) in
+          elim (cases_Bool (is_due now x)) [
+            | inl z ↦ let near : x.deadline ≤ now = leb-true x.deadline now z in absurd (omega (arith, far, near, l))
+            | inr z ↦ let none : weight (is_due now x) ≡ weight false = ap weight z in omega (arith, b, none, rest)
+          ]
     ]
 
 -- an entity one tick later

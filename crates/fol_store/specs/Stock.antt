@@ -4,7 +4,7 @@ use Rattle.std.specs.Option.{option_or, unwrap_or}
 use Rattle.fol_model.specs.declared.places.ChunkPos.{ChunkPos}
 use Rattle.fol_model.specs.Job.{Job}
 use Rattle.fol_model.specs.ActionStep.{Flat}
-use Rattle.fol_queues.specs.Waiting.{due_count}
+use Rattle.fol_queues.specs.Waiting.{due_count, len_of}
 use Rattle.fol_queues.specs.declared.dated.Dated.{Dated}
 use Rattle.fol_data.specs.declared.region_data.RegionData.{RegionData}
 use Rattle.fol_bags.specs.declared.slot.Slot.{Slot}
@@ -73,6 +73,14 @@ bag_of s id = shown (slot s id)
 unfoldable pub next_of : Stock → ℕ
 next_of s = length s.bags
 
+-- how many tasks wait in the bag
+unfoldable pub waiting_of : Stock → ℕ → ℕ
+waiting_of s id = len_of (slot s id).body.queues
+
+-- how many tasks of the bag are due in the next so many ticks of its region
+unfoldable pub due_by : ℕ → Stock → ℕ → ℕ
+due_by n s id = due_count ((slot s id).body.tick + n) (slot s id).body.queues
+
 -- how many tasks of the bag are due in the next tick of its region
-unfoldable pub due_of : Stock → ℕ → ℕ
-due_of s id = due_count ((slot s id).body.tick + 1) (slot s id).body.queues
+abbrev pub due_of : Stock → ℕ → ℕ
+due_of s id = due_by 1 s id

@@ -1,6 +1,6 @@
 //! The store.
 
-ghost use Rattle.std.specs.Prelude.{nat_lt, ◌≡◌, ◌+◌, ◌≤◌, ◌<◌, ◌^◌, not, ◌||◌, true, false, ℕ, IsTrue, IsNone, IfOk, OnOk, OnErr, All};
+ghost use Rattle.std.specs.Prelude.{nat_lt, nat_le, if◌then◌else◌, ◌≡◌, ◌+◌, ◌≤◌, ◌<◌, ◌^◌, not, ◌||◌, true, false, ℕ, IsTrue, IsNone, IfOk, OnOk, OnErr, All};
 ghost use Rattle.std.specs.Option.{option_or, is_none, ForSome};
 ghost use Rattle.std.specs.List.Sorted.{IsStrictlySortedBy};
 ghost use Rattle.std.specs.Ordering.{nat_cmp};
@@ -8,7 +8,7 @@ ghost use Rattle.fol_model.specs.Geometry.{is_chunk};
 ghost use Rattle.fol_model.specs.World.{start, block_in, standing_in};
 ghost use Rattle.fol_model.specs.Job.{queued};
 ghost use Rattle.fol_model.specs.ActionStep.{at_id};
-ghost use Rattle.fol_queues.specs.Waiting.{dated, due_count, option_filter};
+ghost use Rattle.fol_queues.specs.Waiting.{dated, due_count, len_of, option_filter};
 ghost use Rattle.fol_chunks.specs.Contents.{flat_of as contents_of, within, outside, joined, Apart, is_recorded};
 ghost use Rattle.fol_chunks.specs.Order.{chunk_cmp};
 ghost use Rattle.fol_chunks.specs.Rows.{by_place, by_id};
@@ -79,7 +79,7 @@ impl Model for Store {
 }
 
 impl Store {
-    ghost use Rattle.fol_store.specs.Stock.{Stock, flat_of, jobs_of, bag_of, next_of, due_of};
+    ghost use Rattle.fol_store.specs.Stock.{Stock, flat_of, jobs_of, bag_of, next_of, due_of, due_by, waiting_of};
 
     /// Makes `spare` at least `tasks` and `slots` at least `bags`. Takes memory; all else stays either way.
     pub fn reserve(&mut self, tasks: u64, bags: u64) -> Result<(), AllocError>
@@ -157,22 +157,26 @@ impl Store {
         slots::is_whole(self.bags.slot(id as usize))
     }
 
-    /// At least as many as the tasks of a bag that are due in the next tick of its region: where few tasks wait there, none is looked at.
+    /// At least as many as the tasks of a bag that are due in the next tick of its region: where few tasks wait there, none is looked at, and it
+    /// is the number of all; else it is the number of those that are due.
     pub fn most_due(&self, id: u64) -> u64
         requires { (bag_of self.now id).here ≡ true }
-        ensures { due_of self.now id ≤ result }
+        ensures value { result ≡ (if nat_le (waiting_of self.now id) 256
+            then waiting_of self.now id
+            else due_of self.now id) }
+        ensures most { due_of self.now id ≤ result }
     {
         let slot = self.bags.slot(id as usize);
         due_at_most(&slot.body.queues, slot.body.tick + 1)
     }
 
-    /// Whether a task of a bag is due in the next tick of its region. Costs the same however many there are.
-    pub fn is_any_due(&self, id: u64) -> bool
+    /// Whether a task of a bag is due in the next so many ticks of its region. Costs the same however many there are.
+    pub fn is_any_due(&self, id: u64, ticks: u32) -> bool
         requires { (bag_of self.now id).here ≡ true }
-        ensures { result ≡ nat_lt 0 (due_of self.now id) }
+        ensures { result ≡ nat_lt 0 (due_by ticks self.now id) }
     {
         let slot = self.bags.slot(id as usize);
-        slot.body.queues.is_any_due(slot.body.tick + 1)
+        slot.body.queues.is_any_due(slot.body.tick + ticks as u64)
     }
 
     /// Says that the bag of a region has to be gathered anew, since other chunks are loaded.
@@ -295,9 +299,12 @@ impl Store {
     }
 }
 
-/// At least as many as the tasks that are due; all, where they are few.
+/// At least as many as the tasks that are due: all, where they are few, and else those that are due.
 fn due_at_most(queues: &Queues, now: u64) -> u64
-    ensures { due_count now queues.now ≤ result }
+    ensures value { result ≡ (if nat_le (len_of queues.now) 256
+        then len_of queues.now
+        else due_count now queues.now) }
+    ensures most { due_count now queues.now ≤ result }
 {
     let all = queues.len();
     if all <= FEW_TASKS {

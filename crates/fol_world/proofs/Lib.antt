@@ -51,3 +51,4 @@ pub mod OwnerRows
 pub mod EntityRows
 pub mod PartedBags
 pub mod QuietBags
+pub mod QuietTicks

@@ -1,24 +1,39 @@
-use Rattle.std.proofs.Common.{◌≡◌, ◌++◌, take, drop, length, arith}
-use Rattle.fol_keyed.proofs.Written.{written}
-use Rattle.fol_queues.specs.Parted.{IsTakingDue}
-use Rattle.fol_queues.proofs.Parting.{taking_again, taking_count}
-use Rattle.fol_queues.proofs.Turns.{restored}
+use Rattle.std.proofs.Common.{◌≡◌, ◌<◌, length, length-append, false, sym, ◌∙◌, ap, refl, arith, vec_len, ◌∷◌, []}
+use Rattle.std.proofs.lemmas.Bool.{eqb-true, eqb-false, lt-leb}
+use Rattle.std.proofs.lemmas.List.Elements.{at_read}
+use Rattle.fol_queues.specs.Waiting.{is_due}
+use Rattle.fol_queues.proofs.Parting.{due_moves, due_done, one_less}
+use Rattle.fol_queues.proofs.Turns.{due_at, none_due}
 use Rattle.fol_queues.proofs.walks.move_due.Goals as goal
 
--- the tasks, once they are a heap
-kept : (c : goal.After-move_first-arg-2-1) → take c.move_behind.new.tasks.len (c.restore.new.tasks ++ drop (length c.restore.new.tasks) c.move_behind.new.tasks.items) ≡ c.restore.new.tasks
-kept c = written c.move_behind.new.tasks.len c.restore.new.tasks c.move_behind.new.tasks.items (omega arith) (omega arith)
+pub loop-tasks-init : goal.loop-tasks-init
+loop-tasks-init c = record { taking = λ xs h. h; room = c.requires.room; order = c.requires.order; capacity = refl }
 
-taking : (c : goal.After-move_first-arg-2-1) → IsTakingDue c.args.now c.args.tasks.now.items c.restore.new.tasks c.move_behind.new.out.items
-taking c = taking_again c.args.now _ _ _ _ c.move_behind.ensures.taking (rw c.deref_mut.ensures.value at c.restore.ensures.same)
+pub push_reserved-requires : goal.push_reserved-requires
+push_reserved-requires c =
+    let due = due_at c.args.now c.loop-tasks.tasks.items 0 c.index.result.now c.take_first-task.result (omega arith) c.index.ensures c.if-index-now.true c.take_first-task.ensures.first in
+    omega (arith, c.loop-tasks.invariant.room, one_less (is_due c.args.now) _ _ c.take_first-task.result c.take_first-task.ensures.same due)
 
-pub move_first-requires-clause-room : goal.move_first-requires-clause-room
-move_first-requires-clause-room c = rw (kept c) (omega (arith, taking_count c.args.now _ _ _ (taking c), c.requires.room, c.move_behind.ensures.out_capacity))
+pub loop-tasks-preserved : goal.loop-tasks-preserved
+loop-tasks-preserved c =
+    let inv = c.loop-tasks.invariant in
+    let due = due_at c.args.now c.loop-tasks.tasks.items 0 c.index.result.now c.take_first-task.result (omega arith) c.index.ensures c.if-index-now.true c.take_first-task.ensures.first in
+    let less = one_less (is_due c.args.now) _ _ c.take_first-task.result c.take_first-task.ensures.same due in
+    record {
+      taking = λ xs h. due_moves c.args.now xs _ _ _ _ c.take_first-task.result (inv.taking xs h) c.take_first-task.ensures.same due c.push_reserved.ensures.items;
+      room = omega (arith, inv.room, less, ap length c.push_reserved.ensures.items, length-append c.loop-tasks.out.items (c.take_first-task.result.task ∷ []), c.push_reserved.ensures.capacity);
+      order = c.take_first-task.ensures.order;
+      capacity = c.take_first-task.ensures.capacity ∙ inv.capacity;
+    }
 
-pub move_first-requires-clause-order : goal.move_first-requires-clause-order
-move_first-requires-clause-order c = rw (kept c) (restored c.args.ordered c.move_behind.new.tasks.items c.restore.new.tasks (rw c.deref_mut.ensures.value at c.restore.ensures.order) c.move_behind.ensures.heap)
+pub returns-else-index-now-clause-parted : goal.returns-else-index-now-clause-parted
+returns-else-index-now-clause-parted c = λ xs h.
+    let not_empty : vec_len c.loop-tasks.tasks ≡ 0 → ⊥ = eqb-false (vec_len c.loop-tasks.tasks) 0 (sym c.is_empty.ensures ∙ c.loop-tasks-test.true) in
+    let some : 0 < length c.loop-tasks.tasks.items = omega arith in
+    let first = at_read c.loop-tasks.tasks.items (λ d. is_due c.args.now d ≡ false) 0 c.index.result.now some c.index.ensures (lt-leb _ c.args.now c.if-index-now.false) in
+    due_done c.args.now _ _ _ (c.loop-tasks.invariant.taking xs h) (none_due c.args.now _ c.loop-tasks.invariant.order (λ d l. first d))
 
-pub returns-clause-parted : goal.returns-clause-parted
-returns-clause-parted c =
-    let kept = written c.move_behind.new.tasks.len c.restore.new.tasks c.move_behind.new.tasks.items (omega arith) (omega arith) in
-    c.move_first.ensures.parted c.args.tasks.now.items (rw kept (taking_again c.args.now _ _ _ _ c.move_behind.ensures.taking (rw c.deref_mut.ensures.value at c.restore.ensures.same)))
+pub returns-after-loop-tasks-clause-parted : goal.returns-after-loop-tasks-clause-parted
+returns-after-loop-tasks-clause-parted c = λ xs h.
+    let empty : vec_len c.loop-tasks.tasks ≡ 0 = eqb-true (vec_len c.loop-tasks.tasks) 0 (sym c.is_empty.ensures ∙ c.loop-tasks-test.false) in
+    due_done c.args.now _ _ _ (c.loop-tasks.invariant.taking xs h) (none_due c.args.now _ c.loop-tasks.invariant.order (λ d l. absurd (omega arith)))

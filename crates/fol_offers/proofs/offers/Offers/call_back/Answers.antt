@@ -12,22 +12,22 @@ use Rattle.fol_offers.proofs.Facts.{prepared_on, waits_now}
 use Rattle.fol_offers.proofs.Tying.{came_back, tied_withdraws, tied_learns}
 use Rattle.fol_offers.proofs.offers.Offers.call_back.Goals as goal
 
-pub withdraw_in-is_ready-requires-clause-prepared : goal.withdraw_in-is_ready-requires-clause-prepared
-withdraw_in-is_ready-requires-clause-prepared c =
+pub withdraw_in-requires-clause-prepared : goal.withdraw_in-requires-clause-prepared
+withdraw_in-requires-clause-prepared c =
     let m : Meaning = c.self.inside.core in
     let marked : is_prepared m c.args.region ≡ true = subst (λ (v : Shown). is_prepared v.core c.args.region ≡ true) (sym c.self.view_is) c.requires.prepared in
     let w = came_back m c.self.inside.keeper c.try_keep.new.seat c.self.inside.places c.in-Some.i c.args.region c.body.result c.deref_mut.result.now c.self.invariant c.in-Some.ensures.some.0 c.in-Some.ensures.some.1 marked c.in-Kept.ensures.answer.1 c.body.ensures.old (c.into_tick-boxed.ensures ∙ ap (λ (t : Tick). Some t) (sym c.deref_mut.ensures.value)) in
     ap (is_prepared m) w.is.region ∙ marked
 
-pub withdraw_in-is_ready-requires-clause-tick : goal.withdraw_in-is_ready-requires-clause-tick
-withdraw_in-is_ready-requires-clause-tick c =
+pub withdraw_in-requires-clause-tick : goal.withdraw_in-requires-clause-tick
+withdraw_in-requires-clause-tick c =
     let m : Meaning = c.self.inside.core in
     let marked : is_prepared m c.args.region ≡ true = subst (λ (v : Shown). is_prepared v.core c.args.region ≡ true) (sym c.self.view_is) c.requires.prepared in
     let w = came_back m c.self.inside.keeper c.try_keep.new.seat c.self.inside.places c.in-Some.i c.args.region c.body.result c.deref_mut.result.now c.self.invariant c.in-Some.ensures.some.0 c.in-Some.ensures.some.1 marked c.in-Kept.ensures.answer.1 c.body.ensures.old (c.into_tick-boxed.ensures ∙ ap (λ (t : Tick). Some t) (sym c.deref_mut.ensures.value)) in
     waits_now m c.args.region c.deref_mut.result.now c.self.invariant.grid (search rules) w
 
-pub withdraw_in-is_ready-requires-clause-room : goal.withdraw_in-is_ready-requires-clause-room
-withdraw_in-is_ready-requires-clause-room c =
+pub withdraw_in-requires-clause-room : goal.withdraw_in-requires-clause-room
+withdraw_in-requires-clause-room c =
     let m : Meaning = c.self.inside.core in
     let marked : is_prepared m c.args.region ≡ true = subst (λ (v : Shown). is_prepared v.core c.args.region ≡ true) (sym c.self.view_is) c.requires.prepared in
     let w = came_back m c.self.inside.keeper c.try_keep.new.seat c.self.inside.places c.in-Some.i c.args.region c.body.result c.deref_mut.result.now c.self.invariant c.in-Some.ensures.some.0 c.in-Some.ensures.some.1 marked c.in-Kept.ensures.answer.1 c.body.ensures.old (c.into_tick-boxed.ensures ∙ ap (λ (t : Tick). Some t) (sym c.deref_mut.ensures.value)) in
@@ -36,13 +36,13 @@ withdraw_in-is_ready-requires-clause-room c =
 pub invariant_of-self : goal.invariant_of-self
 invariant_of-self c =
     let m : Meaning = c.self.inside.core in
-    let n : Meaning = c.withdraw_in-is_ready.new.self in
+    let n : Meaning = c.withdraw_in.new.self in
     let s : Keeper Offered = c.self.inside.keeper in
     let xs : List ℕ = c.self.inside.places in
     let i : ℕ = c.in-Some.i in
     let marked : is_prepared m c.args.region ≡ true = subst (λ (v : Shown). is_prepared v.core c.args.region ≡ true) (sym c.self.view_is) c.requires.prepared in
     let w = came_back m s c.try_keep.new.seat xs i c.args.region c.body.result c.deref_mut.result.now c.self.invariant c.in-Some.ensures.some.0 c.in-Some.ensures.some.1 marked c.in-Kept.ensures.answer.1 c.body.ensures.old (c.into_tick-boxed.ensures ∙ ap (λ (t : Tick). Some t) (sym c.deref_mut.ensures.value)) in
-    let did : Withdraws m n c.args.region = subst (λ (r : ℕ). Withdraws m n r) w.is.region c.withdraw_in-is_ready.ensures.withdrawn in
+    let did : Withdraws m n c.args.region = subst (λ (r : ℕ). Withdraws m n r) w.is.region c.withdraw_in.ensures.withdrawn in
     let at_end : c.body.new.seat ≡ keeping (keeping s i (place_at s i).offered) i (Some nothing) = c.body.ensures.seat ∙ ap (λ (x : Keeper Offered). keeping x i (Some c.nothing.result)) c.in-Kept.ensures.answer.1
     ∙ ap (λ (o : Offered). keeping (keeping s i (place_at s i).offered) i (Some o)) c.nothing.ensures in
     subst (λ (x : Keeper Offered). Tied n x c.clear.new.self) (sym at_end)
@@ -65,13 +65,13 @@ learn-requires-clause-on c =
 pub returns-in-Kept : goal.returns-in-Kept
 returns-in-Kept c =
     let m : Meaning = c.self.inside.core in
-    let n : Meaning = c.withdraw_in-is_ready.new.self in
+    let n : Meaning = c.withdraw_in.new.self in
     let k : Keeper Offered = c.body.new.seat in
     let old : Shown = record { core = m; slots = c.self.inside.keeper.slots; workers = c.self.inside.keeper.workers } in
     let new : Shown = record { core = n; slots = k.slots; workers = k.workers } in
     let marked : is_prepared m c.args.region ≡ true = subst (λ (v : Shown). is_prepared v.core c.args.region ≡ true) (sym c.self.view_is) c.requires.prepared in
     let w = came_back m c.self.inside.keeper c.try_keep.new.seat c.self.inside.places c.in-Some.i c.args.region c.body.result c.deref_mut.result.now c.self.invariant c.in-Some.ensures.some.0 c.in-Some.ensures.some.1 marked c.in-Kept.ensures.answer.1 c.body.ensures.old (c.into_tick-boxed.ensures ∙ ap (λ (t : Tick). Some t) (sym c.deref_mut.ensures.value)) in
-    let did : Withdraws m n c.args.region = subst (λ (r : ℕ). Withdraws m n r) w.is.region c.withdraw_in-is_ready.ensures.withdrawn in
+    let did : Withdraws m n c.args.region = subst (λ (r : ℕ). Withdraws m n r) w.is.region c.withdraw_in.ensures.withdrawn in
     let slots : k.slots ≡ c.self.inside.keeper.slots = ap (λ (x : Keeper Offered). x.slots) c.body.ensures.seat ∙ ap (λ (x : Keeper Offered). x.slots) c.in-Kept.ensures.answer.1 in
     let workers : k.workers ≡ c.self.inside.keeper.workers = ap (λ (x : Keeper Offered). x.workers) c.body.ensures.seat ∙ ap (λ (x : Keeper Offered). x.workers) c.in-Kept.ensures.answer.1 in
     subst (λ (v : Shown). CallsBack v new c.args.by (nat_eq c.args.region)) c.self.view_is (back_withdrawn old new c.args.by c.args.region slots workers did)

@@ -4,7 +4,7 @@ use Rattle.fol_queues.specs.Waiting.{due_count}
 use Rattle.fol_store.specs.contracts.store.Store.{the_view}
 use Rattle.fol_bags.specs.declared.slot.Slot.{Slot}
 use Rattle.fol_store.specs.Bag.{Bag}
-use Rattle.fol_store.specs.Stock.{slot, due_of}
+use Rattle.fol_store.specs.Stock.{slot, due_by}
 use Rattle.fol_bags.specs.Things.{IsTimely}
 use Rattle.fol_bags.proofs.OpenBags.{here_open}
 use Rattle.fol_store.proofs.BagSteps.{bag_slot}
@@ -24,8 +24,8 @@ overflow_add-slot c =
     omega arith
 
 pub returns : goal.returns
-unfolding due_of
+unfolding due_by
 returns c =
     let h : (slot (the_view c.self.inside) c.args.id).here ≡ true = sym (ap (λ (b : Bag). b.here) (bag_slot (the_view c.self.inside) c.args.id)) ∙ (rw (← c.self.view_is) at c.requires) in
     let e : c.slot-slot.result.now ≡ slot (the_view c.self.inside) c.args.id = c.slot-slot.ensures in
-    rw (← c.self.view_is) (c.is_any_due.ensures ∙ ap (λ (b : Slot). nat_lt 0 (due_count (b.body.tick + 1) b.body.queues)) e)
+    rw (← c.self.view_is) (c.is_any_due.ensures ∙ ap (λ (b : Slot). nat_lt 0 (due_count (b.body.tick + c.args.ticks) b.body.queues)) e)

@@ -7,7 +7,7 @@ use Rattle.fol_store.specs.Bag.{Bag, taken_out}
 use Rattle.fol_bags.specs.Slots.{slot_in}
 use Rattle.fol_bags.specs.Things.{Key, things, IsTimely}
 use Rattle.fol_queues.specs.Waiting.{due_count}
-use Rattle.fol_store.specs.Stock.{slot, shown, next_of, bag_of, due_of}
+use Rattle.fol_store.specs.Stock.{slot, shown, next_of, bag_of, due_by}
 use Rattle.fol_bags.proofs.Empty.{things_none, timely_empty}
 use Rattle.fol_bags.proofs.OpenBags.{here_open}
 use Rattle.fol_store.proofs.BagSteps.{bag_slot, bags_shown}
@@ -105,5 +105,5 @@ returns-clause-next c =
     rw (← c.self.view_is) long
 
 pub returns-clause-due : goal.returns-clause-due
-unfolding due_of
+unfolding due_by
 returns-clause-due c = rw (← c.self.view_is) (ap (λ (r : RegionData). due_count (r.tick + 1) r.queues) c.take_out.ensures.body)
