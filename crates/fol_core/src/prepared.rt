@@ -9,7 +9,7 @@ ghost use Rattle.fol_regions.specs.Touched.{is_touched};
 ghost use Rattle.fol_store.specs.Stock.{bag_of};
 ghost use Rattle.fol_core.specs.Ahead.{Learns, NonePrepared, PreparedAreReady, Prepares, Withdraws, may_touch};
 ghost use Rattle.fol_core.specs.Answers.{is_free, is_over};
-ghost use Rattle.fol_core.specs.Meaning.{IsReadyToBegin, Stays, is_prepared, mark_count, world_of};
+ghost use Rattle.fol_core.specs.Meaning.{IsReadyToBegin, Nothing, Stays, is_prepared, mark_count, world_of};
 ghost use Rattle.fol_core.specs.Ticks.{IsTick};
 ghost use Rattle.fol_core.specs.Undone.{IsRoomAgain};
 
@@ -123,7 +123,7 @@ impl Core {
 
     /// Takes the tick of a prepared region back, unchanged since `prepare`. The region is prepared no more, and all is as it was before
     /// it was prepared. Returns whether the region is ready to begin again; it is not where what lies on its chunks has to be gathered
-    /// first, nor once the history is over. Takes no memory, and costs the due tasks of the tick.
+    /// first, where the list that comes back is too short for the due tasks, nor once the history is over. Takes no memory, and costs the due tasks of the tick.
     pub fn withdraw(&mut self, tick: Tick) -> bool
         requires prepared { is_prepared self.old tick.region ≡ true }
         requires tick { IsTick (world_of self.old) tick.begun 0 tick.region tick }
@@ -143,6 +143,7 @@ impl Core {
         requires room { length tick.old.due ≤ tick.old.body.queues.spare }
         ensures withdrawn { Withdraws self.old self.new tick.old.region }
         ensures empty { tick.new.due ≡ [] }
+        ensures unready { self.new.room ≡ Nothing }
     {
         let _is_ready = self.take_back(tick);
         tick.due = Sequence::of(self.give_up_room());
@@ -168,6 +169,7 @@ impl Core {
     fn give_up_room(&mut self) -> Vec<Task>
         ensures stays { Stays self.old self.new }
         ensures empty { result.items ≡ [] }
+        ensures unready { self.new.room ≡ Nothing }
     {
         match self.room.take() {
             Some(Room::Begin { id: _, due }) => due,

@@ -53,8 +53,22 @@ fn is_first(rt: &impl Abort, tick: &Tick) {
     assert_eq!(rt; (tick.next, tick.moved), (0, false));
 }
 
-/// Makes the tick of region 1 and takes it back.
-fn takes_back(rt: &impl Abort, core: &mut Core)
+/// Takes the room that the next Begin of region 1 needs.
+fn makes_ready(rt: &impl Abort, alloc: Global, core: &mut Core)
+    requires none { NonePrepared core.old }
+    ensures opening { core.new.opening ≡ core.old.opening }
+    ensures none { NonePrepared core.new }
+    ensures ready { IsReadyToBegin core.new 1 }
+{
+    assert!(rt; core.state(1).is_some());
+    match core.reserve(alloc, 1) {
+        Ok(()) => {}
+        Err(_) => panic!(rt; "memory"),
+    }
+}
+
+/// Makes the tick of region 1 and takes it back. The list that comes back may have no room for the due tasks; then the region is made ready once more.
+fn takes_back(rt: &impl Abort, alloc: Global, core: &mut Core)
     requires ready { IsReadyToBegin core.old 1 }
     requires none { NonePrepared core.old }
     ensures opening { core.new.opening ≡ core.old.opening }
@@ -68,7 +82,9 @@ fn takes_back(rt: &impl Abort, core: &mut Core)
     assert_eq!(rt; core.state(1), Some(State::Ready));
     assert_eq!(rt; core.next_owing(1), Some(2));
     touches(rt, core, BETWEEN, &[1, 2]);
-    assert!(rt; core.withdraw(early));
+    if !core.withdraw(early) {
+        makes_ready(rt, alloc, core);
+    }
 }
 
 /// Makes the tick of region 1, takes it back, makes it once more, and then records its Begin by worker 1, to whom the tick is given.
@@ -78,12 +94,8 @@ fn begins_late(rt: &impl Abort, alloc: Global, core: &mut Core) -> Tick
     ensures opening { core.new.opening ≡ core.old.opening }
     ensures none { NonePrepared core.new }
 {
-    assert!(rt; core.state(1).is_some());
-    match core.reserve(alloc, 1) {
-        Ok(()) => {}
-        Err(_) => panic!(rt; "memory"),
-    }
-    takes_back(rt, core);
+    makes_ready(rt, alloc, core);
+    takes_back(rt, alloc, core);
     assert!(rt; !core.is_over());
     assert!(rt; core.next_owing(1) == Some(1));
     let mut tick = core.prepare(1);

@@ -4,11 +4,8 @@ use Rattle.fol_laws.proofs.FunctionsChanged.{at_here}
 use Rattle.fol_core.specs.Answers.{is_free, is_over}
 use Rattle.fol_core.specs.Meaning.{Meaning, is_prepared, world_of}
 use Rattle.fol_tick_laws.proofs.OpenTicks.{learnt_opens, may_begin, untouched_here, untouched_same}
-use Rattle.fol_tick_laws.proofs.Unprepared.{none_learnt, still_none}
+use Rattle.fol_tick_laws.proofs.Unprepared.{none_learnt}
 use Rattle.fol_tick_laws.proofs.early.begins_late.Goals as goal
-
-pub takes_back-requires-clause-none : goal.takes_back-requires-clause-none
-takes_back-requires-clause-none g c = still_none c.args.core.now c.reserve.new.self c.in-Ok.ensures.same.prepared c.requires.none
 
 pub learn-requires-clause-prepared : goal.learn-requires-clause-prepared
 learn-requires-clause-prepared g c = ap (λ (p : ℕ → Bool). p 1) c.prepare-tick.ensures.prepared.prepared ∙ at_here (is_prepared c.takes_back.new.core) 1 _
