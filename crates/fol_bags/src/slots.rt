@@ -374,19 +374,7 @@ fn walk(list: &mut ChunkSet, chunks: &mut Chunks, ticks: u32)
 {
     if !chunks.is_still() {
         list.settle_for(chunks.walkers());
-        stride(list, chunks, ticks);
-    }
-}
-
-/// Moves the entities so many times by their speeds, where they stay on these chunks.
-fn stride(list: &ChunkSet, chunks: &mut Chunks, ticks: u32)
-    requires order { IsStrictlySortedBy chunk_cmp list.now }
-    requires places { All (λ c. IsTrue (is_chunk c)) list.now }
-    ensures { flat_of chunks.new
-        ≡ iterate (moved (is_recorded list.now)) ticks (flat_of chunks.old) }
-{
-    for _tick in 0..ticks {
-        chunks.step_entities(list);
+        chunks.step_entities(list, ticks);
     }
 }
 

@@ -8,3 +8,5 @@ pub mod Areas
 pub mod Speeds
 pub mod Strides
 pub mod Owing
+pub mod Masks
+pub mod Often

@@ -1,5 +1,5 @@
 -- Entities to which movements are owed.
-use Rattle.std.proofs.Common.{◌≡◌, ℕ, zero, suc, ◌+◌, add-one, Bool, not, List, [], ◌∷◌, map, refl, sym, ◌∙◌, ap, inl, inr, true, false, Some}
+use Rattle.std.proofs.Common.{◌≡◌, ℕ, zero, suc, ◌+◌, add-zero, arith, Bool, not, List, [], ◌∷◌, map, refl, sym, ◌∙◌, ap, inl, inr, true, false, Some}
 use Rattle.std.specs.Prelude.{◌+ℤ◌, nat_eq, ◌&&◌}
 use Rattle.std.specs.Fn.{iterate}
 use Rattle.std.specs.List.{AllByRecursion}
@@ -33,8 +33,12 @@ one_more : (area : Area) (n : ℕ) (es : List Entity) → map (iterate (stepped_
 one_more area n [] = refl
 one_more area n (e ∷ es) = ap (λ f. f ∷ map (iterate (stepped_in area) (suc n)) es) (iterate_more (stepped_in area) n e) ∙ ap (λ l. stepped_in area (iterate (stepped_in area) n e) ∷ l) (one_more area n es)
 
-pub one_owed : (area : Area) (n : ℕ) (es : List Entity) → map (iterate (stepped_in area) (n + 1)) es ≡ map (stepped_in area) (map (iterate (stepped_in area) n) es)
-one_owed area n es = ap (λ k. map (iterate (stepped_in area) k) es) (add-one n) ∙ one_more area n es
+-- many more are owed
+pub more_owed : (area : Area) (m n : ℕ) (es : List Entity) → map (iterate (stepped_in area) (n + m)) es ≡ iterate (map (stepped_in area)) m (map (iterate (stepped_in area) n) es)
+more_owed area zero n es = ap (λ k. map (iterate (stepped_in area) k) es) (add-zero n)
+more_owed area (suc m) n es =
+    let sum : n + suc m ≡ suc n + m = omega arith in
+    ap (λ k. map (iterate (stepped_in area) k) es) sum ∙ more_owed area m (suc n) es ∙ ap (iterate (map (stepped_in area)) m) (one_more area n es)
 
 -- two areas of which each side is the same
 pub area_same : (a b : Area) → not (int_eq a.west b.west && (int_eq a.east b.east && (int_eq a.north b.north && int_eq a.south b.south))) ≡ false → a ≡ b

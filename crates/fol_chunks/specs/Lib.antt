@@ -5,3 +5,4 @@ pub mod Rows
 pub mod Crowds
 pub mod Tallies
 pub mod Areas
+pub mod Masks

@@ -1,6 +1,6 @@
 //! The blocks of a rectangle of chunks, and many steps of an entity there at once.
 
-ghost use Rattle.std.specs.Prelude.{◌≡◌, ◌+◌, ◌≤◌, ◌<◌, ℕ, ℤ, pos, ◌+ℤ◌, ◌*ℤ◌, true, false, IfSome, FitsSigned};
+ghost use Rattle.std.specs.Prelude.{◌≡◌, ◌+◌, ◌≤◌, ◌<◌, ◌/◌, ℕ, min, ℤ, pos, ◌+ℤ◌, ◌*ℤ◌, true, false, IfSome, FitsSigned};
 ghost use Rattle.std.specs.Int.{w32};
 ghost use Rattle.std.specs.Fn.{iterate};
 ghost use Rattle.fol_model.specs.Geometry.{chunk_of as chunk_around};
@@ -97,7 +97,21 @@ fn reach(at: i32, speed: i32, low: i32, high: i32, most: u32) -> u32
         return most;
     }
     let side = if speed < 0 { low } else { high };
-    most.min(side.abs_diff(at) / speed.unsigned_abs())
+    times(side.abs_diff(at), speed.unsigned_abs(), most)
+}
+
+/// How often the second number goes into the first, but at most so many times. To tell whether it goes once takes no division.
+fn times(whole: u32, part: u32, most: u32) -> u32
+    requires { 0 < part }
+    ensures { result ≡ min most (whole / part) }
+{
+    if most != 1 {
+        most.min(whole / part)
+    } else if part <= whole {
+        1
+    } else {
+        0
+    }
 }
 
 /// A number after so many steps by this speed.

@@ -1,6 +1,7 @@
 //! The blocks and entities of a region.
 
 ghost use Rattle.std.specs.Prelude.{◌≡◌, ◌+◌, ◌<◌, ◌≤◌, ℕ, ◌++◌, ◌↔◌, nat_eq, count_by, IsTrue, IsNone, IfOk, OnOk, All};
+ghost use Rattle.std.specs.Fn.{iterate};
 ghost use Rattle.std.specs.Option.{option_map, option_len};
 ghost use Rattle.std.specs.List.{IsDistinct};
 ghost use Rattle.std.specs.List.Sorted.{IsStrictlySortedBy};
@@ -221,16 +222,17 @@ impl Chunks {
         }
     }
 
-    /// Moves the entities that stand in recorded chunks by their speeds, where they stay in recorded chunks. Takes no memory.
-    pub fn step_entities(&mut self, chunks: &ChunkSet)
+    /// Moves the entities that stand in recorded chunks so many times by their speeds, where they stay in recorded chunks. Takes no memory.
+    pub fn step_entities(&mut self, chunks: &ChunkSet, ticks: u32)
         requires order { IsStrictlySortedBy chunk_cmp chunks.now }
         requires places { All (λ c. IsTrue (is_chunk c)) chunks.now }
-        ensures moved { flat_of self.new ≡ moved (is_recorded chunks.now) (flat_of self.old) }
+        ensures moved { flat_of self.new
+            ≡ iterate (moved (is_recorded chunks.now)) ticks (flat_of self.old) }
         ensures size { size_of self.new ≡ size_of self.old }
         ensures spare { self.old.spare ≤ self.new.spare }
     {
         match &mut self.held {
-            Some(held) => held.step_entities(chunks),
+            Some(held) => held.step_entities(chunks, ticks),
             None => {}
         }
     }

@@ -2,6 +2,7 @@
 //! number in each chunk, so that chunks in which none of them stands cost a look-up each.
 
 ghost use Rattle.std.specs.Prelude.{◌≡◌, ℕ, ◌+◌, ◌≤◌, ◌<◌, ◌^◌, ◌++◌, ◌↔◌, ◌||◌, not, [], nat_eq, length, count_by, IsTrue, IsNone, IfOk, OnOk, All};
+ghost use Rattle.std.specs.Fn.{iterate};
 ghost use Rattle.std.specs.Option.{option_map, option_len, option_or, is_none};
 ghost use Rattle.std.specs.List.{IsDistinct};
 ghost use Rattle.std.specs.List.Sorted.{IsStrictlySortedBy};
@@ -14,7 +15,7 @@ ghost use Rattle.fol_keyed.specs.Members.{is_listed};
 ghost use Rattle.fol_keyed.specs.Options.{option_filter};
 ghost use Rattle.fol_chunks.specs.Contents.{entity_of, is_recorded};
 ghost use Rattle.fol_chunks.specs.Rows.{by_id};
-ghost use Rattle.fol_chunks.specs.Crowds.{is_still, walks};
+ghost use Rattle.fol_chunks.specs.Crowds.{all_walked, is_still, walks};
 
 use crate::counted::Counted;
 use crate::entity_list;
@@ -138,17 +139,17 @@ impl Entities {
         }
     }
 
-    /// Moves the entities that stand in recorded chunks by their speeds, where they stay in recorded chunks. Costs only those that have a
+    /// Moves the entities that stand in recorded chunks so many times by their speeds, where they stay in recorded chunks. Costs only those that have a
     /// speed. Takes no memory.
-    pub fn step(&mut self, chunks: &ChunkSet)
+    pub fn step(&mut self, chunks: &ChunkSet, ticks: u32)
         requires order { IsStrictlySortedBy chunk_cmp chunks.now }
         requires places { All (λ c. IsTrue (is_chunk c)) chunks.now }
         ensures moved { standing_in self.new.members
-            ≡ λ id. walked (is_recorded chunks.now) (standing_in self.old.members id) }
+            ≡ iterate (all_walked (is_recorded chunks.now)) ticks (standing_in self.old.members) }
         ensures len { length self.new.members ≡ length self.old.members }
         ensures spare { self.old.spare ≤ self.new.spare }
     {
-        self.walking.step(chunks);
+        self.walking.step(chunks, ticks);
     }
 
     /// Adds all entities to a list, in no stated order.

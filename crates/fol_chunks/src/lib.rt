@@ -10,6 +10,7 @@
 //!
 //! Entities that have a speed move only when somebody looks at one: where the recorded chunks are a rectangle, a movement is noted at the cost of
 //! a look at each chunk, and all that are noted are made at once, by a division for each axis, when an entity is looked for, comes or leaves.
+//! Where they are no rectangle, each entity moves at once; chunks that lie near each other are looked up in bits then.
 #![tactic(auto)]
 
 mod area;
@@ -19,6 +20,7 @@ mod entities;
 mod entity_list;
 mod held;
 mod lookup;
+mod mask;
 mod owed;
 mod steps;
 mod tally;

@@ -1,6 +1,7 @@
 //! Movements that entities have still to make.
 
 ghost use Rattle.std.specs.Prelude.{◌≡◌, ◌+◌, ◌≤◌, ◌++◌, length, map, vec_len, count_by, OnOk};
+ghost use Rattle.std.specs.Fn.{iterate};
 ghost use Rattle.std.specs.Vec.{vec_capacity};
 ghost use Rattle.fol_model.specs.Geometry.{chunk_of as chunk_around};
 ghost use Rattle.fol_keyed.specs.Members.{is_listed};
@@ -92,17 +93,17 @@ impl Owed {
         count
     }
 
-    /// Adds a movement inside an area, which costs nothing where it is the area of those that are owed already. Else these are made.
-    pub fn add(&mut self, area: Area, entities: &mut Vec<Entity>)
+    /// Adds so many movements inside an area, which costs nothing where it is the area of those that are owed already. Else these are made.
+    pub fn add(&mut self, area: Area, steps: u32, entities: &mut Vec<Entity>)
         ensures paid { map (paid self.new) entities.new.items
-            ≡ map (stepped_in area) (map (paid self.old) entities.old.items) }
+            ≡ iterate (map (stepped_in area)) steps (map (paid self.old) entities.old.items) }
         ensures len { vec_len entities.new ≡ vec_len entities.old }
         ensures capacity { vec_capacity entities.new ≡ vec_capacity entities.old }
     {
-        if self.area != area || self.steps == u32::MAX {
+        if self.area != area || u32::MAX - self.steps < steps {
             self.settle(entities);
             self.area = area;
         }
-        self.steps += 1;
+        self.steps += steps;
     }
 }

@@ -1,6 +1,7 @@
 //! Entities that have a speed, which move only when somebody looks at them.
 
 ghost use Rattle.std.specs.Prelude.{◌≡◌, ℕ, ◌+◌, ◌≤◌, ◌<◌, ◌^◌, ◌++◌, ◌↔◌, ◌||◌, not, [], length, vec_len, map, count_by, IsTrue, IsNone, OnOk, All};
+ghost use Rattle.std.specs.Fn.{iterate};
 ghost use Rattle.std.specs.Vec.{vec_capacity};
 ghost use Rattle.std.specs.Option.{option_map, option_len, option_or, is_none};
 ghost use Rattle.std.specs.List.Sorted.{IsStrictlySortedBy};
@@ -10,7 +11,6 @@ ghost use Rattle.fol_model.specs.World.{standing_in};
 ghost use Rattle.fol_keyed.specs.Order.{chunk_cmp};
 ghost use Rattle.fol_keyed.specs.Members.{is_listed};
 ghost use Rattle.fol_keyed.specs.Options.{option_filter};
-ghost use Rattle.fol_chunks.specs.Areas.{stepped_in};
 ghost use Rattle.fol_chunks.specs.Contents.{entity_of, is_recorded};
 ghost use Rattle.fol_chunks.specs.Rows.{by_id, stepped};
 
@@ -127,20 +127,20 @@ impl Walkers {
         entity_list::put(&mut self.list, entity);
     }
 
-    /// Moves those that stand in recorded chunks by their speeds, where they stay in recorded chunks. Costs no entity where the chunks are
+    /// Moves those that stand in recorded chunks so many times by their speeds, where they stay in recorded chunks. Costs no entity where the chunks are
     /// the rectangle that they were at the last movement, but only a look at each chunk. Takes no memory.
-    pub fn step(&mut self, chunks: &ChunkSet)
+    pub fn step(&mut self, chunks: &ChunkSet, ticks: u32)
         requires order { IsStrictlySortedBy chunk_cmp chunks.now }
         requires places { All (λ c. IsTrue (is_chunk c)) chunks.now }
         ensures moved { self.new.members
-            ≡ map (stepped (is_recorded chunks.now)) self.old.members }
+            ≡ iterate (map (stepped (is_recorded chunks.now))) ticks self.old.members }
         ensures spare { self.old.spare ≤ self.new.spare }
     {
         match steps::area_for(self.list.len(), chunks) {
-            Some(area) => self.owed.add(area, &mut self.list),
+            Some(area) => self.owed.add(area, ticks, &mut self.list),
             None => {
                 self.owed.settle(&mut self.list);
-                steps::step_all(&mut self.list, chunks);
+                steps::step_all(&mut self.list, chunks, ticks);
             }
         }
     }

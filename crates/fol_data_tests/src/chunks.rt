@@ -32,7 +32,7 @@ fn walker(id: u32, x: i32, vx: i32) -> Entity
 /// Moves the entities on these two chunks.
 fn step(chunks: &mut Chunks, alloc: Global) -> Result<(), AllocError> {
     let recorded = vec![in alloc; ChunkPos { x: 0, z: 0 }, ChunkPos { x: 1, z: 0 }]?;
-    chunks.step_entities(&ChunkSet::of(alloc, recorded));
+    chunks.step_entities(&ChunkSet::of(alloc, recorded), 1);
     Ok(())
 }
 
@@ -98,7 +98,7 @@ fn step_in_corner(chunks: &mut Chunks, alloc: Global) -> Result<(), AllocError> 
         ChunkPos { x: 1, z: 0 },
         ChunkPos { x: 0, z: 1 },
     ]?;
-    chunks.step_entities(&ChunkSet::of(alloc, recorded));
+    chunks.step_entities(&ChunkSet::of(alloc, recorded), 1);
     Ok(())
 }
 

@@ -32,7 +32,7 @@ pub fn run_tick<H: Host>(alloc: Global, tick: &mut Tick, host: &mut H) -> Result
 {
     run_due(alloc, tick, host)?;
     tick.chunks.settle_for(tick.body.chunks.walkers());
-    tick.body.chunks.step_entities(&tick.chunks);
+    tick.body.chunks.step_entities(&tick.chunks, 1);
     tick.moved = true;
     Ok(())
 }

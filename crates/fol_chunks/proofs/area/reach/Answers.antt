@@ -12,7 +12,7 @@ returns-clause-inside c = λ k l.
     let speed : FitsSigned w32 c.args.speed = search rules in
     let low : FitsSigned w32 c.args.low = search rules in
     let high : FitsSigned w32 c.args.high = search rules in
-    let most : c.min.result ≤ c.abs_diff.result / c.unsigned_abs.result = omega (arith, c.min.ensures) in
+    let most : c.times.result ≤ c.abs_diff.result / c.unsigned_abs.result = omega (arith, c.times.ensures) in
     elim c.if-speed-lt0.branch [
       | then-speed-lt0 w ↦
           let back : c.args.speed <ℤ pos 0 = omega (arith, ints, w.if-speed-lt0.true) in
@@ -32,7 +32,7 @@ returns-clause-end c = λ l.
     let speed : FitsSigned w32 c.args.speed = search rules in
     let low : FitsSigned w32 c.args.low = search rules in
     let high : FitsSigned w32 c.args.high = search rules in
-    let all : c.min.result ≡ c.abs_diff.result / c.unsigned_abs.result = omega (arith, c.min.ensures, l) in
+    let all : c.times.result ≡ c.abs_diff.result / c.unsigned_abs.result = omega (arith, c.times.ensures, l) in
     elim c.if-speed-lt0.branch [
       | then-speed-lt0 w ↦
           let back : c.args.speed <ℤ pos 0 = omega (arith, ints, w.if-speed-lt0.true) in
