@@ -26,15 +26,17 @@ use std::alloc::{AllocError, Global};
 impl Core {
     /// The Ready regions, prepared ones among them, that an event on this chunk may touch, rising: the one that owns the section of the
     /// chunk and, where an added hold would make sections present, those near it. Looks where a load does, never at all regions. Fails
-    /// only when out of memory. Each prepared region is Ready, so one that is not among them is not touched.
-    pub fn touched(&self, c: ChunkPos) -> Result<Vec<u64>, AllocError>
+    /// only when out of memory. Each prepared region is Ready, so one that is not among them is not touched. The core keeps what it found for
+    /// a load of the chunk that follows; it stays ready for what it was ready for. Takes memory for the list alone.
+    pub fn touched(&mut self, c: ChunkPos) -> Result<Vec<u64>, AllocError>
         requires in_range { IsTrue (is_chunk c) }
-        ensures ready { PreparedAreReady self.now }
-        ensures listed { IfOk result (λ ids. ids.items ≡ filter (may_touch (world_of self.now) c)
-            (numbers_below (world_of self.now).grid.next)) }
+        ensures same { self.new ≡ self.old }
+        ensures ready { PreparedAreReady self.old }
+        ensures listed { IfOk result (λ ids. ids.items ≡ filter (may_touch (world_of self.old) c)
+            (numbers_below (world_of self.old).grid.next)) }
     {
         let home = section_of(&self.tables.grid, c);
-        let mut ids = list_touched(self.alloc, &self.tables.regions, home, c)?;
+        let mut ids = list_touched(self.alloc, &mut self.tables.regions, home, c)?;
         ids.retain(|id| self.is_ready(*id));
         Ok(ids)
     }
@@ -182,14 +184,15 @@ impl Core {
 /// The regions that an event on a chunk of this section may touch, rising.
 fn list_touched(
     alloc: Global,
-    regions: &Regions,
+    regions: &mut Regions,
     home: SectionPos,
     c: ChunkPos,
 ) -> Result<Vec<u64>, AllocError>
     requires in_range { IsTrue (is_chunk c) }
-    requires home { home ≡ section_around (grid_state regions.now).grid c }
-    ensures { IfOk result (λ ids. ids.items ≡ filter (is_touched (grid_state regions.now) c)
-        (numbers_below (grid_state regions.now).next)) }
+    requires home { home ≡ section_around (grid_state regions.old).grid c }
+    ensures listed { IfOk result (λ ids. ids.items ≡ filter (is_touched (grid_state regions.old) c)
+        (numbers_below (grid_state regions.old).next)) }
+    ensures same { regions.new ≡ regions.old }
 {
     let Some(id) = owner_if_held(regions, home, c) else {
         return regions.touched(alloc, c);

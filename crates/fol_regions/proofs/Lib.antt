@@ -22,3 +22,4 @@ pub mod DyingSteps
 pub mod DeadKept
 pub mod BoundSteps
 pub mod TouchedSteps
+pub mod NearbySteps

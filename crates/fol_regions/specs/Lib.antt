@@ -1,4 +1,5 @@
 pub mod Near
+pub mod Nearby
 pub mod Table
 pub mod Changes
 pub mod Added

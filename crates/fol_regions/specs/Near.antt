@@ -4,6 +4,7 @@ use Rattle.std.specs.List.{list_any}
 use Rattle.fol_model.specs.declared.places.SectionPos.{SectionPos}
 use Rattle.fol_model.specs.Geometry.{is_within}
 use Rattle.fol_model.specs.Universe.{from, numbers_below, some_section}
+use Rattle.fol_region_tables.specs.Book.{Book, owner_of}
 use Rattle.fol_region_tables.specs.Links.{with_id}
 
 -- n sections in a row, that many rows behind the first one
@@ -25,6 +26,10 @@ regions_of owner next sections = filter (has_one owner sections) (numbers_below 
 -- the region has a section within a radius
 abbrev pub is_close : (SectionPos → ℕ) → SectionPos → ℕ → ℕ → Bool
 is_close owner home reach r = nat_lt 0 r && some_section (λ s. nat_eq (owner s) r && is_within home reach s)
+
+-- the regions with a section within a radius, rising
+abbrev pub near_ids : Book → SectionPos → ℕ → List ℕ
+near_ids b home reach = filter (is_close (owner_of b) home reach) (numbers_below b.next)
 
 -- an id more, unless it is 0 or there
 abbrev pub noted : ℕ → List ℕ → List ℕ

@@ -17,11 +17,12 @@ ghost use Rattle.fol_pages.specs.Pages.{LieIn};
 ghost use Rattle.fol_regions.specs.Added.{IsChoice, Gathers, Grows, Waits, bare, calm_size, extended_change, gathered, is_calm, is_drawn, is_id};
 ghost use Rattle.fol_regions.specs.Answers.{add_answer};
 ghost use Rattle.fol_regions.specs.Changes.{add_change, into, nothing};
+ghost use Rattle.fol_regions.specs.Nearby.{StillStands};
 ghost use Rattle.fol_regions.specs.Released.{IsPresence, grid_of};
 ghost use Rattle.fol_region_tables.specs.Book.{owner_of, ahead_of, HasRoomFor, SetsState};
 ghost use Rattle.fol_region_tables.specs.Book.{is_live, state_of, waits_of};
 
-use crate::near::NearRegions;
+use crate::nearby::Nearby;
 use crate::{AddAnswer, Change};
 use fol_model::{ChunkPos, Grid, MOST_SECTIONS, SectionPos, State, section_of};
 use fol_region_tables::Tables;
@@ -185,7 +186,7 @@ fn settled(waits: usize) -> State
 /// that does not tick, or to a new one, the other near regions that do not tick become part of that, and it waits for those that do.
 pub fn extend(
     tables: &mut Tables,
-    near: &mut NearRegions,
+    near: &mut Nearby,
     change: &mut Change,
     grid: &Grid,
     c: ChunkPos,
@@ -203,6 +204,7 @@ pub fn extend(
     requires ahead { total tables.old.ahead + 625 ≤ tables.old.ahead.room }
     requires behind { total tables.old.behind + 625 ≤ tables.old.behind.room }
     requires none { change.old ≡ nothing }
+    requires stands { StillStands near.old tables.old (grid.now.create + grid.now.merge) }
     ensures owner { owner_of tables.new ≡ (extended (bare grid.now tables.old) c).owner }
     ensures state { state_of tables.new ≡ (extended (bare grid.now tables.old) c).state }
     ensures waits { waits_of tables.new ≡ (extended (bare grid.now tables.old) c).waits }
@@ -234,7 +236,7 @@ pub fn reach(grid: &Grid) -> u8
 pub fn hold(
     sections: &mut Sections,
     tables: &mut Tables,
-    near: &mut NearRegions,
+    near: &mut Nearby,
     change: &mut Change,
     grid: &Grid,
     c: ChunkPos,
@@ -248,6 +250,7 @@ pub fn hold(
     requires few_ids { (grid_of sections.old tables.old).next < 2 ^ 62 }
     requires spare { 1 ≤ sections.old.spare }
     requires room { HasRoomFor tables.old 34 625 }
+    requires stands { StillStands near.old tables.old (grid.now.create + grid.now.merge) }
     ensures state { grid_of sections.new tables.new ≡ add (grid_of sections.old tables.old) c }
     ensures answer { result ≡ add_answer (grid_of sections.old tables.old) c }
     ensures change { change.new ≡ add_change (grid_of sections.old tables.old) c }

@@ -19,6 +19,7 @@ mod chunks;
 mod counts;
 mod dead_bounds;
 mod near;
+mod nearby;
 mod regions;
 mod release;
 mod touched;

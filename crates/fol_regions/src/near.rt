@@ -53,13 +53,6 @@ impl NearRegions {
         self.ids.as_slice()
     }
 
-    /// Their ids, rising, in the memory in which they were found.
-    pub fn into_ids(self) -> Vec<u64>
-        ensures { result.items ≡ self }
-    {
-        self.ids
-    }
-
     /// Finds the regions with a section within a radius, in order of id. Takes no memory.
     pub fn find(&mut self, tables: &Tables, home: SectionPos, reach: u8)
         requires home { (nat_abs home.x ≤ 1000008) × (nat_abs home.z ≤ 1000008) }

@@ -1,6 +1,6 @@
 //! The region table.
 
-ghost use Rattle.std.specs.Prelude.{◌≡◌, ℕ, ◌+◌, ◌≤◌, ◌<◌, ◌^◌, not, ◌&&◌, nat_eq, IsTrue, IfOk, OnOk, [], filter, count_by};
+ghost use Rattle.std.specs.Prelude.{◌≡◌, ℕ, ◌+◌, ◌≤◌, ◌<◌, ◌^◌, not, ◌&&◌, nat_eq, IsTrue, IfOk, OnOk, None, [], filter, count_by};
 ghost use Rattle.std.specs.Vec.{vec_capacity};
 ghost use Rattle.fol_model.specs.declared.regions.State.TheVariants.{Ready, Ticking};
 ghost use Rattle.fol_model.specs.Geometry.{is_chunk, is_section};
@@ -22,7 +22,8 @@ use crate::add::hold;
 use crate::chunks::list_chunks;
 use crate::counts::count_chunks;
 use crate::dead_bounds::{DeadBounds, forget_joined, note_created};
-use crate::near::{MOST_NEAR, NearRegions};
+use crate::near::MOST_NEAR;
+use crate::nearby::Nearby;
 use crate::release::{Releaser, can_rest};
 use crate::touched::list_touched;
 use crate::{AddAnswer, Begun, Change};
@@ -46,7 +47,7 @@ pub struct Regions {
     sections: Sections,
     tables: Tables,
     releaser: Releaser,
-    near: NearRegions,
+    near: Nearby,
     change: Change,
     /// How many dead sections each region has at most.
     dead: DeadBounds,
@@ -57,14 +58,17 @@ pub struct Regions {
 impl Model for Regions {
     ghost use Rattle.fol_regions.specs.DeadBounds.{BoundsDead, most_in};
     ghost use Rattle.fol_regions.specs.Kept.{IsKept};
+    ghost use Rattle.fol_regions.specs.Nearby.{StillStands};
     ghost use Rattle.fol_regions.specs.Released.{grid_of};
     ghost use Rattle.fol_regions.specs.Table.{Table};
+    ghost use Rattle.std.specs.Prelude.{◌+◌};
 
     ghost Value = { Table };
 
     ghost view = { λ s. record { sections = s.sections; book = s.tables; last = s.change; spare = s.spare } };
 
-    ghost invariant = { λ s. IsKept s.grid s.sections s.tables s.spare × BoundsDead (grid_of s.sections s.tables) (most_in s.dead) };
+    ghost invariant = { λ s. IsKept s.grid s.sections s.tables s.spare × BoundsDead (grid_of s.sections s.tables) (most_in s.dead)
+        × StillStands s.near s.tables (s.grid.create + s.grid.merge) };
 }
 
 impl Regions {
@@ -187,6 +191,7 @@ impl Regions {
             &self.grid,
             c,
         );
+        self.near.forget();
         forget_joined(&mut self.dead, self.change.merges());
         note_created(&mut self.dead, self.change.created());
         answer
@@ -244,6 +249,7 @@ impl Regions {
         ensures last { self.new.last ≡ release_change (grid_state self.old) id }
         ensures spare { self.old.spare ≤ self.new.spare + 1 }
     {
+        self.near.forget();
         let most = self.dead.most(id);
         let left = self.releaser.release(
             self.grid,
@@ -323,13 +329,21 @@ impl Regions {
 
     /// The regions that an event on a chunk may touch, rising, whether they are Transient, Ready or Ticking: the one that owns its section
     /// and, where an `add` of the chunk now would make sections present, those near it. Looks where `add` does, never at all regions, and
-    /// takes memory for it.
-    pub fn touched(&self, alloc: Global, c: ChunkPos) -> Result<Vec<u64>, AllocError>
+    /// keeps what it found for an `add` that follows. Takes memory for the list alone.
+    pub fn touched(&mut self, alloc: Global, c: ChunkPos) -> Result<Vec<u64>, AllocError>
         requires in_range { IsTrue (is_chunk c) }
-        ensures { IfOk result (λ ids. ids.items ≡ filter (is_touched (grid_state self.now) c)
-            (numbers_below (grid_state self.now).next)) }
+        ensures same { self.new ≡ self.old }
+        ensures listed { IfOk result (λ ids. ids.items ≡ filter (is_touched (grid_state self.old) c)
+            (numbers_below (grid_state self.old).next)) }
     {
-        list_touched(alloc, &self.grid, &self.sections, &self.tables, c)
+        list_touched(
+            alloc,
+            &self.grid,
+            &self.sections,
+            &self.tables,
+            &mut self.near,
+            c,
+        )
     }
 
     /// The Ticking regions that a region waits for, rising.
@@ -390,11 +404,12 @@ impl Regions {
 }
 
 /// The memory in which the calls of a table work; nothing is known of dead sections.
-fn working_memory(alloc: Global) -> Result<(NearRegions, DeadBounds, Releaser), AllocError>
-    ensures { IfOk result (λ memory. (r : ℕ) → most_in memory.1 r ≡ MOST_SECTIONS) }
+fn working_memory(alloc: Global) -> Result<(Nearby, DeadBounds, Releaser), AllocError>
+    ensures near { IfOk result (λ memory. memory.0.home ≡ None) }
+    ensures dead { IfOk result (λ memory. (r : ℕ) → most_in memory.1 r ≡ MOST_SECTIONS) }
 {
     Ok((
-        NearRegions::new(alloc)?,
+        Nearby::new(alloc)?,
         DeadBounds::new(alloc)?,
         Releaser::new(alloc)?,
     ))

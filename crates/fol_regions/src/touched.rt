@@ -1,60 +1,48 @@
 //! The regions that an event on a chunk may touch.
 
-ghost use Rattle.std.specs.Prelude.{◌≡◌, ◌≤◌, ◌∷◌, [], IsTrue, IfOk, filter, nat_abs};
+ghost use Rattle.std.specs.Prelude.{◌≡◌, ◌+◌, ◌∷◌, [], IsTrue, IfOk, filter};
 ghost use Rattle.fol_model.specs.Geometry.{is_chunk};
 ghost use Rattle.fol_model.specs.GridNumbers.{IsGrid};
 ghost use Rattle.fol_model.specs.Universe.{numbers_below};
 ghost use Rattle.fol_region_tables.specs.Book.{owner_of};
-ghost use Rattle.fol_regions.specs.Near.{is_close, regions_of};
+ghost use Rattle.fol_regions.specs.Near.{regions_of};
+ghost use Rattle.fol_regions.specs.Nearby.{StillStands};
 ghost use Rattle.fol_regions.specs.Released.{IsPresence, grid_of};
 ghost use Rattle.fol_regions.specs.Touched.{is_touched};
 
 use crate::add::reach;
-use crate::near::NearRegions;
+use crate::nearby::Nearby;
 use fol_model::{ChunkPos, Grid, SectionPos, section_of};
 use fol_region_tables::Tables;
 use fol_sections::Sections;
 use std::alloc::{AllocError, Global};
 
 /// The regions that an event on a chunk may touch, rising. Looks where an added hold does: as far as that reaches where it makes sections
-/// present, and else no further than the section of the chunk itself.
+/// present, and else no further than the section of the chunk itself. What it finds near the chunk stands in `near` then.
 pub fn list_touched(
     alloc: Global,
     grid: &Grid,
     sections: &Sections,
     tables: &Tables,
+    near: &mut Nearby,
     c: ChunkPos,
 ) -> Result<Vec<u64>, AllocError>
     requires presence { IsPresence sections.now tables.now }
     requires same { grid.now ≡ sections.now.grid }
     requires numbers { IsGrid sections.now.grid }
     requires in_range { IsTrue (is_chunk c) }
-    ensures { IfOk result (λ ids. ids.items
+    requires stands { StillStands near.old tables.now (grid.now.create + grid.now.merge) }
+    ensures stands { StillStands near.new tables.now (grid.now.create + grid.now.merge) }
+    ensures listed { IfOk result (λ ids. ids.items
         ≡ filter (is_touched (grid_of sections.now tables.now) c) (numbers_below tables.now.next)) }
 {
     let home = section_of(grid, c);
     if sections.will_fill(c) {
-        list_near(alloc, tables, home, reach(grid))
+        near.find(tables, home, reach(grid));
+        Vec::from_slice(alloc, near.ids())
     } else {
         list_owner(alloc, tables, home)
     }
-}
-
-/// The regions with a section within a radius, rising.
-fn list_near(
-    alloc: Global,
-    tables: &Tables,
-    home: SectionPos,
-    radius: u8,
-) -> Result<Vec<u64>, AllocError>
-    requires home { (nat_abs home.x ≤ 1000008) × (nat_abs home.z ≤ 1000008) }
-    requires radius { radius ≤ 12 }
-    ensures { IfOk result (λ ids. ids.items
-        ≡ filter (is_close (owner_of tables.now) home radius) (numbers_below tables.now.next)) }
-{
-    let mut near = NearRegions::new(alloc)?;
-    near.find(tables, home, radius);
-    Ok(near.into_ids())
 }
 
 /// The region of a section, if it has one.

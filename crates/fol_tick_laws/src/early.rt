@@ -23,7 +23,7 @@ const FAR: ChunkPos = ChunkPos { x: 50, z: 0 };
 const THERE: BlockPos = BlockPos { x: 800, y: 0, z: 0 };
 
 /// An event on this chunk may touch these Ready regions.
-fn touches(rt: &impl Abort, core: &Core, chunk: ChunkPos, regions: &[u64]) {
+fn touches(rt: &impl Abort, core: &mut Core, chunk: ChunkPos, regions: &[u64]) {
     assert!(rt; chunk.in_range());
     match core.touched(chunk) {
         Ok(touched) => assert_eq!(rt; touched.as_slice(), regions),
@@ -111,13 +111,13 @@ fn a_tick_is_made_before_its_begin_is_recorded(rt: HostRuntime) {
     let alloc = rt.alloc();
     let mut busy = Busy::start(&rt, alloc);
     busy.post_load(&rt);
-    touches(&rt, &busy.core, BETWEEN, &[1, 2]);
-    touches(&rt, &busy.core, ORIGIN, &[1]);
-    touches(&rt, &busy.core, FAR, &[]);
+    touches(&rt, &mut busy.core, BETWEEN, &[1, 2]);
+    touches(&rt, &mut busy.core, ORIGIN, &[1]);
+    touches(&rt, &mut busy.core, FAR, &[]);
     touches_alone(&rt, &busy.core);
     let tick = begins_late(&rt, alloc, &mut busy.core);
-    touches(&rt, &busy.core, BETWEEN, &[2]);
-    touches(&rt, &busy.core, ORIGIN, &[]);
+    touches(&rt, &mut busy.core, BETWEEN, &[2]);
+    touches(&rt, &mut busy.core, ORIGIN, &[]);
     touches_alone(&rt, &busy.core);
     busy.end(&rt, alloc, tick);
     assert_eq!(&rt; busy.core.history().len(), 6);
@@ -125,7 +125,7 @@ fn a_tick_is_made_before_its_begin_is_recorded(rt: HostRuntime) {
 }
 
 /// An event on this chunk may touch these regions. Region 1 is none of them, so the event spares it, which alone is prepared.
-fn spares(rt: &impl Abort, core: &Core, chunk: ChunkPos, regions: &[u64])
+fn spares(rt: &impl Abort, core: &mut Core, chunk: ChunkPos, regions: &[u64])
     requires { IsAlone core.now 1 }
     ensures { IsSpared core.now chunk }
 {

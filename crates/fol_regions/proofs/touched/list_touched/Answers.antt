@@ -10,21 +10,21 @@ use Rattle.fol_regions.specs.Near.{is_close, regions_of}
 use Rattle.fol_regions.proofs.TouchedSteps.{home_near, owner_touched, touched_are}
 use Rattle.fol_regions.proofs.touched.list_touched.Goals as goal
 
-pub list_near-requires-clause-home : goal.list_near-requires-clause-home
-list_near-requires-clause-home c = rw c.section_of-home.ensures (home_near c.args.grid.now c.args.c (subst IsGrid (sym c.requires.same) c.requires.numbers) c.requires.in_range)
+pub find-requires-clause-home : goal.find-requires-clause-home
+find-requires-clause-home c = rw c.section_of-home.ensures (home_near c.args.grid.now c.args.c (subst IsGrid (sym c.requires.same) c.requires.numbers) c.requires.in_range)
 
-pub returns-then-will_fill : goal.returns-then-will_fill
-returns-then-will_fill c =
+pub returns-then-will_fill-clause-listed : goal.returns-then-will_fill-clause-listed
+returns-then-will_fill-clause-listed c =
     let s = c.args.sections.now in
     let t = c.args.tables.now in
     let home = c.section_of-home.ensures ∙ ap (λ (g : Grid). section_of g c.args.c) c.requires.same in
     let fills = sym c.if-will_fill.true ∙ c.will_fill.ensures in
     let reach = c.reach.ensures ∙ ap (λ (g : Grid). g.create + g.merge) c.requires.same ∙ ap (λ b. cond b (s.grid.create + s.grid.merge) 0) fills in
     let near = ap (λ (q : SectionPos). filter (is_close (owner_of t) q c.reach.result) (numbers_below t.next)) home ∙ touched_are s t c.requires.presence c.requires.numbers c.args.c c.requires.in_range c.reach.result reach in
-    subst (λ xs. IfOk c.list_near.result (λ ids. ids.items ≡ xs)) near c.list_near.ensures
+    subst (λ xs. IfOk c.from_slice.result (λ ids. ids.items ≡ xs)) (c.ids.ensures ∙ c.find.ensures.near ∙ near) c.from_slice.ensures.items
 
-pub returns-else-will_fill : goal.returns-else-will_fill
-returns-else-will_fill c =
+pub returns-else-will_fill-clause-listed : goal.returns-else-will_fill-clause-listed
+returns-else-will_fill-clause-listed c =
     let s = c.args.sections.now in
     let t = c.args.tables.now in
     let home = c.section_of-home.ensures ∙ ap (λ (g : Grid). section_of g c.args.c) c.requires.same in

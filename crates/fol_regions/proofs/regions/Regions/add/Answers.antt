@@ -2,12 +2,14 @@ use Rattle.std.proofs.Common.{◌∙◌, ◌-◌, sym, ap, arith, subst}
 use Rattle.fol_model.specs.GridNumbers.{IsGrid}
 use Rattle.fol_model.specs.Rules.{Rules}
 use Rattle.fol_laws.proofs.RegionLaws.{add_keeps_rules}
+use Rattle.fol_regions.specs.declared.nearby.Nearby.{Nearby}
 use Rattle.fol_regions.specs.Changes.{Changes}
 use Rattle.fol_regions.specs.Kept.{IsKept}
 use Rattle.fol_regions.specs.Released.{grid_of}
 use Rattle.fol_regions.specs.Table.{grid_state}
 use Rattle.fol_regions.proofs.DeadKept.{added_live, bounds_added, bounds_created}
 use Rattle.fol_regions.proofs.HoldSteps.{state_grid}
+use Rattle.fol_regions.proofs.NearbySteps.{forgotten_stands}
 use Rattle.fol_regions.proofs.regions.Regions.add.Goals as goal
 
 pub hold-answer-requires-clause-few : goal.hold-answer-requires-clause-few
@@ -48,6 +50,7 @@ invariant_of-self c =
       after,
       bounds_created (grid_of c.hold-answer.new.sections c.hold-answer.new.tables) _ _ c.created.result.now after.rules joined
           (added_live (grid_of c.self.inside.sections c.self.inside.tables) c.args.c c.self.invariant.0.rules (state_grid c.self.inside.sections c.self.inside.tables c.self.invariant.0.numbers) c.requires.in_range (grid_of c.hold-answer.new.sections c.hold-answer.new.tables) c.hold-answer.ensures.state c.created.result.now (c.created.ensures ∙ ap (λ (x : Changes). x.created) c.hold-answer.ensures.change)) c.note_created.ensures,
+      forgotten_stands _ c.hold-answer.new.tables _ (ap (λ (n : Nearby). n.home) c.forget.ensures),
     )
 
 pub returns-clause-state : goal.returns-clause-state

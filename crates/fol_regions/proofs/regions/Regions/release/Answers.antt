@@ -1,9 +1,11 @@
 use Rattle.std.proofs.Common.{◌≡◌, ◌∙◌, ap, arith}
+use Rattle.fol_regions.specs.declared.nearby.Nearby.{Nearby}
 use Rattle.fol_regions.specs.Changes.{Changes}
 use Rattle.fol_model.specs.declared.regions.State.TheVariants.{Ticking}
 use Rattle.fol_regions.specs.Released.{grid_of}
 use Rattle.fol_regions.specs.Table.{grid_state}
 use Rattle.fol_regions.proofs.DeadKept.{bounds_created, bounds_released, created_live}
+use Rattle.fol_regions.proofs.NearbySteps.{forgotten_stands}
 use Rattle.fol_regions.proofs.TableSteps as steps
 use Rattle.fol_regions.proofs.regions.Regions.release.Goals as goal
 
@@ -25,6 +27,7 @@ invariant_of-self c =
       kept,
       bounds_created (grid_of c.release-left.new.sections c.release-left.new.tables) _ _ c.created.result.now kept.rules set
           (created_live (grid_of c.self.inside.sections c.self.inside.tables) c.args.id c.self.invariant.0.rules ticks (grid_of c.release-left.new.sections c.release-left.new.tables) c.release-left.ensures.state c.created.result.now (created ∙ ap (λ (x : Changes). x.created) c.release-left.ensures.change)) c.note_created.ensures,
+      forgotten_stands _ c.release-left.new.tables _ (ap (λ (n : Nearby). n.home) c.forget.ensures),
     )
 
 pub release-left-requires-clause-dead : goal.release-left-requires-clause-dead

@@ -10,7 +10,7 @@ invariant_of-self c =
     let are = rw is at c.remove-answer.ensures.died in
     let died = c.died.ensures in
     let noted = rw died at c.note_died.ensures in
-    (steps.removed_kept c.self.inside.grid c.self.inside.sections c.self.inside.tables c.self.inside.spare c.self.invariant.0 c.remove-answer.new.self c.args.c c.remove-answer.ensures.stays.0 c.remove-answer.ensures.stays.2 c.remove-answer.ensures.holds c.remove-answer.ensures.presence, steps.removed_bounds c.self.inside.grid c.self.inside.sections c.self.inside.tables c.self.inside.spare c.self.invariant.0 c.remove-answer.new.self c.args.c c.remove-answer.ensures.stays.0 c.remove-answer.ensures.stays.2 c.remove-answer.ensures.holds c.remove-answer.ensures.presence _ _ c.self.invariant.1 _ are noted)
+    (steps.removed_kept c.self.inside.grid c.self.inside.sections c.self.inside.tables c.self.inside.spare c.self.invariant.0 c.remove-answer.new.self c.args.c c.remove-answer.ensures.stays.0 c.remove-answer.ensures.stays.2 c.remove-answer.ensures.holds c.remove-answer.ensures.presence, steps.removed_bounds c.self.inside.grid c.self.inside.sections c.self.inside.tables c.self.inside.spare c.self.invariant.0 c.remove-answer.new.self c.args.c c.remove-answer.ensures.stays.0 c.remove-answer.ensures.stays.2 c.remove-answer.ensures.holds c.remove-answer.ensures.presence _ _ c.self.invariant.1 _ are noted, c.self.invariant.2)
 
 pub returns-clause-state : goal.returns-clause-state
 unfolding grid_state grid_of
