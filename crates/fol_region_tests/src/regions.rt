@@ -176,7 +176,7 @@ fn a_region_falls_apart(rt: HostRuntime) {
 }
 
 /// The regions that an event on a chunk with z 0 may touch are these.
-fn touched_are(rt: &impl Abort, alloc: Global, regions: &Regions, x: i32, ids: &[u64]) {
+fn touched_are(rt: &impl Abort, alloc: Global, regions: &mut Regions, x: i32, ids: &[u64]) {
     let c = ChunkPos { x, z: 0 };
     assert!(rt; c.in_range());
     let touched = regions.touched(alloc, c).expect(rt, "memory");
@@ -184,7 +184,7 @@ fn touched_are(rt: &impl Abort, alloc: Global, regions: &Regions, x: i32, ids: &
 }
 
 /// A chunk between two regions touches both, one at the edge of a region that region, a loaded one its own, and one far off none.
-fn near_ones_are_touched(rt: &impl Abort, alloc: Global, regions: &Regions) {
+fn near_ones_are_touched(rt: &impl Abort, alloc: Global, regions: &mut Regions) {
     touched_are(rt, alloc, regions, 3, &[1, 2]);
     touched_are(rt, alloc, regions, 1, &[1]);
     touched_are(rt, alloc, regions, 4, &[2]);
@@ -207,7 +207,7 @@ fn an_event_touches_the_regions_near_it(rt: HostRuntime) {
     let mut regions = table(&rt, rt.alloc());
     load(&rt, &mut regions, 0);
     load(&rt, &mut regions, 6);
-    near_ones_are_touched(&rt, rt.alloc(), &regions);
+    near_ones_are_touched(&rt, rt.alloc(), &mut regions);
     others_are_touched(&rt, rt.alloc(), &mut regions);
     drop(regions);
 }

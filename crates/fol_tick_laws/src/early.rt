@@ -23,7 +23,9 @@ const FAR: ChunkPos = ChunkPos { x: 50, z: 0 };
 const THERE: BlockPos = BlockPos { x: 800, y: 0, z: 0 };
 
 /// An event on this chunk may touch these Ready regions.
-fn touches(rt: &impl Abort, core: &mut Core, chunk: ChunkPos, regions: &[u64]) {
+fn touches(rt: &impl Abort, core: &mut Core, chunk: ChunkPos, regions: &[u64])
+    ensures { core.new ≡ core.old }
+{
     assert!(rt; chunk.in_range());
     match core.touched(chunk) {
         Ok(touched) => assert_eq!(rt; touched.as_slice(), regions),
@@ -126,8 +128,9 @@ fn a_tick_is_made_before_its_begin_is_recorded(rt: HostRuntime) {
 
 /// An event on this chunk may touch these regions. Region 1 is none of them, so the event spares it, which alone is prepared.
 fn spares(rt: &impl Abort, core: &mut Core, chunk: ChunkPos, regions: &[u64])
-    requires { IsAlone core.now 1 }
-    ensures { IsSpared core.now chunk }
+    requires { IsAlone core.old 1 }
+    ensures spared { IsSpared core.new chunk }
+    ensures same { core.new ≡ core.old }
 {
     assert!(rt; chunk.in_range());
     match core.touched(chunk) {

@@ -1,6 +1,7 @@
 use Rattle.std.proofs.Common.{refl}
 use Rattle.fol_model.specs.Geometry.{chunk_of, is_block, is_chunk}
 use Rattle.fol_model.specs.Limits.{is_delay}
+use Rattle.fol_tick_laws.specs.Touching.{IsAlone}
 use Rattle.fol_tick_laws.proofs.Unprepared.{IsLeft, left_posted}
 use Rattle.fol_tick_laws.proofs.early.posts_far.Goals as goal
 
@@ -18,6 +19,8 @@ post-requires-clause-action g c = refl
 
 pub returns : goal.returns
 returns g c =
-    let left : IsLeft c.args.core.now c.post.new.self 1 =
-    left_posted c.args.core.now c.post.new.self _ _ _ _ c.post.result 1 c.post.ensures.recorded c.post.ensures.refused (c.spares.ensures.post 1 c.requires.prepared) c.requires in
-    record { alone = left.0; untouched = left.1 }
+    let same = c.spares.ensures.same in
+    let alone : IsAlone c.spares.new.core 1 = rw same c.requires in
+    let left : IsLeft c.spares.new.core c.post.new.self 1 =
+    left_posted c.spares.new.core c.post.new.self _ _ _ _ c.post.result 1 c.post.ensures.recorded c.post.ensures.refused (c.spares.ensures.spared.post 1 alone.prepared) alone in
+    record { alone = left.0; untouched = rw (← same) left.1 }
