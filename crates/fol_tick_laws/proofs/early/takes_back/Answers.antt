@@ -16,7 +16,12 @@ withdraw-requires-clause-tick g c =
     let made = c.prepare-early.ensures.prepared in
     rw (c.touches.ensures, made.opening, made.history) (by_its_own (world_of c.args.core.now) _ 0 1 c.prepare-early.result is)
 
-pub returns-clause-none : goal.returns-clause-none
-returns-clause-none g c =
+pub makes_ready-requires : goal.makes_ready-requires
+makes_ready-requires g c =
+    let region = c.prepare-early.ensures.tick.region in
+    record { none = none_learnt c.args.core.now c.prepare-early.new.self c.withdraw.new.self 1 c.requires.none c.prepare-early.ensures.prepared.prepared (rw (c.touches.ensures, region) at c.withdraw.ensures.withdrawn.prepared) }
+
+pub returns-else-not-withdraw-clause-none : goal.returns-else-not-withdraw-clause-none
+returns-else-not-withdraw-clause-none g c =
     let region = c.prepare-early.ensures.tick.region in
     none_learnt c.args.core.now c.prepare-early.new.self c.withdraw.new.self 1 c.requires.none c.prepare-early.ensures.prepared.prepared (rw (c.touches.ensures, region) at c.withdraw.ensures.withdrawn.prepared)
