@@ -5,3 +5,4 @@ pub mod AbsentPages
 pub mod LyingIn
 pub mod NearPages
 pub mod PageChanges
+pub mod TableSteps

@@ -8,8 +8,8 @@ ghost use Rattle.fol_pages.specs.Pages.{LieIn};
 
 use crate::pages::{Pages, give_all, owner, run, take_all_out};
 use fol_model::SectionPos;
+use fol_pages::PageTable;
 use std::alloc::{AllocError, Global};
-use std::collections::HashMap;
 use std::marker::Model;
 
 /// The region of each section that has one, in pages: a page is there only where one of its sections has a region.
@@ -19,12 +19,11 @@ pub struct Owners {
 }
 
 impl Model for Owners {
-    ghost use Rattle.std.specs.HashMap.{spare};
     ghost use Rattle.fol_region_tables.specs.Owners.{AllOwned, Owned};
 
     ghost Value = { Owned };
 
-    ghost view = { λ s. record { pages = s.pages.entries; free = spare s.pages } };
+    ghost view = { λ s. record { pages = s.pages.entries; free = s.pages.spare } };
 
     ghost invariant = { λ s. AllOwned s.pages.entries };
 }
@@ -37,7 +36,7 @@ impl Owners {
         ensures { (s : SectionPos) → owner_in result.pages s ≡ 0 }
     {
         Owners {
-            pages: HashMap::new(alloc),
+            pages: PageTable::new(alloc),
         }
     }
 

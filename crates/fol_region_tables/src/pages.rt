@@ -3,15 +3,13 @@
 ghost use Rattle.std.specs.Prelude.{◌≡◌, ℕ, ℤ, ◌+◌, ◌<◌, ◌≤◌, true, false, ◌||◌, IsTrue, cond, nat_eq, nat_abs, pos, ◌+ℤ◌, length, if◌then◌else◌, slice_index_or};
 ghost use Rattle.std.specs.Int.{int_rem_euclid};
 ghost use Rattle.std.specs.List.{list_all, list_any};
-ghost use Rattle.std.specs.HashMap.{spare};
 ghost use Rattle.fol_model.specs.declared.places.SectionPos.{SectionPos};
 ghost use Rattle.fol_model.specs.Geometry.{is_among};
 ghost use Rattle.fol_pages.specs.Pages.{LieIn, has_page, is_same, place_of as place};
 ghost use Rattle.fol_region_tables.specs.Owners.{AllOwned, AreAt, HasOwner, IsAt, is_new, owner_in};
 
 use fol_model::SectionPos;
-use fol_pages::{page_of, place_of, stretch_len};
-use std::collections::HashMap;
+use fol_pages::{PageTable, page_of, place_of, stretch_len};
 
 /// The regions of 32 sections side by side in a row; 0 for a section that has none.
 #[derive(Clone, Copy)]
@@ -20,13 +18,13 @@ pub struct OwnerPage {
 }
 
 /// Pages by their column and row.
-pub type Pages = HashMap<(i32, i32), OwnerPage>;
+pub type Pages = PageTable<OwnerPage>;
 
 /// The region of a section, or 0 where it has none.
 pub fn owner(pages: &Pages, s: SectionPos) -> u64
     ensures { result ≡ owner_in pages.now.entries s }
 {
-    match pages.get(&page_of(s)) {
+    match pages.get(page_of(s)) {
         Some(page) => page.owners[place_of(s)],
         None => 0,
     }
@@ -39,7 +37,7 @@ pub fn run(pages: &Pages, s: SectionPos, len: u32) -> &[u64]
         ≡ owner_in pages.now.entries (record { x = s.x +ℤ pos i; z = s.z }) }
     ensures few { length result.now ≤ len }
 {
-    match pages.get(&page_of(s)) {
+    match pages.get(page_of(s)) {
         Some(page) => run_on(page, s, len),
         None => &[],
     }
@@ -90,16 +88,16 @@ fn give_stretch(pages: &mut Pages, key: (i32, i32), sections: &[SectionPos], id:
     requires some { 0 < length sections.now }
     requires page { AreAt key.0 key.1 sections.now }
     requires region { 0 < id }
-    requires room { has_page pages.old.entries key.0 key.1 ≡ false → 0 < spare pages.old }
+    requires room { has_page pages.old.entries key.0 key.1 ≡ false → 0 < pages.old.spare }
     ensures owner { (q : SectionPos) → owner_in pages.new.entries q
         ≡ (if is_among sections.now q then id else owner_in pages.old.entries q) }
     ensures pages { (x z : ℤ) → has_page pages.new.entries x z
         ≡ (is_same key.0 key.1 x z || has_page pages.old.entries x z) }
-    ensures room { spare pages.old ≤ spare pages.new
+    ensures room { pages.old.spare ≤ pages.new.spare
         + cond (has_page pages.old.entries key.0 key.1) 0 1 }
     ensures owned { AllOwned pages.old.entries → AllOwned pages.new.entries }
 {
-    match pages.get_mut(&key) {
+    match pages.get_mut(key) {
         Some(page) => write_on(page, sections, id),
         None => {
             let _ = pages.insert(key, page_with(sections, id));
@@ -110,11 +108,11 @@ fn give_stretch(pages: &mut Pages, key: (i32, i32), sections: &[SectionPos], id:
 /// Gives the sections of a list to a region: those that have another one, and those that have none.
 pub fn give_all(pages: &mut Pages, sections: &[SectionPos], id: u64)
     requires region { 0 < id }
-    requires room { LieIn (is_new (owner_in pages.old.entries) sections.now) (spare pages.old) }
+    requires room { LieIn (is_new (owner_in pages.old.entries) sections.now) pages.old.spare }
     ensures owner { (q : SectionPos) → owner_in pages.new.entries q
         ≡ (if is_among sections.now q then id else owner_in pages.old.entries q) }
     ensures room { (n : ℕ) → LieIn (is_new (owner_in pages.old.entries) sections.now) n
-        → spare pages.old ≤ spare pages.new + n }
+        → pages.old.spare ≤ pages.new.spare + n }
     ensures owned { AllOwned pages.old.entries → AllOwned pages.new.entries }
 {
     let mut rest = sections;
@@ -131,13 +129,13 @@ fn clear_stretch(pages: &mut Pages, key: (i32, i32), sections: &[SectionPos]) ->
     ensures owner { (q : SectionPos) → owner_in pages.new.entries q
         ≡ (if is_among sections.now q then 0 else owner_in pages.old.entries q) }
     ensures pages { (x z : ℤ) → has_page pages.new.entries x z ≡ has_page pages.old.entries x z }
-    ensures room { spare pages.new ≡ spare pages.old }
+    ensures room { pages.new.spare ≡ pages.old.spare }
     ensures empty { IsTrue result → (q : SectionPos) → IsAt key.0 key.1 q
         → owner_in pages.new.entries q ≡ 0 }
     ensures busy { result ≡ false → has_page pages.new.entries key.0 key.1 ≡ true
         → HasOwner pages.new.entries key.0 key.1 }
 {
-    match pages.get_mut(&key) {
+    match pages.get_mut(key) {
         Some(page) => {
             write_on(page, sections, 0);
             is_empty(page)
@@ -151,11 +149,11 @@ fn take_stretch(pages: &mut Pages, key: (i32, i32), sections: &[SectionPos])
     requires { AreAt key.0 key.1 sections.now }
     ensures owner { (q : SectionPos) → owner_in pages.new.entries q
         ≡ (if is_among sections.now q then 0 else owner_in pages.old.entries q) }
-    ensures room { spare pages.old ≤ spare pages.new }
+    ensures room { pages.old.spare ≤ pages.new.spare }
     ensures owned { AllOwned pages.old.entries → AllOwned pages.new.entries }
 {
     if clear_stretch(pages, key, sections) {
-        let _ = pages.remove(&key);
+        let _ = pages.remove(key);
     }
 }
 
@@ -163,7 +161,7 @@ fn take_stretch(pages: &mut Pages, key: (i32, i32), sections: &[SectionPos])
 pub fn take_all_out(pages: &mut Pages, sections: &[SectionPos])
     ensures owner { (q : SectionPos) → owner_in pages.new.entries q
         ≡ (if is_among sections.now q then 0 else owner_in pages.old.entries q) }
-    ensures room { spare pages.old ≤ spare pages.new }
+    ensures room { pages.old.spare ≤ pages.new.spare }
     ensures owned { AllOwned pages.old.entries → AllOwned pages.new.entries }
 {
     let mut rest = sections;

@@ -1,7 +1,6 @@
 //! Dead sections that leave, by stretches of a list that lie in one page.
 
 ghost use Rattle.std.specs.Prelude.{◌≡◌, ℤ, ◌≤◌, ◌&&◌, true, false, cond, IsTrue, None, count_by, nat_eq};
-ghost use Rattle.std.specs.HashMap.{spare};
 ghost use Rattle.std.specs.List.{All};
 ghost use Rattle.fol_model.specs.declared.places.SectionPos.{SectionPos};
 ghost use Rattle.fol_model.specs.Geometry.{is_among};
@@ -42,9 +41,9 @@ fn clear_stretch(pages: &mut Pages, first: SectionPos, part: &[SectionPos]) -> (
     ensures busy { result.1 ≡ false
         → IsTrue (has_page pages.new.entries (page first.x) first.z)
         → HasSection pages.new.entries (page first.x) first.z }
-    ensures room { spare pages.new ≡ spare pages.old }
+    ensures room { pages.new.spare ≡ pages.old.spare }
 {
-    match pages.get_mut(&page_of(first)) {
+    match pages.get_mut(page_of(first)) {
         Some(page) => {
             let dead = clear_on(page, part);
             (dead, is_empty(page))
@@ -61,12 +60,12 @@ fn drop_stretch(pages: &mut Pages, first: SectionPos, part: &[SectionPos]) -> us
     ensures out { (q : SectionPos) → counts_at pages.new.entries q
         ≡ cond (is_among part.now q && nat_eq (near_at pages.old.entries q) 0)
         None (counts_at pages.old.entries q) }
-    ensures room { spare pages.old ≤ spare pages.new }
+    ensures room { pages.old.spare ≤ pages.new.spare }
     ensures used { AllUsed pages.old.entries → AllUsed pages.new.entries }
 {
     let (dead, is_done) = clear_stretch(pages, first, part);
     if is_done {
-        let _ = pages.remove(&page_of(first));
+        let _ = pages.remove(page_of(first));
     }
     dead
 }
@@ -77,7 +76,7 @@ pub fn drop_list(pages: &mut Pages, list: &[SectionPos]) -> usize
     ensures out { (q : SectionPos) → counts_at pages.new.entries q
         ≡ cond (is_among list.now q && nat_eq (near_at pages.old.entries q) 0)
         None (counts_at pages.old.entries q) }
-    ensures room { spare pages.old ≤ spare pages.new }
+    ensures room { pages.old.spare ≤ pages.new.spare }
     ensures used { AllUsed pages.old.entries → AllUsed pages.new.entries }
 {
     let mut dead = 0;

@@ -51,7 +51,7 @@ fn list_stretch(
         ≡ out.old.items ++ flat_map (held_chunks grid.now holds.now.entries) part.now }
     ensures capacity { vec_capacity out.new ≡ vec_capacity out.old }
 {
-    match pages.get(&page_of(first)) {
+    match pages.get(page_of(first)) {
         Some(page) => list_on(page, holds, grid, part, out),
         None => {}
     }

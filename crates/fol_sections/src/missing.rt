@@ -38,7 +38,7 @@ fn count_run(pages: &Pages, s: SectionPos, len: u32) -> u32
         (row_of section_at s.x s.z len) }
     ensures few { result ≤ len }
 {
-    match pages.get(&page_of(s)) {
+    match pages.get(page_of(s)) {
         Some(page) => count_on(page, s, len),
         None => len,
     }

@@ -3,7 +3,6 @@
 ghost use Rattle.std.specs.Prelude.{◌≡◌, ℤ, ◌+◌, ◌<◌, ◌≤◌, ◌^◌, not, ◌||◌, false, cond, is_some, Some, None, IsTrue, length, slice_index_or, slice_set};
 ghost use Rattle.std.specs.Option.{unwrap_or};
 ghost use Rattle.std.specs.List.{All, list_all};
-ghost use Rattle.std.specs.HashMap.{spare};
 ghost use Rattle.fol_model.specs.declared.places.SectionPos.{SectionPos};
 ghost use Rattle.fol_model.specs.Geometry.{is_among, same_section};
 ghost use Rattle.fol_sections.specs.Pages.{AllUsed, HasSection, IsOnPage, counts_at, has_page, is_here, chunks_at, chunks_on, counts_on, near_at, near_on, no_counts, page_of as page};
@@ -13,8 +12,7 @@ ghost use Rattle.fol_sections.specs.Turns.{fall, rise, turned};
 use crate::packed::PackedCounts;
 use crate::turns::Turn;
 use fol_model::SectionPos;
-use fol_pages::{page_of, place_of};
-use std::collections::HashMap;
+use fol_pages::{PageTable, page_of, place_of};
 
 /// What is kept of a present section.
 #[derive(Clone, Copy, Debug, PartialEq, Eq)]
@@ -113,7 +111,7 @@ impl Page {
 }
 
 /// Pages by their column and row.
-pub type Pages = HashMap<(i32, i32), Page>;
+pub type Pages = PageTable<Page>;
 
 /// A page with no present section.
 pub fn empty_page() -> Page
@@ -145,7 +143,7 @@ pub fn loaded_on(page: &Page, s: SectionPos) -> u64
 pub fn find(pages: &Pages, s: SectionPos) -> Option<Counts>
     ensures { result ≡ counts_at pages.now.entries s }
 {
-    match pages.get(&page_of(s)) {
+    match pages.get(page_of(s)) {
         Some(page) => page.kept(place_of(s)),
         None => None,
     }
@@ -206,16 +204,16 @@ pub fn put_stretch(pages: &mut Pages, first: SectionPos, part: &[SectionPos])
     requires some { IsTrue (is_among part.now first) }
     requires page { All (IsOnPage first) part.now }
     requires room { has_page pages.old.entries (page first.x) first.z ≡ false
-        → 0 < spare pages.old }
+        → 0 < pages.old.spare }
     ensures put { (q : SectionPos) → counts_at pages.new.entries q
         ≡ cond (is_among part.now q) (Some no_counts) (counts_at pages.old.entries q) }
     ensures pages { (x z : ℤ) → has_page pages.new.entries x z
         ≡ (is_same (page first.x) first.z x z || has_page pages.old.entries x z) }
-    ensures room { spare pages.old ≤ spare pages.new
+    ensures room { pages.old.spare ≤ pages.new.spare
         + cond (has_page pages.old.entries (page first.x) first.z) 0 1 }
     ensures used { AllUsed pages.old.entries → AllUsed pages.new.entries }
 {
-    match pages.get_mut(&page_of(first)) {
+    match pages.get_mut(page_of(first)) {
         Some(page) => mark_on(page, part),
         None => {
             let _ = pages.insert(page_of(first), page_with(part));
@@ -232,10 +230,10 @@ pub fn count(pages: &mut Pages, s: SectionPos, turn: Turn) -> u16
     ensures put { (q : SectionPos) → counts_at pages.new.entries q ≡ cond (same_section s q)
         (Some (record { loaded = result; near = near_at pages.old.entries s }))
         (counts_at pages.old.entries q) }
-    ensures room { spare pages.new ≡ spare pages.old }
+    ensures room { pages.new.spare ≡ pages.old.spare }
     ensures used { AllUsed pages.old.entries → AllUsed pages.new.entries }
 {
-    match pages.get_mut(&page_of(s)) {
+    match pages.get_mut(page_of(s)) {
         Some(page) => page.count(place_of(s), turn),
         None => 0,
     }

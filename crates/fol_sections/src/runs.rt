@@ -1,7 +1,6 @@
 //! Sections side by side in one page, for which the page is looked up once.
 
 ghost use Rattle.std.specs.Prelude.{◌≡◌, ◌+◌, ◌<◌, ◌≤◌, ◌^◌, not, ◌++◌, IsTrue, is_some, length, nat_abs, pos, ◌+ℤ◌};
-ghost use Rattle.std.specs.HashMap.{spare};
 ghost use Rattle.std.specs.Int.{int_rem_euclid};
 ghost use Rattle.std.specs.List.{count_by, filter};
 ghost use Rattle.std.specs.Vec.{vec_capacity};
@@ -70,7 +69,7 @@ pub fn find_run(pages: &Pages, missing: &mut Vec<SectionPos>, s: SectionPos, len
     ensures few { length missing.new.items ≤ length missing.old.items + len }
     ensures room { vec_capacity missing.old ≤ vec_capacity missing.new }
 {
-    match pages.get(&page_of(s)) {
+    match pages.get(page_of(s)) {
         Some(page) => find_on(page, missing, s, len),
         None => find_off(missing, s, len),
     }
@@ -123,7 +122,7 @@ pub fn turn_run(pages: &mut Pages, died: &mut Vec<SectionPos>, s: SectionPos, le
     ensures here { (q : SectionPos) → is_here pages.new.entries q ≡ is_here pages.old.entries q }
     ensures chunks { (q : SectionPos) → chunks_at pages.new.entries q
         ≡ chunks_at pages.old.entries q }
-    ensures room { spare pages.new ≡ spare pages.old }
+    ensures room { pages.new.spare ≡ pages.old.spare }
     ensures used { AllUsed pages.old.entries → AllUsed pages.new.entries }
     ensures died { died.new.items ≡ died.old.items
         ++ filter (λ q. leaves_none turn (near_at pages.old.entries q))
@@ -131,7 +130,7 @@ pub fn turn_run(pages: &mut Pages, died: &mut Vec<SectionPos>, s: SectionPos, le
     ensures few { length died.new.items ≤ length died.old.items + len }
     ensures space { vec_capacity died.old ≤ vec_capacity died.new }
 {
-    match pages.get_mut(&page_of(s)) {
+    match pages.get_mut(page_of(s)) {
         Some(page) => turn_on(page, died, s, len, turn),
         None => {}
     }

@@ -23,7 +23,7 @@ use crate::stretches::{count_list, split_list};
 use crate::turns::{Turn, turn_square};
 use crate::{Added, Removed};
 use fol_model::{ChunkPos, Grid, MOST_SECTIONS, SectionPos, section_of};
-use fol_pages::{NEAR_PAGES, stretch_len};
+use fol_pages::{NEAR_PAGES, PageTable, stretch_len};
 use std::alloc::{AllocError, Global};
 use std::collections::HashMap;
 use std::marker::Model;
@@ -62,7 +62,7 @@ impl Model for Sections {
 
     ghost view = { λ s. record { grid = s.grid; held = held_in s.holds.entries; present = present_in s.pages.entries; filled = s.filled.items; died = s.died.items; spare = s.spare } };
 
-    ghost invariant = { λ s. IsKept s.grid s.holds.entries s.pages.entries s.count × HasRoom s.spare (room_of s.holds) (room_of s.pages) (vec_capacity s.filled) (vec_capacity s.died) };
+    ghost invariant = { λ s. IsKept s.grid s.holds.entries s.pages.entries s.count × HasRoom s.spare (room_of s.holds) s.pages.spare (vec_capacity s.filled) (vec_capacity s.died) };
 }
 
 impl Sections {
@@ -78,7 +78,7 @@ impl Sections {
         Ok(Sections {
             grid,
             holds: HashMap::new(alloc),
-            pages: HashMap::new(alloc),
+            pages: PageTable::new(alloc),
             count: 0,
             filled: Vec::with_capacity(alloc, AREA)?,
             died: Vec::with_capacity(alloc, AREA)?,
@@ -391,7 +391,7 @@ fn take_hold(
     c: ChunkPos,
 )
     requires hold { 1 ≤ room_of holds.old }
-    requires room { 34 ≤ room_of pages.old }
+    requires room { 34 ≤ pages.old.spare }
     requires pages { InNear missing.now }
     requires near { (nat_abs home.x ≤ 1000008) × (nat_abs home.z ≤ 1000008) }
     requires few { radius ≤ 8 }
@@ -413,7 +413,7 @@ fn take_hold(
         ≡ near_at pages.old.entries s + cond (nat_eq (chunks_at pages.old.entries home) 0
         && is_within home radius s) 1 0 }
     ensures rooms { (room_of holds.old ≤ room_of holds.new + 1)
-        × (room_of pages.old ≤ room_of pages.new + 34) }
+        × (pages.old.spare ≤ pages.new.spare + 34) }
     ensures used { AllUsed pages.old.entries → AllUsed pages.new.entries }
     ensures died { died.new.items ≡ [] }
     ensures space { vec_capacity died.old ≤ vec_capacity died.new }
@@ -432,11 +432,11 @@ fn create_radius(grid: &Grid) -> u8
 
 /// Makes missing sections present, with no loaded chunk near them.
 fn fill(pages: &mut Pages, missing: &[SectionPos])
-    requires room { 34 ≤ room_of pages.old }
+    requires room { 34 ≤ pages.old.spare }
     requires near { InNear missing.now }
     ensures filled { (s : SectionPos) → counts_at pages.new.entries s
         ≡ cond (is_among missing.now s) (Some no_counts) (counts_at pages.old.entries s) }
-    ensures room { room_of pages.old ≤ room_of pages.new + 34 }
+    ensures room { pages.old.spare ≤ pages.new.spare + 34 }
     ensures used { AllUsed pages.old.entries → AllUsed pages.new.entries }
 {
     let mut rest = missing;
@@ -506,7 +506,7 @@ fn count_chunk(pages: &mut Pages, home: SectionPos, turn: Turn) -> u16
         ≡ chunks_at pages.old.entries s + rise turn (cond (same_section home s) 1 0) }
     ensures here { (s : SectionPos) → is_here pages.new.entries s ≡ is_here pages.old.entries s }
     ensures near { (s : SectionPos) → near_at pages.new.entries s ≡ near_at pages.old.entries s }
-    ensures room { room_of pages.new ≡ room_of pages.old }
+    ensures room { pages.new.spare ≡ pages.old.spare }
     ensures used { AllUsed pages.old.entries → AllUsed pages.new.entries }
 {
     pages::count(pages, home, turn)
@@ -528,7 +528,7 @@ fn add_chunk(pages: &mut Pages, died: &mut Vec<SectionPos>, home: SectionPos, ra
         ≡ near_at pages.old.entries s + cond (nat_eq (chunks_at pages.old.entries home) 0
         && is_within home radius s) 1 0 }
     ensures here { (s : SectionPos) → is_here pages.new.entries s ≡ is_here pages.old.entries s }
-    ensures room { room_of pages.new ≡ room_of pages.old }
+    ensures room { pages.new.spare ≡ pages.old.spare }
     ensures used { AllUsed pages.old.entries → AllUsed pages.new.entries }
     ensures died { died.new.items ≡ [] }
     ensures space { vec_capacity died.old ≤ vec_capacity died.new }
@@ -557,7 +557,7 @@ fn drop_chunk(pages: &mut Pages, died: &mut Vec<SectionPos>, home: SectionPos, r
         ≡ near_at pages.new.entries s + cond (nat_eq (chunks_at pages.old.entries home) 1
         && is_within home radius s) 1 0 }
     ensures here { (s : SectionPos) → is_here pages.new.entries s ≡ is_here pages.old.entries s }
-    ensures room { room_of pages.new ≡ room_of pages.old }
+    ensures room { pages.new.spare ≡ pages.old.spare }
     ensures used { AllUsed pages.old.entries → AllUsed pages.new.entries }
     ensures died { died.new.items ≡ filter (λ q. nat_eq (near_at pages.new.entries q) 0)
         (square home radius) }

@@ -53,7 +53,7 @@ fn split_stretch(
     ensures living_room { vec_capacity living.new ≡ vec_capacity living.old }
     ensures dead_room { vec_capacity dead.new ≡ vec_capacity dead.old }
 {
-    match pages.get(&page_of(first)) {
+    match pages.get(page_of(first)) {
         Some(page) => split_on(page, part, living, dead),
         None => split_on(&empty_page(), part, living, dead),
     }
@@ -101,7 +101,7 @@ fn count_stretch(pages: &Pages, first: SectionPos, part: &[SectionPos]) -> u64
     requires few { sum_by (chunks_at pages.now.entries) part.now < 2 ^ 62 }
     ensures { result ≡ sum_by (chunks_at pages.now.entries) part.now }
 {
-    match pages.get(&page_of(first)) {
+    match pages.get(page_of(first)) {
         Some(page) => count_on(page, part),
         None => 0,
     }

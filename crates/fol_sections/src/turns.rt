@@ -2,7 +2,6 @@
 
 ghost use Rattle.std.specs.Prelude.{◌≡◌, ℕ, ◌+◌, ◌<◌, ◌≤◌, ◌^◌, [], IsTrue, cond, length, nat_abs, nat_eq};
 ghost use Rattle.std.specs.List.{filter};
-ghost use Rattle.std.specs.HashMap.{spare};
 ghost use Rattle.std.specs.Vec.{vec_capacity};
 ghost use Rattle.fol_model.specs.declared.places.SectionPos.{SectionPos};
 ghost use Rattle.fol_model.specs.Geometry.{is_within};
@@ -59,7 +58,7 @@ pub fn turn_square(
     ensures here { (q : SectionPos) → is_here pages.new.entries q ≡ is_here pages.old.entries q }
     ensures chunks { (q : SectionPos) → chunks_at pages.new.entries q
         ≡ chunks_at pages.old.entries q }
-    ensures room { spare pages.new ≡ spare pages.old }
+    ensures room { pages.new.spare ≡ pages.old.spare }
     ensures used { AllUsed pages.old.entries → AllUsed pages.new.entries }
     ensures died { died.new.items ≡ filter (λ q. nat_eq (near_at pages.new.entries q) 0)
         (square s radius) }

@@ -14,8 +14,8 @@ unfolding page_at is_same
 returns-in-Some-clause-owner c =
     let was = ap option_copied_mut (sym c.in-Some.is) ∙ c.get_mut.ensures.value in
     let w = c.get_mut.follows.holds c.write_on.new.page in
-    let updates = w.3 (ap is_some (sym was)) in
-    owners-written c.args.pages.now.entries _ c.args.key.0 c.args.key.1 c.write_on.new.page (λ a b. updates.0 (a, b)) c.args.sections.now 0 c.requires
+    let updates = w.updates (ap is_some (sym was)) in
+    owners-written c.args.pages.now.entries _ c.args.key.0 c.args.key.1 c.write_on.new.page updates c.args.sections.now 0 c.requires
     (λ q. c.write_on.ensures (place_of q) ∙ ap (λ o. cond (list_any (λ s. nat_eq (place_of s) (place_of q)) c.args.sections.now) 0 (owner_on o q)) was)
 
 pub returns-in-Some-clause-pages : goal.returns-in-Some-clause-pages
@@ -23,24 +23,24 @@ unfolding page_at is_same has_page
 returns-in-Some-clause-pages c =
     let was = ap option_copied_mut (sym c.in-Some.is) ∙ c.get_mut.ensures.value in
     let w = c.get_mut.follows.holds c.write_on.new.page in
-    let updates = w.3 (ap is_some (sym was)) in
-    pages-same c.args.pages.now.entries _ c.args.key.0 c.args.key.1 c.write_on.new.page (λ a b. updates.0 (a, b)) (ap is_some (sym was))
+    let updates = w.updates (ap is_some (sym was)) in
+    pages-same c.args.pages.now.entries _ c.args.key.0 c.args.key.1 c.write_on.new.page updates (ap is_some (sym was))
 
 pub returns-in-Some-clause-empty : goal.returns-in-Some-clause-empty
 unfolding page_at is_same
 returns-in-Some-clause-empty c = λ h q on.
     let was = ap option_copied_mut (sym c.in-Some.is) ∙ c.get_mut.ensures.value in
     let w = c.get_mut.follows.holds c.write_on.new.page in
-    let updates = w.3 (ap is_some (sym was)) in
-    owner-written c.args.pages.now.entries _ c.args.key.0 c.args.key.1 c.write_on.new.page (λ a b. updates.0 (a, b)) q on ∙ nobody_in c.write_on.new.page.owners (sym c.is_empty.ensures.value ∙ h) (place_of q)
+    let updates = w.updates (ap is_some (sym was)) in
+    owner-written c.args.pages.now.entries _ c.args.key.0 c.args.key.1 c.write_on.new.page updates q on ∙ nobody_in c.write_on.new.page.owners (sym c.is_empty.ensures.value ∙ h) (place_of q)
 
 pub returns-in-Some-clause-busy : goal.returns-in-Some-clause-busy
 unfolding page_at is_same
 returns-in-Some-clause-busy c = λ h there.
     let was = ap option_copied_mut (sym c.in-Some.is) ∙ c.get_mut.ensures.value in
     let w = c.get_mut.follows.holds c.write_on.new.page in
-    let updates = w.3 (ap is_some (sym was)) in
-    owned-busy _ c.args.key.0 c.args.key.1 c.write_on.new.page (page-written c.args.pages.now.entries _ c.args.key.0 c.args.key.1 c.write_on.new.page (λ a b. updates.0 (a, b))) c.is_empty.ensures.whole (sym c.is_empty.ensures.value ∙ h)
+    let updates = w.updates (ap is_some (sym was)) in
+    owned-busy _ c.args.key.0 c.args.key.1 c.write_on.new.page (page-written c.args.pages.now.entries _ c.args.key.0 c.args.key.1 c.write_on.new.page updates) c.is_empty.ensures.whole (sym c.is_empty.ensures.value ∙ h)
 
 pub returns-in-None-clause-owner : goal.returns-in-None-clause-owner
 unfolding page_at

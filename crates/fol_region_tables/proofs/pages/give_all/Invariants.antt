@@ -1,6 +1,5 @@
 use Rattle.std.proofs.Common.{◌≡◌, ◌+◌, ◌≤◌, true, cond, List, length}
 use Rattle.std.specs.Prelude.{ℤ}
-use Rattle.std.specs.HashMap.{spare}
 use Rattle.std.specs.List.{count_by}
 use Rattle.fol_model.specs.declared.places.SectionPos.{SectionPos}
 use Rattle.fol_model.specs.Geometry.{is_among}
@@ -15,7 +14,7 @@ invariant-loop-rest l = record {
   within : (q : SectionPos) → is_among l.rest q ≡ true → is_among l.sections q ≡ true;
   there : (x z : ℤ) → has_page l.initial.pages.entries x z ≡ true → has_page l.pages.entries x z ≡ true;
   room : (pages : List (ℤ × ℤ)) → ((s : SectionPos) → is_new (owner_in l.initial.pages.entries) l.sections s ≡ true → is_listed pages (page_of s.x) s.z ≡ true)
-      → spare l.initial.pages + count_by (is_absent l.pages.entries) pages ≤ spare l.pages + count_by (is_absent l.initial.pages.entries) pages;
+      → l.initial.pages.spare + count_by (is_absent l.pages.entries) pages ≤ l.pages.spare + count_by (is_absent l.initial.pages.entries) pages;
   owned : AllOwned l.initial.pages.entries → AllOwned l.pages.entries;
 }
 

@@ -20,8 +20,8 @@ unfolding page_at is_same
 returns-in-Some-clause-owner c =
     let was = ap option_copied_mut (sym c.in-Some.is) ∙ c.get_mut.ensures.value in
     let w = c.get_mut.follows.holds c.write_on.new.page in
-    let updates = w.3 (ap is_some (sym was)) in
-    owners-written c.args.pages.now.entries _ c.args.key.0 c.args.key.1 c.write_on.new.page (λ a b. updates.0 (a, b)) c.args.sections.now c.args.id c.requires.page
+    let updates = w.updates (ap is_some (sym was)) in
+    owners-written c.args.pages.now.entries _ c.args.key.0 c.args.key.1 c.write_on.new.page updates c.args.sections.now c.args.id c.requires.page
     (λ q. c.write_on.ensures (place_of q) ∙ ap (λ o. cond (list_any (λ s. nat_eq (place_of s) (place_of q)) c.args.sections.now) c.args.id (owner_on o q)) was)
 
 pub returns-in-Some-clause-pages : goal.returns-in-Some-clause-pages
@@ -29,8 +29,8 @@ unfolding page_at is_same
 returns-in-Some-clause-pages c =
     let was = ap option_copied_mut (sym c.in-Some.is) ∙ c.get_mut.ensures.value in
     let w = c.get_mut.follows.holds c.write_on.new.page in
-    let updates = w.3 (ap is_some (sym was)) in
-    pages-more c.args.pages.now.entries _ c.args.key.0 c.args.key.1 c.write_on.new.page (λ a b. updates.0 (a, b))
+    let updates = w.updates (ap is_some (sym was)) in
+    pages-more c.args.pages.now.entries _ c.args.key.0 c.args.key.1 c.write_on.new.page updates
 
 pub returns-in-Some-clause-owned : goal.returns-in-Some-clause-owned
 returns-in-Some-clause-owned c = owned-given c.args.pages.now.entries _ c.args.key.0 c.args.key.1 c.args.sections.now c.args.id c.requires.page (returns-in-Some-clause-owner c) _ (among_at c.args.sections.now 0 origin c.requires.some) c.requires.region (returns-in-Some-clause-pages c)
@@ -42,7 +42,7 @@ returns-in-None-clause-owner c =
     let same = c.get_mut.follows.holds-at-none in
     let r = ok_value c.insert.result (c.insert.ensures.succeeds (rw same (c.requires.room (ap is_some (sym none))))) in
     let updates = rw same at (IfOk-at_ok _ r.1 c.insert.ensures.updates) in
-    owners-written c.args.pages.now.entries _ c.args.key.0 c.args.key.1 c.page_with.result (λ a b. updates.0 (a, b)) c.args.sections.now c.args.id c.requires.page
+    owners-written c.args.pages.now.entries _ c.args.key.0 c.args.key.1 c.page_with.result updates c.args.sections.now c.args.id c.requires.page
     (λ q. c.page_with.ensures (place_of q) ∙ ap (λ o. cond (list_any (λ s. nat_eq (place_of s) (place_of q)) c.args.sections.now) c.args.id (owner_on o q)) none)
 
 pub returns-in-None-clause-pages : goal.returns-in-None-clause-pages
@@ -52,7 +52,7 @@ returns-in-None-clause-pages c =
     let same = c.get_mut.follows.holds-at-none in
     let r = ok_value c.insert.result (c.insert.ensures.succeeds (rw same (c.requires.room (ap is_some (sym none))))) in
     let updates = rw same at (IfOk-at_ok _ r.1 c.insert.ensures.updates) in
-    pages-more c.args.pages.now.entries _ c.args.key.0 c.args.key.1 c.page_with.result (λ a b. updates.0 (a, b))
+    pages-more c.args.pages.now.entries _ c.args.key.0 c.args.key.1 c.page_with.result updates
 
 pub returns-in-None-clause-room : goal.returns-in-None-clause-room
 unfolding page_at has_page

@@ -21,16 +21,16 @@ unfolding page_at is_same
 returns-in-Some-clause-out c =
     let was = sym (ap option_copied_mut (sym c.in-Some.is) ∙ rw c.page_of.ensures at c.get_mut.ensures.value) in
     let w = c.get_mut.follows.holds c.clear_on-dead.new.page in
-    let updates = rw c.page_of.ensures at (w.3 (ap is_some (sym c.get_mut.ensures.value ∙ ap option_copied_mut c.in-Some.is))) in
-    out_of_page c.args.pages.now.entries _ c.args.first c.in-Some.page.now c.clear_on-dead.new.page was (λ a b. updates.0 (a, b)) c.args.part.now c.requires.page c.clear_on-dead.ensures.out
+    let updates = rw c.page_of.ensures at (w.updates (ap is_some (sym c.get_mut.ensures.value ∙ ap option_copied_mut c.in-Some.is))) in
+    out_of_page c.args.pages.now.entries _ c.args.first c.in-Some.page.now c.clear_on-dead.new.page was updates c.args.part.now c.requires.page c.clear_on-dead.ensures.out
 
 pub returns-in-Some-clause-pages : goal.returns-in-Some-clause-pages
 unfolding page_at has_page is_same
 returns-in-Some-clause-pages c =
     let was = sym (ap option_copied_mut (sym c.in-Some.is) ∙ rw c.page_of.ensures at c.get_mut.ensures.value) in
     let w = c.get_mut.follows.holds c.clear_on-dead.new.page in
-    let updates = rw c.page_of.ensures at (w.3 (ap is_some (sym c.get_mut.ensures.value ∙ ap option_copied_mut c.in-Some.is))) in
-    pages-same c.args.pages.now.entries _ (page_of c.args.first.x) c.args.first.z _ (λ a b. updates.0 (a, b)) (ap is_some was)
+    let updates = rw c.page_of.ensures at (w.updates (ap is_some (sym c.get_mut.ensures.value ∙ ap option_copied_mut c.in-Some.is))) in
+    pages-same c.args.pages.now.entries _ (page_of c.args.first.x) c.args.first.z _ updates (ap is_some was)
 
 pub returns-in-None-clause-dead : goal.returns-in-None-clause-dead
 unfolding page_at
@@ -50,16 +50,16 @@ unfolding page_at is_same
 returns-in-Some-clause-empty c = λ done.
     let was = sym (ap option_copied_mut (sym c.in-Some.is) ∙ rw c.page_of.ensures at c.get_mut.ensures.value) in
     let w = c.get_mut.follows.holds c.clear_on-dead.new.page in
-    let updates = rw c.page_of.ensures at (w.3 (ap is_some (sym c.get_mut.ensures.value ∙ ap option_copied_mut c.in-Some.is))) in
-    page_empty c.args.pages.now.entries _ c.args.first c.in-Some.page.now c.clear_on-dead.new.page was (λ a b. updates.0 (a, b)) c.args.part.now c.requires.page c.clear_on-dead.ensures.out (sym c.is_empty.ensures.value ∙ done)
+    let updates = rw c.page_of.ensures at (w.updates (ap is_some (sym c.get_mut.ensures.value ∙ ap option_copied_mut c.in-Some.is))) in
+    page_empty c.args.pages.now.entries _ c.args.first c.in-Some.page.now c.clear_on-dead.new.page was updates c.args.part.now c.requires.page c.clear_on-dead.ensures.out (sym c.is_empty.ensures.value ∙ done)
 
 pub returns-in-Some-clause-busy : goal.returns-in-Some-clause-busy
 unfolding page_at is_same
 returns-in-Some-clause-busy c = λ busy there.
     let was = sym (ap option_copied_mut (sym c.in-Some.is) ∙ rw c.page_of.ensures at c.get_mut.ensures.value) in
     let w = c.get_mut.follows.holds c.clear_on-dead.new.page in
-    let updates = rw c.page_of.ensures at (w.3 (ap is_some (sym c.get_mut.ensures.value ∙ ap option_copied_mut c.in-Some.is))) in
-    page_busy c.args.pages.now.entries _ c.args.first c.in-Some.page.now c.clear_on-dead.new.page was (λ a b. updates.0 (a, b)) c.args.part.now c.requires.page c.clear_on-dead.ensures.out c.is_empty.ensures.whole (sym c.is_empty.ensures.value ∙ busy)
+    let updates = rw c.page_of.ensures at (w.updates (ap is_some (sym c.get_mut.ensures.value ∙ ap option_copied_mut c.in-Some.is))) in
+    page_busy c.args.pages.now.entries _ c.args.first c.in-Some.page.now c.clear_on-dead.new.page was updates c.args.part.now c.requires.page c.clear_on-dead.ensures.out c.is_empty.ensures.whole (sym c.is_empty.ensures.value ∙ busy)
 
 pub returns-in-None-clause-busy : goal.returns-in-None-clause-busy
 unfolding page_at has_page

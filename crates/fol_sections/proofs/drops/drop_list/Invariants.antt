@@ -1,6 +1,5 @@
 use Rattle.std.proofs.Common.{◌≡◌, ◌+◌, ◌≤◌, ◌&&◌, cond, length}
 use Rattle.std.specs.Prelude.{None, count_by, nat_eq}
-use Rattle.std.specs.HashMap.{spare}
 use Rattle.fol_model.specs.declared.places.SectionPos.{SectionPos}
 use Rattle.fol_model.specs.Geometry.{is_among}
 use Rattle.fol_sections.specs.Pages.{AllUsed, counts_at, near_at}
@@ -12,7 +11,7 @@ invariant-loop-rest l = record {
   near : (q : SectionPos) → near_at l.pages.entries q ≡ near_at l.initial.pages.entries q;
   out : (q : SectionPos) → cond (is_among l.rest q && nat_eq (near_at l.pages.entries q) 0) None (counts_at l.pages.entries q)
       ≡ cond (is_among l.fn.list q && nat_eq (near_at l.initial.pages.entries q) 0) None (counts_at l.initial.pages.entries q);
-  room : spare l.initial.pages ≤ spare l.pages;
+  room : l.initial.pages.spare ≤ l.pages.spare;
   used : AllUsed l.initial.pages.entries → AllUsed l.pages.entries;
 }
 

@@ -14,7 +14,7 @@ pub returns-then-is_done-clause-out : goal.returns-then-is_done-clause-out
 unfolding page_at is_same
 returns-then-is_done-clause-out c = λ q.
     let updates = rw c.page_of.ensures at c.remove.ensures.updates in
-    counts-gone c.clear_stretch-dead.new.pages.entries _ (page_of c.args.first.x) c.args.first.z (c.clear_stretch-dead.ensures.empty c.if-is_done.true) (λ a b. updates.0 (a, b)) q
+    counts-gone c.clear_stretch-dead.new.pages.entries _ (page_of c.args.first.x) c.args.first.z (c.clear_stretch-dead.ensures.empty c.if-is_done.true) updates q
     ∙ c.clear_stretch-dead.ensures.out q
 
 -- the page is not there any more
@@ -28,9 +28,9 @@ returns-then-is_done-clause-used c =
     let z = c.args.first.z in
     let updates = rw c.page_of.ensures at c.remove.ensures.updates in
     used-out first _ c.args.first (λ q. is_among part q && nat_eq (near_at first q) 0) (λ q h. all_among (IsOnPage c.args.first) part q c.requires.page (and_parts (is_among part q) (nat_eq (near_at first q) 0) h).0)
-    (λ q. counts-gone cleared _ x z (c.clear_stretch-dead.ensures.empty c.if-is_done.true) (λ a b. updates.0 (a, b)) q ∙ c.clear_stretch-dead.ensures.out q)
-    (λ a b h. sym (c.clear_stretch-dead.ensures.pages a b) ∙ pages-less cleared _ x z (λ a b. updates.0 (a, b)) a b h)
-    (λ h. absurd (true≢false (sym h ∙ page-gone cleared _ x z (λ a b. updates.0 (a, b)))))
+    (λ q. counts-gone cleared _ x z (c.clear_stretch-dead.ensures.empty c.if-is_done.true) updates q ∙ c.clear_stretch-dead.ensures.out q)
+    (λ a b h. sym (c.clear_stretch-dead.ensures.pages a b) ∙ pages-less cleared _ x z updates a b h)
+    (λ h. absurd (true≢false (sym h ∙ page-gone cleared _ x z updates)))
 
 -- it has a present section left
 pub returns-else-is_done-clause-used : goal.returns-else-is_done-clause-used

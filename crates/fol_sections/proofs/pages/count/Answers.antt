@@ -41,20 +41,20 @@ returns-in-Some-clause-put c = λ q.
     let value = rw c.page_of.ensures at c.get_mut.ensures.value in
     let was = ap option_copied_mut (sym c.in-Some.is) ∙ value in
     let w = c.get_mut.follows.holds c.count.new.self in
-    let updates = rw c.page_of.ensures at (w.3 (ap is_some (sym c.get_mut.ensures.value ∙ ap option_copied_mut c.in-Some.is))) in
+    let updates = rw c.page_of.ensures at (w.updates (ap is_some (sym c.get_mut.ensures.value ∙ ap option_copied_mut c.in-Some.is))) in
     let kept = ap (λ n. slice_index_or c.in-Some.page.now.sections n None) c.place_of.ensures.value ∙ ap (option_and_then (λ p. counts_on p c.args.s)) was in
     let now : Counts = record { loaded = c.count.result; near = (unwrap_or (slice_index_or c.in-Some.page.now.sections c.place_of.result None) no_counts).near } in
     counts-written c.args.pages.now.entries _ c.args.s c.in-Some.page.now (omega (arith, n)) c.place_of.result c.place_of.ensures.value (Some now)
-    (λ a b. updates.0 (a, b) ∙ ap (λ p. cond (is_same (page_of c.args.s.x) c.args.s.z a b) (Some p) (page_at c.args.pages.now.entries a b)) c.count.ensures.counted) q (ap (option_and_then (λ p. counts_on p q)) (sym was))
+    (λ a b. updates a b ∙ ap (λ p. cond (is_same (page_of c.args.s.x) c.args.s.z a b) (Some p) (page_at c.args.pages.now.entries a b)) c.count.ensures.counted) q (ap (option_and_then (λ p. counts_on p q)) (sym was))
     ∙ ap (λ o. cond (same_section c.args.s q) (Some (record { loaded = c.count.result; near = (unwrap_or o no_counts).near })) (counts_at c.args.pages.now.entries q)) kept
 
 pub returns-in-Some-clause-used : goal.returns-in-Some-clause-used
 unfolding page_at is_same
 returns-in-Some-clause-used c =
     let w = c.get_mut.follows.holds c.count.new.self in
-    let updates = rw c.page_of.ensures at (w.3 (ap is_some (sym c.get_mut.ensures.value ∙ ap option_copied_mut c.in-Some.is))) in
+    let updates = rw c.page_of.ensures at (w.updates (ap is_some (sym c.get_mut.ensures.value ∙ ap option_copied_mut c.in-Some.is))) in
     used-change c.args.pages.now.entries _ (same_section c.args.s) _ (returns-in-Some-clause-put c)
-    (pages-same c.args.pages.now.entries _ (page_of c.args.s.x) c.args.s.z _ (λ a b. updates.0 (a, b)) (here-page c.args.pages.now.entries c.args.s c.requires.here))
+    (pages-same c.args.pages.now.entries _ (page_of c.args.s.x) c.args.s.z _ updates (here-page c.args.pages.now.entries c.args.s c.requires.here))
 
 pub returns-in-None : goal.returns-in-None
 unfolding page_at has_page

@@ -16,16 +16,16 @@ unfolding page_at is_same
 returns-in-Some-clause-put c =
     let was = sym (ap option_copied_mut (sym c.in-Some.is) ∙ rw c.page_of.ensures at c.get_mut.ensures.value) in
     let w = c.get_mut.follows.holds c.mark_on.new.page in
-    let updates = rw c.page_of.ensures at (w.3 (ap is_some (sym c.get_mut.ensures.value ∙ ap option_copied_mut c.in-Some.is))) in
-    stretch-written c.args.pages.now.entries _ c.args.first c.mark_on.new.page (λ a b. updates.0 (a, b)) c.args.part.now c.requires.page
+    let updates = rw c.page_of.ensures at (w.updates (ap is_some (sym c.get_mut.ensures.value ∙ ap option_copied_mut c.in-Some.is))) in
+    stretch-written c.args.pages.now.entries _ c.args.first c.mark_on.new.page updates c.args.part.now c.requires.page
     (λ q on. c.mark_on.ensures q on ∙ ap (λ o. cond (is_among c.args.part.now q) (Some no_counts) (option_and_then (λ p. counts_on p q) o)) (sym was))
 
 pub returns-in-Some-clause-pages : goal.returns-in-Some-clause-pages
 unfolding page_at is_same
 returns-in-Some-clause-pages c =
     let w = c.get_mut.follows.holds c.mark_on.new.page in
-    let updates = rw c.page_of.ensures at (w.3 (ap is_some (sym c.get_mut.ensures.value ∙ ap option_copied_mut c.in-Some.is))) in
-    pages-more c.args.pages.now.entries _ (page_of c.args.first.x) c.args.first.z c.mark_on.new.page (λ a b. updates.0 (a, b))
+    let updates = rw c.page_of.ensures at (w.updates (ap is_some (sym c.get_mut.ensures.value ∙ ap option_copied_mut c.in-Some.is))) in
+    pages-more c.args.pages.now.entries _ (page_of c.args.first.x) c.args.first.z c.mark_on.new.page updates
 
 pub returns-in-Some-clause-used : goal.returns-in-Some-clause-used
 returns-in-Some-clause-used c = used-put c.args.pages.now.entries _ (is_among c.args.part.now) no_counts (returns-in-Some-clause-put c) c.args.first c.requires.some (returns-in-Some-clause-pages c)
@@ -37,7 +37,7 @@ returns-in-None-clause-put c =
     let same = c.get_mut.follows.holds-at-none in
     let r = ok_value c.insert.result (c.insert.ensures.succeeds (rw same (c.requires.room (ap is_some (sym none))))) in
     let updates = rw (same, c.page_of-in-None.ensures) at (IfOk-at_ok _ r.1 c.insert.ensures.updates) in
-    stretch-written c.args.pages.now.entries _ c.args.first c.page_with.result (λ a b. updates.0 (a, b)) c.args.part.now c.requires.page
+    stretch-written c.args.pages.now.entries _ c.args.first c.page_with.result updates c.args.part.now c.requires.page
     (λ q on. c.page_with.ensures q on ∙ ap (λ o. cond (is_among c.args.part.now q) (Some no_counts) (option_and_then (λ p. counts_on p q) o)) none)
 
 pub returns-in-None-clause-pages : goal.returns-in-None-clause-pages
@@ -47,7 +47,7 @@ returns-in-None-clause-pages c =
     let same = c.get_mut.follows.holds-at-none in
     let r = ok_value c.insert.result (c.insert.ensures.succeeds (rw same (c.requires.room (ap is_some (sym none))))) in
     let updates = rw (same, c.page_of-in-None.ensures) at (IfOk-at_ok _ r.1 c.insert.ensures.updates) in
-    pages-more c.args.pages.now.entries _ (page_of c.args.first.x) c.args.first.z c.page_with.result (λ a b. updates.0 (a, b))
+    pages-more c.args.pages.now.entries _ (page_of c.args.first.x) c.args.first.z c.page_with.result updates
 
 pub returns-in-None-clause-room : goal.returns-in-None-clause-room
 unfolding page_at has_page

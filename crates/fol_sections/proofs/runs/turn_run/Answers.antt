@@ -38,32 +38,32 @@ unfolding page_at is_same
 returns-in-Some-clause-near c =
     let was = sym (ap option_copied_mut (sym c.in-Some.is) ∙ rw c.page_of.ensures at c.get_mut.ensures.value) in
     let w = c.get_mut.follows.holds c.turn_on.new.page in
-    let updates = rw c.page_of.ensures at (w.3 (ap is_some (sym c.get_mut.ensures.value ∙ ap option_copied_mut c.in-Some.is))) in
-    run_near c.args.pages.now.entries _ c.args.s c.in-Some.page.now c.turn_on.new.page was (λ a b. updates.0 (a, b)) c.args.len c.args.turn c.requires.run c.turn_on.ensures.near
+    let updates = rw c.page_of.ensures at (w.updates (ap is_some (sym c.get_mut.ensures.value ∙ ap option_copied_mut c.in-Some.is))) in
+    run_near c.args.pages.now.entries _ c.args.s c.in-Some.page.now c.turn_on.new.page was updates c.args.len c.args.turn c.requires.run c.turn_on.ensures.near
 
 pub returns-in-Some-clause-here : goal.returns-in-Some-clause-here
 unfolding page_at is_same
 returns-in-Some-clause-here c =
     let was = sym (ap option_copied_mut (sym c.in-Some.is) ∙ rw c.page_of.ensures at c.get_mut.ensures.value) in
     let w = c.get_mut.follows.holds c.turn_on.new.page in
-    let updates = rw c.page_of.ensures at (w.3 (ap is_some (sym c.get_mut.ensures.value ∙ ap option_copied_mut c.in-Some.is))) in
-    run_here c.args.pages.now.entries _ c.args.s c.in-Some.page.now c.turn_on.new.page was (λ a b. updates.0 (a, b)) c.turn_on.ensures.kept
+    let updates = rw c.page_of.ensures at (w.updates (ap is_some (sym c.get_mut.ensures.value ∙ ap option_copied_mut c.in-Some.is))) in
+    run_here c.args.pages.now.entries _ c.args.s c.in-Some.page.now c.turn_on.new.page was updates c.turn_on.ensures.kept
 
 pub returns-in-Some-clause-chunks : goal.returns-in-Some-clause-chunks
 unfolding page_at is_same
 returns-in-Some-clause-chunks c =
     let was = sym (ap option_copied_mut (sym c.in-Some.is) ∙ rw c.page_of.ensures at c.get_mut.ensures.value) in
     let w = c.get_mut.follows.holds c.turn_on.new.page in
-    let updates = rw c.page_of.ensures at (w.3 (ap is_some (sym c.get_mut.ensures.value ∙ ap option_copied_mut c.in-Some.is))) in
-    run_chunks c.args.pages.now.entries _ c.args.s c.in-Some.page.now c.turn_on.new.page was (λ a b. updates.0 (a, b)) c.turn_on.ensures.kept
+    let updates = rw c.page_of.ensures at (w.updates (ap is_some (sym c.get_mut.ensures.value ∙ ap option_copied_mut c.in-Some.is))) in
+    run_chunks c.args.pages.now.entries _ c.args.s c.in-Some.page.now c.turn_on.new.page was updates c.turn_on.ensures.kept
 
 pub returns-in-Some-clause-used : goal.returns-in-Some-clause-used
 unfolding page_at is_same
 returns-in-Some-clause-used c =
     let was = sym (ap option_copied_mut (sym c.in-Some.is) ∙ rw c.page_of.ensures at c.get_mut.ensures.value) in
     let w = c.get_mut.follows.holds c.turn_on.new.page in
-    let updates = rw c.page_of.ensures at (w.3 (ap is_some (sym c.get_mut.ensures.value ∙ ap option_copied_mut c.in-Some.is))) in
-    run_used c.args.pages.now.entries _ c.args.s c.in-Some.page.now c.turn_on.new.page was (λ a b. updates.0 (a, b)) c.turn_on.ensures.kept
+    let updates = rw c.page_of.ensures at (w.updates (ap is_some (sym c.get_mut.ensures.value ∙ ap option_copied_mut c.in-Some.is))) in
+    run_used c.args.pages.now.entries _ c.args.s c.in-Some.page.now c.turn_on.new.page was updates c.turn_on.ensures.kept
 
 pub returns-in-None-clause-near : goal.returns-in-None-clause-near
 unfolding page_at

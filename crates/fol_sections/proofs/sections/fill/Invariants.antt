@@ -1,7 +1,6 @@
 use Rattle.std.proofs.Common.{◌≡◌, ◌+◌, ◌≤◌, true, cond, length}
 use Rattle.std.specs.Prelude.{Some}
 use Rattle.std.specs.List.{count_by}
-use Rattle.std.specs.HashMap.{spare as room_of}
 use Rattle.fol_model.specs.declared.places.SectionPos.{SectionPos}
 use Rattle.fol_model.specs.Geometry.{is_among}
 use Rattle.fol_pages.proofs.AbsentPages.{is_absent}
@@ -14,7 +13,7 @@ invariant-loop-rest l = record {
   filled : (q : SectionPos) → cond (is_among l.rest q) (Some no_counts) (counts_at l.pages.entries q) ≡ cond (is_among l.fn.missing q) (Some no_counts) (counts_at l.initial.pages.entries q);
   within : (q : SectionPos) → is_among l.rest q ≡ true → is_among l.fn.missing q ≡ true;
   used : AllUsed l.initial.pages.entries → AllUsed l.pages.entries;
-  room : (near : InNear l.fn.missing) → room_of l.initial.pages + count_by (is_absent l.pages.entries) (near_from near.x near.z) ≤ room_of l.pages + count_by (is_absent l.initial.pages.entries) (near_from near.x near.z);
+  room : (near : InNear l.fn.missing) → l.initial.pages.spare + count_by (is_absent l.pages.entries) (near_from near.x near.z) ≤ l.pages.spare + count_by (is_absent l.initial.pages.entries) (near_from near.x near.z);
 }
 
 abbrev pub decreases-loop-rest : goal.decreases-loop-rest

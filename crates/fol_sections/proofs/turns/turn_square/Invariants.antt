@@ -1,7 +1,6 @@
 use Rattle.std.proofs.Common.{◌≡◌, ◌+◌, ◌-◌, ◌≤◌, ◌++◌, length}
 use Rattle.std.specs.List.{count_by, filter}
 use Rattle.std.specs.Vec.{vec_capacity}
-use Rattle.std.specs.HashMap.{spare}
 use Rattle.fol_model.specs.declared.places.SectionPos.{SectionPos}
 use Rattle.fol_model.specs.Geometry.{same_section}
 use Rattle.fol_model.specs.Universe.{square}
@@ -18,7 +17,7 @@ invariant-loop-first l = record {
   here : (q : SectionPos) → is_here l.pages.entries q ≡ is_here l.initial.pages.entries q;
   chunks : (q : SectionPos) → chunks_at l.pages.entries q ≡ chunks_at l.initial.pages.entries q;
   used : AllUsed l.initial.pages.entries → AllUsed l.pages.entries;
-  room : spare l.pages ≡ spare l.initial.pages;
+  room : l.pages.spare ≡ l.initial.pages.spare;
   died : l.died.items ++ filter (λ q. leaves_none l.fn.turn (near_at l.initial.pages.entries q)) (rest l.runs) ≡ filter (λ q. leaves_none l.fn.turn (near_at l.initial.pages.entries q)) (square l.fn.s l.fn.radius);
   most : length l.died.items + length (rest l.runs) ≤ 289;
   space : vec_capacity l.initial.died ≤ vec_capacity l.died;

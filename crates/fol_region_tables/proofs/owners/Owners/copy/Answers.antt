@@ -7,11 +7,11 @@ use Rattle.fol_region_tables.proofs.owners.Owners.copy.Goals as goal
 pub invariant_of-result : goal.invariant_of-result
 unfolding page_at
 invariant_of-result c =
-    let same : c.in_ok-pages.pages.entries ≡ c.self.inside.pages.entries = same_from_all_zip _ _ _ c.in_ok-pages.ensures.cases (λ x y r. λ i. ((r.0.0 i, r.0.1 i), r.1 i)) in
-    same_owned c.self.inside.pages.entries _ (λ a b. c.reserve.ensures.entries.2 (a, b) ∙ ap (λ ps. page_at ps a b) same) c.self.invariant
+    let same : c.in_ok-pages.pages.entries ≡ c.self.inside.pages.entries = same_from_all_zip _ _ _ c.in_ok-pages.ensures.cases (λ x y r. λ i. (r.0 i, r.1 i)) in
+    same_owned c.self.inside.pages.entries _ (λ a b. ap (λ ps. page_at ps a b) c.reserve.ensures.entries ∙ ap (λ ps. page_at ps a b) same) c.self.invariant
 
 pub returns-clause-owner : goal.returns-clause-owner
 unfolding page_at
 returns-clause-owner c =
-    let same : c.in_ok-pages.pages.entries ≡ c.self.inside.pages.entries = same_from_all_zip _ _ _ c.in_ok-pages.ensures.cases (λ x y r. λ i. ((r.0.0 i, r.0.1 i), r.1 i)) in
-    rw (← c.self.view_is) (same_owners c.self.inside.pages.entries _ (λ a b. c.reserve.ensures.entries.2 (a, b) ∙ ap (λ ps. page_at ps a b) same))
+    let same : c.in_ok-pages.pages.entries ≡ c.self.inside.pages.entries = same_from_all_zip _ _ _ c.in_ok-pages.ensures.cases (λ x y r. λ i. (r.0 i, r.1 i)) in
+    rw (← c.self.view_is) (same_owners c.self.inside.pages.entries _ (λ a b. ap (λ ps. page_at ps a b) c.reserve.ensures.entries ∙ ap (λ ps. page_at ps a b) same))

@@ -6,7 +6,7 @@ use Rattle.fol_sections.proofs.sections.Sections.new.Goals as goal
 pub invariant_of-result : goal.invariant_of-result
 invariant_of-result c =
     let numbers : IsGrid c.args.grid = rw c.grid.view_is at c.grid.invariant in (
-      kept_none _ _ _ numbers c.new.ensures.empty c.new-2.ensures.empty,
+      kept_none _ _ _ numbers c.new.ensures.empty c.new-2.ensures,
       record {
         holds = omega arith;
         pages = omega arith;
@@ -17,4 +17,4 @@ invariant_of-result c =
     )
 
 pub returns-clause-empty : goal.returns-clause-empty
-returns-clause-empty c = table_none _ _ _ _ _ _ c.new.ensures.empty c.new-2.ensures.empty c.in_ok-with_capacity.ensures.items c.in_ok-with_capacity-2.ensures.items
+returns-clause-empty c = table_none _ _ _ _ _ _ c.new.ensures.empty c.new-2.ensures c.in_ok-with_capacity.ensures.items c.in_ok-with_capacity-2.ensures.items

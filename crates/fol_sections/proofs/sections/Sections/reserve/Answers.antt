@@ -1,4 +1,4 @@
-use Rattle.std.proofs.Common.{arith}
+use Rattle.std.proofs.Common.{ap, arith}
 use Rattle.fol_sections.specs.Places.{number_at}
 use Rattle.fol_sections.specs.Pages.{page_at}
 use Rattle.fol_sections.proofs.Tables.{kept_same, table_same}
@@ -9,7 +9,7 @@ unfolding number_at page_at
 invariant_of-self-in_err-reserve-2 c =
     let h = c.reserve.ensures.entries in
     let k = c.reserve-then-n-self.ensures.entries in (
-      kept_same _ _ _ _ _ (λ a b. h.2 (a, b)) (λ a b. k.2 (a, b)) _ c.self.invariant.0,
+      kept_same _ _ _ _ _ (λ a b. h.2 (a, b)) (λ a b. ap (λ ps. page_at ps a b) k) _ c.self.invariant.0,
       record {
         holds = omega (arith, c.reserve.ensures.spare, c.self.invariant.1.holds);
         pages = omega (arith, c.reserve-then-n-self.ensures.spare, c.self.invariant.1.pages);
@@ -24,14 +24,14 @@ unfolding number_at page_at
 returns-in_err-reserve-2-clause-same c =
     let h = c.reserve.ensures.entries in
     let k = c.reserve-then-n-self.ensures.entries in
-    rw (← c.self.view_is) (table_same _ _ _ _ _ (λ a b. h.2 (a, b)) (λ a b. k.2 (a, b)) _ c.self.invariant.0 _ _ _ _ _ _)
+    rw (← c.self.view_is) (table_same _ _ _ _ _ (λ a b. h.2 (a, b)) (λ a b. ap (λ ps. page_at ps a b) k) _ c.self.invariant.0 _ _ _ _ _ _)
 
 pub invariant_of-self-then-n-self : goal.invariant_of-self-then-n-self
 unfolding number_at page_at
 invariant_of-self-then-n-self c =
     let h = c.reserve.ensures.entries in
     let k = c.reserve-then-n-self.ensures.entries in (
-      kept_same _ _ _ _ _ (λ a b. h.2 (a, b)) (λ a b. k.2 (a, b)) _ c.self.invariant.0,
+      kept_same _ _ _ _ _ (λ a b. h.2 (a, b)) (λ a b. ap (λ ps. page_at ps a b) k) _ c.self.invariant.0,
       record {
         holds = omega (arith, c.in_ok-reserve.ensures.ok);
         pages = omega (arith, c.in_ok-reserve-2.ensures.ok);
@@ -46,4 +46,4 @@ unfolding number_at page_at
 returns-in_ok-reserve-2-clause-same c =
     let h = c.reserve.ensures.entries in
     let k = c.reserve-then-n-self.ensures.entries in
-    rw (← c.self.view_is) (table_same _ _ _ _ _ (λ a b. h.2 (a, b)) (λ a b. k.2 (a, b)) _ c.self.invariant.0 _ _ _ _ _ _)
+    rw (← c.self.view_is) (table_same _ _ _ _ _ (λ a b. h.2 (a, b)) (λ a b. ap (λ ps. page_at ps a b) k) _ c.self.invariant.0 _ _ _ _ _ _)
