@@ -1,6 +1,6 @@
 //! A map of pages by their column and row, which knows of many pages where they lie.
 
-ghost use Rattle.std.specs.Prelude.{◌≡◌, ℤ, ◌+◌, ◌<◌, ◌≤◌, cond, [], length, IsOk, IfSome, IfNone, OnOk, OnErr, None, Some};
+ghost use Rattle.std.specs.Prelude.{◌≡◌, ℤ, ◌+◌, ◌<◌, ◌≤◌, cond, [], length, IsOk, IfOk, IfSome, IfNone, OnOk, OnErr, None, Some};
 ghost use Rattle.std.specs.Borrow.{sem};
 ghost use Rattle.std.specs.List.{AllZip};
 ghost use Rattle.std.specs.Option.{option_copied, option_copied_mut};
@@ -188,6 +188,7 @@ impl<P> PageTable<P> {
         key: (i32, i32),
         page: P,
     ) -> Result<Option<P>, AllocFailed<((i32, i32), P)>>
+        ensures old { IfOk result (λ old. old ≡ page_at self.old.entries key.0 key.1) }
         ensures updates { OnOk result ((a b : ℤ) → page_at self.new.entries a b
             ≡ cond (is_same key.0 key.1 a b) (Some page) (page_at self.old.entries a b)) }
         ensures err { OnErr result (self.new.entries ≡ self.old.entries) }
