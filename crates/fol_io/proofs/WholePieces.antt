@@ -19,7 +19,7 @@ pub record AtPiece (all left : List ℕ) (before now : Option (List ℕ)) (puts 
 raised-again : (k p : ℕ) → raised 1 (raised k p) ≡ raised (k + 1) p
 raised-again k p = omega arith
 
-some_left : (left : List ℕ) → left ≢ [] → 0 < length left
+pub some_left : (left : List ℕ) → left ≢ [] → 0 < length left
 some_left left some = elim (cases_lt 0 (length left)) [ inl more ↦ more | inr none ↦ absurd (some (nil_from_length left (omega (arith, none)))) ]
 
 next_place : (sent left : List ℕ) (whole : ℕ) → length sent ≡ piece_size * whole → (length (sent ++ take piece_size left) ≡ piece_size * (whole + 1)) ⊎ (drop piece_size left ≡ [])
@@ -78,3 +78,7 @@ module _ (all left : List ℕ) (before mid : Option (List ℕ)) (puts mid_puts :
         received = rw (ap (λ (k : ℕ). take (k + prefix.0) all) whole) at prefix.2;
         counted = counts ∙ at.counted;
       }
+
+-- bytes of which some are left, seen after a step that leaves all of it, are not empty
+pub some_of_all : (all left same : List ℕ) (before now : Option (List ℕ)) (puts later : ℕ) → same ≡ left → AtPiece all left before now puts later → same ≢ [] → all ≢ []
+some_of_all all left same before now puts later e at some = AtPiece-some all same before now puts later (AtPiece-same all left same before now puts later e at) some

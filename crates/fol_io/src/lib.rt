@@ -8,7 +8,8 @@
 //! `MemShelf` and `MemSink` keep their bytes in memory and fail at the calls that they were told to;
 //! `FileShelf` and `StdSink` are a few lines over files and the standard streams, of whose content no
 //! contract can tell; `QuietGate` does nothing. The top call reads its texts from a shelf and writes its
-//! output, whose parts lie one behind the other, by [`put_all_in_pieces`]; whoever runs a tick passes the gate.
+//! output by [`put_all_in_pieces`], where its parts lie one behind the other, or by [`put_source`], where a [`Source`]
+//! makes it while it is put; whoever runs a tick passes the gate.
 #![tactic(auto)]
 
 mod bytes;
@@ -20,6 +21,7 @@ mod mem_sink;
 mod pieces;
 mod shelf;
 mod sink;
+mod source;
 mod std_sink;
 #[cfg(test)]
 mod tests;
@@ -30,8 +32,9 @@ pub use file_shelf::FileShelf;
 pub use gate::{Gate, QuietGate};
 pub use mem_shelf::{MemShelf, NamedBytes};
 pub use mem_sink::MemSink;
-pub use pieces::{put_all_in_pieces, put_in_pieces};
+pub use pieces::{put_all_in_pieces, put_in_pieces, put_source};
 pub use shelf::{Read, Shelf};
 pub use sink::{Put, Sink};
+pub use source::{PIECE_SIZE, Source};
 pub use std_sink::StdSink;
 pub use text::Text;

@@ -1,11 +1,11 @@
 //! A whole output, written in pieces.
 
 ghost use Rattle.std.specs.Prelude.{◌≡◌, ◌≤◌, [], flat_map};
-ghost use Rattle.fol_io.specs.Left.{left_of};
 ghost use Rattle.fol_io.specs.Sink.{ReceivedInPieces, Takes};
 
-use crate::left::{Left, PIECE_SIZE};
+use crate::left::Left;
 use crate::sink::{Put, Sink};
+use crate::source::{PIECE_SIZE, Source};
 
 /// Puts all the bytes, in pieces of 4,096 bytes of which the last may be shorter, and stops at the first
 /// piece that fails.
@@ -22,7 +22,7 @@ pub fn put_in_pieces<K: Sink>(sink: &mut K, bytes: &[u8]) -> Put
     ensures empty { bytes.now ≡ [] → result ≡ Put.Ok }
     ensures empty_makes_no_put { bytes.now ≡ [] → sink.new ≡ sink.old }
 {
-    put_left(
+    put_source(
         sink,
         Left {
             row: bytes,
@@ -44,23 +44,23 @@ pub fn put_all_in_pieces<K: Sink>(sink: &mut K, parts: &[Vec<u8>]) -> Put
     ensures empty_makes_no_put { flat_map (λ part. part.items) parts.now ≡ []
         → sink.new ≡ sink.old }
 {
-    put_left(sink, Left { row: &[], parts })
+    put_source(sink, Left { row: &[], parts })
 }
 
-/// Puts all that is left.
-fn put_left<K: Sink>(sink: &mut K, mut left: Left) -> Put
+/// Puts all the bytes of a source, as [`put_in_pieces`] puts them where they lie in a row. Takes no memory.
+pub fn put_source<K: Sink, S: Source + Drop>(sink: &mut K, mut source: S) -> Put
     ensures takes { Takes (K.received sink.old) (K.received sink.new) (K.faults sink.old)
-        (K.faults sink.new) (left_of left.entry) result }
+        (K.faults sink.new) (S.left source) result }
     ensures pieces { result ≡ Put.Failed
         → ReceivedInPieces (K.received sink.old) (K.received sink.new) (K.puts sink.old)
-        (K.puts sink.new) (left_of left.entry) }
+        (K.puts sink.new) (S.left source) }
     ensures faults_never_fall { K.faults sink.old ≤ K.faults sink.new }
-    ensures empty { left_of left.entry ≡ [] → result ≡ Put.Ok }
-    ensures empty_makes_no_put { left_of left.entry ≡ [] → sink.new ≡ sink.old }
+    ensures empty { S.left source ≡ [] → result ≡ Put.Ok }
+    ensures empty_makes_no_put { S.left source ≡ [] → sink.new ≡ sink.old }
 {
     let mut carry = [0; PIECE_SIZE];
-    while left.has_more() {
-        match left.put_piece(sink, &mut carry) {
+    while source.has_more() {
+        match source.put_piece(sink, &mut carry) {
             Put::Ok => {}
             Put::Failed => return Put::Failed,
         }

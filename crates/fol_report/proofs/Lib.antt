@@ -1,10 +1,13 @@
 pub mod Behind
+pub mod Given
 pub mod InShares
 pub mod Joined
 pub mod JsonText
 pub mod Lengths
+pub mod NextLines
 pub mod Pages
 pub mod PlainBytes
 pub mod PlainWords
 pub mod Quoted
+pub mod Rests
 pub mod Seats

@@ -1,7 +1,10 @@
+pub mod Histories
 pub mod JsonData
 pub mod Pages
+pub mod Rests
 pub mod Shares
 pub mod Spaced
 pub mod Stretches
 pub mod Tallies
 pub mod Tails
+pub mod Unwritten

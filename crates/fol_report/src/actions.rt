@@ -1,96 +1,92 @@
 //! The words of an action.
 
-ghost use Rattle.std.specs.Prelude.{◌≡◌, ◌++◌, [], ◌∷◌, codes, decimal, IfOk, string_bytes};
+ghost use Rattle.std.specs.Prelude.{◌≡◌, ◌+◌, ◌≤◌, ◌<◌, ◌++◌, [], ◌∷◌, codes, decimal, length};
 ghost use Rattle.fol_model.specs.Nesting.{deed_of};
 ghost use Rattle.fol_model.specs.ReportWords.{action_words, block_words, chunk_words};
+ghost use Rattle.fol_report.specs.Rests.{rest_words};
 ghost use Rattle.fol_report.specs.Spaced.{spaced};
 
-use crate::tail::Tail;
-use crate::words::{push_block, push_chunk, put_block, put_chunk, put_number, put_word};
-use fol_model::{Action, BlockPos, ChunkPos};
-use std::alloc::AllocError;
+use crate::page::Page;
+use crate::rest::Rest;
+use fol_model::{Action, ChunkPos};
 
 /// Puts the words of an action that has no other inside.
 #[tactic(auto, unfolding(fol_model::specs::ReportWords::action_words))]
-fn put_plain(out: &mut String, action: &Action) -> Result<(), AllocError>
-    requires { (deed_of action.now).wraps ≡ [] }
-    ensures { IfOk result (λ _. string_bytes out.new
-        ≡ string_bytes out.old ++ spaced (action_words action.now)) }
+fn push_plain(page: &mut Page, action: &Action)
+    requires plain { (deed_of action.now).wraps ≡ [] }
+    requires room { length page.old + 127 ≤ 1024 }
+    ensures text { page.new ≡ page.old ++ spaced (action_words action.now) }
+    ensures len { length page.new ≤ length page.old + 127 }
 {
     match action {
-        Action::Set { at, id } => put_set(out, *at, *id),
+        Action::Set { at, id } => {
+            page.push_word(b" set");
+            page.push_block(*at);
+            page.push_word(b" ");
+            page.push_short(*id as u32);
+        }
         Action::Copy { at, to } => {
-            put_word(out, "copy")?;
-            put_block(out, *at)?;
-            put_block(out, *to)
+            page.push_word(b" copy");
+            page.push_block(*at);
+            page.push_block(*to);
         }
         Action::Load(chunk) => {
-            put_word(out, "load")?;
-            put_chunk(out, *chunk)
+            page.push_word(b" load");
+            page.push_chunk(*chunk);
         }
         Action::Unload(chunk) => {
-            put_word(out, "unload")?;
-            put_chunk(out, *chunk)
+            page.push_word(b" unload");
+            page.push_chunk(*chunk);
         }
         Action::Send { entity, to } => {
-            put_word(out, "send")?;
-            put_number(out, *entity)?;
-            put_block(out, *to)
+            page.push_word(b" send ");
+            page.push_short(*entity);
+            page.push_block(*to);
         }
         Action::Arrive(entity) => {
-            put_word(out, "arrive")?;
-            put_number(out, entity.id)?;
-            put_block(out, entity.at)
+            page.push_word(b" arrive ");
+            page.push_short(entity.id);
+            page.push_block(entity.at);
         }
         Action::Post { .. } | Action::Every { .. } => unreachable!(),
     }
 }
 
-/// Puts the words of the action that sets a block, the most frequent one.
-fn put_set(out: &mut String, at: BlockPos, id: u16) -> Result<(), AllocError>
-    ensures { IfOk result (λ _. string_bytes out.new
-        ≡ string_bytes out.old ++ spaced (codes "set" ∷ block_words at ++ decimal id ∷ [])) }
-{
-    let mut words = Tail::new();
-    words.push_short(id as u32);
-    words.push_word(b" ");
-    push_block(&mut words, at);
-    words.push_word(b" set");
-    words.put(out)
-}
-
 /// Puts the words of a post but for those of the action that it asks for.
-fn put_posts(out: &mut String, chunk: ChunkPos, delay: u32) -> Result<(), AllocError>
-    ensures { IfOk result (λ _. string_bytes out.new
-        ≡ string_bytes out.old ++ spaced (codes "post" ∷ chunk_words chunk ++ decimal delay
-        ∷ [])) }
+fn push_posted(page: &mut Page, chunk: ChunkPos, delay: u32)
+    requires { length page.old + 127 ≤ 1024 }
+    ensures text { page.new ≡ page.old ++ spaced (codes "post" ∷ chunk_words chunk
+        ++ decimal delay ∷ []) }
+    ensures len { length page.new ≤ length page.old + 127 }
 {
-    let mut words = Tail::new();
-    words.push_short(delay);
-    words.push_word(b" ");
-    push_chunk(&mut words, chunk);
-    words.push_word(b" post");
-    words.put(out)
+    page.push_word(b" post");
+    page.push_chunk(chunk);
+    page.push_word(b" ");
+    page.push_short(delay);
 }
 
 /// Puts how often an action is done, and how often it still is.
-fn put_every(out: &mut String, period: u32, left: u32) -> Result<(), AllocError>
-    ensures { IfOk result (λ _. string_bytes out.new
-        ≡ string_bytes out.old ++ spaced (codes "every" ∷ decimal period ∷ decimal left ∷ [])) }
+fn push_every(page: &mut Page, period: u32, left: u32)
+    requires { length page.old + 127 ≤ 1024 }
+    ensures text { page.new ≡ page.old ++ spaced (codes "every" ∷ decimal period ∷ decimal left
+        ∷ []) }
+    ensures len { length page.new ≤ length page.old + 127 }
 {
-    let mut words = Tail::new();
-    words.push_short(left);
-    words.push_word(b" ");
-    words.push_short(period);
-    words.push_word(b" every ");
-    words.put(out)
+    page.push_word(b" every ");
+    page.push_short(period);
+    page.push_word(b" ");
+    page.push_short(left);
 }
 
-/// Puts the words of an action, from the outside in.
+/// Puts the words of an action but for those of the action inside, which are left.
 #[tactic(auto, unfolding(fol_model::specs::ReportWords::action_words))]
-pub fn put_action(out: &mut String, action: &Action) -> Result<(), AllocError>
-    ensures { IfOk result (λ _. string_bytes out.new
-        ≡ string_bytes out.old ++ spaced (action_words action.now)) }
+pub fn push_action<'a>(page: &mut Page, action: &'a Action) -> Rest<'a>
+    requires { length page.old + 127 ≤ 1024 }
+    ensures text { page.new ++ spaced (rest_words result)
+        ≡ page.old ++ spaced (action_words action.now) }
+    ensures len { length page.new ≤ length page.old + 127 }
+    ensures grows { length page.old < length page.new }
+    ensures fewer { length (rest_words result) < length (action_words action.now) }
 {
     match action {
         Action::Post {
@@ -98,17 +94,20 @@ pub fn put_action(out: &mut String, action: &Action) -> Result<(), AllocError>
             delay,
             action,
         } => {
-            put_posts(out, *chunk, *delay)?;
-            put_action(out, action.get())
+            push_posted(page, *chunk, *delay);
+            Rest::Deed(action.get())
         }
         Action::Every {
             period,
             left,
             action,
         } => {
-            put_every(out, *period, *left)?;
-            put_action(out, action.get())
+            push_every(page, *period, *left);
+            Rest::Deed(action.get())
         }
-        _ => put_plain(out, action),
+        _ => {
+            push_plain(page, action);
+            Rest::Done
+        }
     }
 }

@@ -1,12 +1,11 @@
 //! The words of answers: what a load, an unload, a post and a task came to.
 
-ghost use Rattle.std.specs.Prelude.{◌≡◌, ◌+◌, ◌≤◌, ◌++◌, ◌∷◌, length, IfOk, string_bytes};
+ghost use Rattle.std.specs.Prelude.{◌≡◌, ◌+◌, ◌≤◌, ◌++◌, ◌∷◌, [], codes, decimal, length};
 ghost use Rattle.fol_model.specs.ReportWords.{accept_words, full_words, loaded_words, outcome_word, ran_words, unloaded_words};
 ghost use Rattle.fol_report.specs.Spaced.{spaced};
 
 use crate::page::Page;
 use fol_model::{Accept, Loaded, Outcome, Ran, Unloaded};
-use std::alloc::AllocError;
 
 /// Puts the answer that too many sections would be present.
 fn push_full(page: &mut Page, present: u32, wanted: u32)
@@ -47,7 +46,7 @@ pub fn push_unloaded(page: &mut Page, answer: Unloaded)
 }
 
 /// Puts what became of a task that was asked for.
-fn push_accept(page: &mut Page, answer: Accept)
+pub fn push_accept(page: &mut Page, answer: Accept)
     requires { length page.old + 32 ≤ 1024 }
     ensures text { page.new ≡ page.old ++ spaced (accept_words answer) }
     ensures len { length page.new ≤ length page.old + 32 }
@@ -61,14 +60,14 @@ fn push_accept(page: &mut Page, answer: Accept)
     }
 }
 
-/// Puts what became of a task that was asked for, once there is room for it.
-pub fn put_accept(out: &mut String, page: &mut Page, answer: Accept) -> Result<(), AllocError>
-    ensures { IfOk result (λ _. string_bytes out.new ++ page.new
-        ≡ (string_bytes out.old ++ page.old) ++ spaced (accept_words answer)) }
+/// Puts how many tasks a tick asked for.
+pub fn push_accepted_count(page: &mut Page, count: usize)
+    requires { length page.old + 32 ≤ 1024 }
+    ensures text { page.new ≡ page.old ++ spaced (codes "accepted" ∷ decimal count ∷ []) }
+    ensures len { length page.new ≤ length page.old + 32 }
 {
-    page.make_room(out)?;
-    push_accept(page, answer);
-    Ok(())
+    page.push_word(b" accepted ");
+    page.push_number(count as u64);
 }
 
 /// Puts what a task came to.
@@ -88,7 +87,7 @@ fn push_outcome(page: &mut Page, outcome: Outcome)
 }
 
 /// Puts the number and the outcome of a task that ran.
-fn push_ran(page: &mut Page, task: Ran)
+pub fn push_ran(page: &mut Page, task: Ran)
     requires { length page.old + 32 ≤ 1024 }
     ensures text { page.new ≡ page.old ++ spaced (ran_words task) }
     ensures len { length page.new ≤ length page.old + 32 }
@@ -96,14 +95,4 @@ fn push_ran(page: &mut Page, task: Ran)
     page.push_word(b" ");
     page.push_number(task.number);
     push_outcome(page, task.outcome);
-}
-
-/// Puts the number and the outcome of a task that ran, once there is room for them.
-pub fn put_one_ran(out: &mut String, page: &mut Page, task: Ran) -> Result<(), AllocError>
-    ensures { IfOk result (λ _. string_bytes out.new ++ page.new
-        ≡ (string_bytes out.old ++ page.old) ++ spaced (ran_words task)) }
-{
-    page.make_room(out)?;
-    push_ran(page, task);
-    Ok(())
 }

@@ -1,16 +1,17 @@
 //! The line of an event. The seat that recorded it is not written.
 
-ghost use Rattle.std.specs.Prelude.{◌≡◌, ◌+◌, ◌≤◌, [], ◌∷◌, ◌++◌, codes, decimal, length, IfOk, string_bytes};
+ghost use Rattle.std.specs.Prelude.{◌≡◌, ◌+◌, ◌≤◌, [], ◌∷◌, ◌++◌, codes, decimal, length, ◌<◌, IfOk, string_bytes};
 ghost use Rattle.fol_model.specs.ReportWords.{accept_words, action_words, chunk_words, entry_words, event_words, loaded_words, unloaded_words};
-ghost use Rattle.fol_report.specs.Spaced.{joined};
+ghost use Rattle.fol_report.specs.Rests.{rest_words};
+ghost use Rattle.fol_report.specs.Spaced.{joined, spaced};
 ghost use Rattle.fol_model.specs.Packed.{event_seen};
 ghost use Rattle.fol_model.specs.declared.events.Event.TheVariants.{Begin, Load, Unload};
 
-use crate::actions::put_action;
-use crate::answers::{push_loaded, push_unloaded, put_accept};
-use crate::ends::put_end;
+use crate::answers::{push_accept, push_loaded, push_unloaded};
+use crate::ends::push_end;
 use crate::lines::Line;
 use crate::page::Page;
+use crate::rest::Rest;
 use fol_model::{Accept, Action, ChunkPos, EventRef, Loaded, PackedEntry, Unloaded};
 use std::alloc::AllocError;
 
@@ -51,9 +52,10 @@ fn push_unload(page: &mut Page, caller: u32, chunk: ChunkPos, answer: Unloaded)
 
 /// Puts what the line of a post begins with: all but its answer and its action.
 fn push_posts(page: &mut Page, caller: u32, chunk: ChunkPos, delay: u32)
-    requires { length page.old + 127 ≤ 1024 }
-    ensures { page.new ≡ page.old ++ joined (codes "post" ∷ decimal caller ∷ chunk_words chunk
+    requires { length page.old + 64 ≤ 1024 }
+    ensures text { page.new ≡ page.old ++ joined (codes "post" ∷ decimal caller ∷ chunk_words chunk
         ++ decimal delay ∷ []) }
+    ensures len { length page.new ≤ length page.old + 64 }
 {
     page.push_word(b"post ");
     page.push_short(caller);
@@ -62,37 +64,34 @@ fn push_posts(page: &mut Page, caller: u32, chunk: ChunkPos, delay: u32)
     page.push_short(delay);
 }
 
-/// Puts the line of a post, whose action has any length.
-fn put_post(
-    out: &mut String,
+/// Puts what the line of a post begins with, and returns what is left of it: the action.
+fn push_post<'a>(
     page: &mut Page,
     caller: u32,
     chunk: ChunkPos,
     delay: u32,
-    action: &Action,
+    action: &'a Action,
     answer: Accept,
-) -> Result<(), AllocError>
+) -> Rest<'a>
     requires { length page.old + 127 ≤ 1024 }
-    ensures text { IfOk result (λ _. string_bytes out.new ++ page.new
-        ≡ (string_bytes out.old ++ page.old)
-        ++ joined (codes "post" ∷ decimal caller ∷ chunk_words chunk
-        ++ decimal delay ∷ accept_words answer ++ action_words action.now)) }
-    ensures none { IfOk result (λ _. page.new ≡ []) }
+    ensures text { page.new ++ spaced (rest_words result)
+        ≡ page.old ++ joined (codes "post" ∷ decimal caller ∷ chunk_words chunk
+        ++ decimal delay ∷ accept_words answer ++ action_words action.now) }
+    ensures len { length page.new ≤ length page.old + 127 }
+    ensures grows { length page.old < length page.new }
 {
     push_posts(page, caller, chunk, delay);
-    put_accept(out, page, answer)?;
-    page.put(out)?;
-    put_action(out, action)?;
-    Ok(())
+    push_accept(page, answer);
+    Rest::Deed(action)
 }
 
-/// Puts the line of an event without its end, for which there is room then.
-pub fn put_event(out: &mut String, page: &mut Page, event: EventRef) -> Result<(), AllocError>
-    requires { length page.old + 128 ≤ 1024 }
-    ensures text { IfOk result (λ _. string_bytes out.new ++ page.new
-        ≡ (string_bytes out.old ++ page.old)
-        ++ joined (event_words (event_seen event.entry))) }
-    ensures room { IfOk result (λ _. length page.new + 1 ≤ 1024) }
+/// Puts what the line of an event begins with, and returns what is left of it.
+pub fn push_event<'a>(page: &mut Page, event: EventRef<'a>) -> Rest<'a>
+    requires { length page.old + 127 ≤ 1024 }
+    ensures text { page.new ++ spaced (rest_words result)
+        ≡ page.old ++ joined (event_words (event_seen event.entry)) }
+    ensures len { length page.new ≤ length page.old + 127 }
+    ensures grows { length page.old < length page.new }
 {
     match event {
         EventRef::Load {
@@ -111,7 +110,7 @@ pub fn put_event(out: &mut String, page: &mut Page, event: EventRef) -> Result<(
             delay,
             action,
             answer,
-        } => return put_post(out, page, caller, chunk, delay, action, answer),
+        } => return push_post(page, caller, chunk, delay, action, answer),
         EventRef::PhaseOpen(ticks) => {
             page.push_word(b"open ");
             page.push_short(ticks);
@@ -123,7 +122,7 @@ pub fn put_event(out: &mut String, page: &mut Page, event: EventRef) -> Result<(
             tick,
             ran,
             accepts,
-        } => return put_end(out, page, worker, region, tick, ran, accepts),
+        } => return push_end(page, worker, region, tick, ran, accepts),
         EventRef::PhaseClose => page.push_word(b"close"),
         EventRef::Finish => page.push_word(b"finish"),
         EventRef::Stop { caller } => {
@@ -131,7 +130,7 @@ pub fn put_event(out: &mut String, page: &mut Page, event: EventRef) -> Result<(
             page.push_short(caller);
         }
     }
-    Ok(())
+    Rest::Done
 }
 
 impl Line for PackedEntry {
@@ -139,7 +138,7 @@ impl Line for PackedEntry {
 
     fn put(&self, out: &mut String) -> Result<(), AllocError> {
         let mut page = Page::new();
-        put_event(out, &mut page, self.event())?;
-        page.put(out)
+        let rest = push_event(&mut page, self.event());
+        rest.put(out, &mut page)
     }
 }

@@ -1,14 +1,14 @@
 //! A page of lines.
 
-ghost use Rattle.std.specs.Prelude.{◌≡◌, ◌+◌, ◌≤◌, [], ◌∷◌, ◌++◌, decimal, length, IfOk, IsAscii, string_bytes};
+ghost use Rattle.std.specs.Prelude.{◌≡◌, ◌+◌, ◌≤◌, [], ◌∷◌, ◌++◌, ◌<◌, decimal, length, IfOk, IsAscii, string_bytes, true, false};
 ghost use Rattle.std.specs.Fmt.{signed_decimal};
-ghost use Rattle.fol_model.specs.ReportWords.{chunk_words};
+ghost use Rattle.fol_model.specs.ReportWords.{block_words, chunk_words};
 ghost use Rattle.fol_report.specs.Spaced.{spaced};
 
 use crate::digits::put_digits;
 use crate::row::write_word;
 use crate::stretch::Stretch;
-use fol_model::ChunkPos;
+use fol_model::{BlockPos, ChunkPos};
 use std::alloc::AllocError;
 use std::marker::Model;
 
@@ -46,6 +46,33 @@ impl Page {
             len: 0,
             stretch: Stretch::of(0, 0),
         }
+    }
+
+    /// The text.
+    #[inline(always)]
+    pub fn as_bytes(&self) -> &[u8]
+        ensures text { result.now ≡ self.now }
+        ensures within { length self.now ≤ 1024 }
+    {
+        &self.bytes[..self.len]
+    }
+
+    /// Leaves no text.
+    #[inline(always)]
+    pub fn clear(&mut self)
+        ensures { self.new ≡ [] }
+    {
+        self.len = 0;
+    }
+
+    /// Whether there is room for a line of 128 bytes.
+    #[inline(always)]
+    pub fn has_room(&self) -> bool
+        ensures room { result ≡ true → length self.now + 128 ≤ 1024 }
+        ensures none { result ≡ false → 1024 < length self.now + 128 }
+        ensures within { length self.now ≤ 1024 }
+    {
+        self.len <= ROOM - 128
     }
 
     /// Puts a word behind the text.
@@ -91,16 +118,36 @@ impl Page {
         self.push_short(number.unsigned_abs());
     }
 
+    /// Puts a space and a coordinate behind the text.
+    #[inline]
+    fn push_coordinate(&mut self, place: i32)
+        requires { length self.old + 12 ≤ 1024 }
+        ensures text { self.new ≡ self.old ++ 32 ∷ signed_decimal place }
+        ensures len { length self.new ≤ length self.old + 12 }
+    {
+        self.push_word(b" ");
+        self.push_signed(place);
+    }
+
     /// Puts the coordinates of a chunk behind the text.
     pub fn push_chunk(&mut self, at: ChunkPos)
         requires { length self.old + 24 ≤ 1024 }
         ensures text { self.new ≡ self.old ++ spaced (chunk_words at) }
         ensures len { length self.new ≤ length self.old + 24 }
     {
-        self.push_word(b" ");
-        self.push_signed(at.x);
-        self.push_word(b" ");
-        self.push_signed(at.z);
+        self.push_coordinate(at.x);
+        self.push_coordinate(at.z);
+    }
+
+    /// Puts the coordinates of a block behind the text.
+    pub fn push_block(&mut self, at: BlockPos)
+        requires { length self.old + 36 ≤ 1024 }
+        ensures text { self.new ≡ self.old ++ spaced (block_words at) }
+        ensures len { length self.new ≤ length self.old + 36 }
+    {
+        self.push_coordinate(at.x);
+        self.push_coordinate(at.y);
+        self.push_coordinate(at.z);
     }
 
     /// Puts the numbers of a worker and of a region behind the text.
@@ -124,7 +171,7 @@ impl Page {
             return Ok(());
         }
         out.push_str(unsafe { std::str::from_utf8_unchecked(&self.bytes[..self.len]) })?;
-        self.len = 0;
+        self.clear();
         Ok(())
     }
 
@@ -134,7 +181,7 @@ impl Page {
             ≡ string_bytes out.old ++ self.old) }
         ensures room { IfOk result (λ _. length self.new + 128 ≤ 1024) }
     {
-        if self.len > ROOM - 128 {
+        if !self.has_room() {
             return self.put(out);
         }
         Ok(())

@@ -5,8 +5,9 @@ ghost use Rattle.std.specs.Fmt.{signed_decimal};
 ghost use Rattle.fol_model.specs.ReportWords.{block_row_words, block_words, chunk_words, entity_words, owner_words, region_words, task_words};
 ghost use Rattle.fol_report.specs.Spaced.{joined};
 
-use crate::actions::put_action;
 use crate::lines::Line;
+use crate::page::Page;
+use crate::rest::Rest;
 use crate::tail::Tail;
 use crate::words::{push_block, push_chunk, put_block, put_number};
 use fol_model::{
@@ -45,7 +46,7 @@ impl Line for TaskRow {
 
     fn put(&self, out: &mut String) -> Result<(), AllocError> {
         put_waiting(out, self.task.number, self.task.chunk, self.rest)?;
-        put_action(out, &self.task.action)
+        Rest::Deed(&self.task.action).put(out, &mut Page::new())
     }
 }
 

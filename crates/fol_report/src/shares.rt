@@ -1,13 +1,13 @@
 //! The report as text, made by several threads.
 
-ghost use Rattle.std.specs.Prelude.{◌≡◌, ◌<◌, ◌++◌, All, flat_map, IfOk, IsOk};
+ghost use Rattle.std.specs.Prelude.{◌≡◌, ◌<◌, ◌++◌, All, flat_map, IfOk, IsOk, true};
 ghost use Rattle.fol_model.specs.LineWords.{lines_of};
 ghost use Rattle.fol_model.specs.Report.{report_text};
 ghost use Rattle.fol_model.specs.ReportWords.{entry_words};
 ghost use Rattle.fol_report.specs.Shares.{foot_text, head_text, text_of};
 
 use crate::history::put_entries;
-use crate::text::{head, put_foot, report};
+use crate::text::{foot, head, report};
 use fol_model::{Closing, PackedEntry};
 use std::alloc::{AllocError, Global};
 use std::thread;
@@ -30,7 +30,7 @@ pub fn report_in_shares<R: Threads + Sync>(
         ≡ report_text closing.now) }
 {
     let rows = closing.history.as_slice();
-    if threads <= 1 || rows.len() <= LEAST_SHARE {
+    if !takes_shares(threads, rows.len()) {
         return Ok(vec![in alloc; report(alloc, closing)?]?);
     }
     let head = head(alloc, closing)?;
@@ -43,6 +43,13 @@ pub fn report_in_shares<R: Threads + Sync>(
     let foot = foot?;
     let shares = gather(alloc, head.into_bytes(), lines, foot)?;
     Ok(shares)
+}
+
+/// Whether so many threads share in the report of so many entries.
+pub fn takes_shares(threads: u32, entries: usize) -> bool
+    ensures { result ≡ true → 1 < threads }
+{
+    1 < threads && LEAST_SHARE < entries
 }
 
 /// The lines of the history, in shares that are each made by a thread.
@@ -73,15 +80,6 @@ fn entry_lines(alloc: Global, rows: &[PackedEntry]) -> Result<Vec<u8>, AllocErro
 {
     let mut out = String::new(alloc);
     put_entries(&mut out, rows)?;
-    Ok(out.into_bytes())
-}
-
-/// What stands behind the lines of the history.
-fn foot(alloc: Global, closing: &Closing) -> Result<Vec<u8>, AllocError>
-    ensures { IfOk result (λ text. text.items ≡ foot_text closing.now) }
-{
-    let mut out = String::new(alloc);
-    put_foot(&mut out, closing)?;
     Ok(out.into_bytes())
 }
 

@@ -31,7 +31,7 @@ pub(crate) fn head(alloc: Global, closing: &Closing) -> Result<String, AllocErro
 }
 
 /// Puts what stands behind the lines of the history.
-pub(crate) fn put_foot(out: &mut String, closing: &Closing) -> Result<(), AllocError>
+fn put_foot(out: &mut String, closing: &Closing) -> Result<(), AllocError>
     ensures { IfOk result (λ _. string_bytes out.new
         ≡ string_bytes out.old ++ foot_text closing.now) }
 {
@@ -41,4 +41,13 @@ pub(crate) fn put_foot(out: &mut String, closing: &Closing) -> Result<(), AllocE
     put_part(out, "entities", closing.entities.as_slice())?;
     put_part(out, "blocks", closing.blocks.as_slice())?;
     out.push_str("end\n")
+}
+
+/// What stands behind the lines of the history.
+pub fn foot(alloc: Global, closing: &Closing) -> Result<Vec<u8>, AllocError>
+    ensures { IfOk result (λ text. text.items ≡ foot_text closing.now) }
+{
+    let mut out = String::new(alloc);
+    put_foot(&mut out, closing)?;
+    Ok(out.into_bytes())
 }

@@ -54,16 +54,6 @@ pub fn push_block(line: &mut Tail, at: BlockPos)
     line.push_word(b" ");
 }
 
-/// Puts the coordinates of a chunk.
-pub fn put_chunk(out: &mut String, at: ChunkPos) -> Result<(), AllocError>
-    ensures { IfOk result (λ _. string_bytes out.new
-        ≡ string_bytes out.old ++ spaced (chunk_words at)) }
-{
-    let mut words = Tail::new();
-    push_chunk(&mut words, at);
-    words.put(out)
-}
-
 /// Puts the coordinates of a block.
 pub fn put_block(out: &mut String, at: BlockPos) -> Result<(), AllocError>
     ensures { IfOk result (λ _. string_bytes out.new
