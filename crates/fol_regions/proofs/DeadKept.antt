@@ -85,7 +85,7 @@ module _ (g : GridState) (c : ChunkPos) (rules : Rules g) (ok : IsGrid g.grid) (
           absurd (true≢false (sym (margin_by c s limits l w) ∙ e))
     ]
 
-  dead_counted : (r : ℕ) → dead_count (counted g c) r ≤ dead_count g r
+  pub dead_counted : (r : ℕ) → dead_count (counted g c) r ≤ dead_count g r
   dead_counted r = dead_fewer g (counted g c) r (λ s o e. (o, margin_stays (counted g c) refl refl s e))
 
   -- a region that no other becomes part of

@@ -11,6 +11,7 @@ pub mod RisingIds
 pub mod ReleaseFacts
 pub mod Resting
 pub mod AddSteps
+pub mod AddAgain
 pub mod GrowSteps
 pub mod AddedGrid
 pub mod HoldSteps

@@ -1,6 +1,6 @@
 //! The region table.
 
-ghost use Rattle.std.specs.Prelude.{◌≡◌, ℕ, ◌+◌, ◌≤◌, ◌<◌, ◌^◌, not, ◌&&◌, nat_eq, IsTrue, IfOk, OnOk, None, [], filter, count_by};
+ghost use Rattle.std.specs.Prelude.{◌≡◌, ℕ, ◌+◌, ◌≤◌, ◌<◌, ◌^◌, not, ◌&&◌, nat_eq, nat_lt, IsTrue, IfOk, OnOk, None, true, false, [], filter, count_by};
 ghost use Rattle.std.specs.Vec.{vec_capacity};
 ghost use Rattle.fol_model.specs.declared.regions.State.TheVariants.{Ready, Ticking};
 ghost use Rattle.fol_model.specs.Geometry.{is_chunk, is_section};
@@ -16,6 +16,7 @@ ghost use Rattle.fol_model.specs.Outputs.{is_chunk_of, chunk_count};
 ghost use Rattle.fol_regions.specs.Changes.{add_change, nothing, release_change};
 ghost use Rattle.fol_regions.specs.DeadBounds.{most_in};
 ghost use Rattle.fol_regions.specs.Touched.{is_touched};
+ghost use Rattle.fol_regions.specs.declared.answers.AddAnswer.TheVariants.{Counted};
 ghost use Rattle.fol_regions.specs.Answers.{IsGiven, add_answer, remove_answer, begin_answer, begun_state, some_id, state_answer, unbegun};
 
 use crate::add::hold;
@@ -195,6 +196,19 @@ impl Regions {
         forget_joined(&mut self.dead, self.change.merges());
         note_created(&mut self.dead, self.change.created());
         answer
+    }
+
+    /// Adds a hold on a chunk that has one, and says whether it has: then this is all that `add` does of it, and it answers `Counted`. No
+    /// region changes, nor does what the last change was. Takes no memory.
+    pub fn add_again(&mut self, c: ChunkPos) -> bool
+        requires few { (grid_state self.old).holds c < 2 ^ 62 }
+        ensures held { result ≡ nat_lt 0 ((grid_state self.old).holds c) }
+        ensures added { result ≡ true → grid_state self.new ≡ add (grid_state self.old) c }
+        ensures counted { result ≡ true → add_answer (grid_state self.old) c ≡ Counted }
+        ensures none { result ≡ false → grid_state self.new ≡ grid_state self.old }
+        ensures stays { (self.new.last ≡ self.old.last) × (self.new.spare ≡ self.old.spare) }
+    {
+        self.sections.add_again(c)
     }
 
     /// Removes a hold on a chunk. No section and no region changes. Takes no memory.

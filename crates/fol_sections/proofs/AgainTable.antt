@@ -1,5 +1,5 @@
 -- A hold more on a chunk that has one: nothing is missing, and no section changes.
-use Rattle.std.proofs.Common.{◌≡◌, ℕ, ◌+◌, refl, sym, ◌∙◌, ap, arith, Bool, true, false, cond, not, ◌&&◌, ◌||◌, List, []}
+use Rattle.std.proofs.Common.{◌≡◌, ℕ, ◌+◌, refl, sym, ◌∙◌, ap, arith, subst, Bool, true, false, cond, not, ◌&&◌, ◌||◌, List, []}
 use Rattle.std.specs.Prelude.{ℤ, nat_eq, nat_lt}
 use Rattle.std.specs.List.{filter}
 use Rattle.std.proofs.Math.Path.{fun_ext}
@@ -81,3 +81,9 @@ module _ (grid : Grid) (holds : List ((ℤ × ℤ) × ℕ)) (pages : List ((ℤ 
           filled = missing_rows grid holds pages count filled died spare kept c limits [] found;
           spare = one;
         }
+
+-- one more where there is one, and else none
+pub kept_either : (grid : Grid) (holds holds' : List ((ℤ × ℤ) × ℕ)) (pages : List ((ℤ × ℤ) × Page)) (count : ℕ) → IsKept grid holds pages count → (c : ChunkPos) (held : Bool) → held ≡ is_held holds c
+    → (held ≡ true → (q : ChunkPos) → count_at holds' q ≡ at_chunk (count_at holds) c (count_at holds c + 1) q) → (held ≡ false → holds' ≡ holds) → IsKept grid holds' pages count
+kept_either grid holds holds' pages count kept c true is more same = again_kept grid holds pages count [] [] 0 kept c (sym is) holds' (more refl)
+kept_either grid holds holds' pages count kept c false is more same = subst (λ (h : List ((ℤ × ℤ) × ℕ)). IsKept grid h pages count) (sym (same refl)) kept

@@ -258,6 +258,21 @@ impl Sections {
         }
     }
 
+    /// Adds a hold on a chunk that has one, and at most 2^62, and says whether it has. No section is looked up, and none changes. Takes
+    /// no memory.
+    pub fn add_again(&mut self, c: ChunkPos) -> bool
+        requires { holds_of self.old c < 2 ^ 62 }
+        ensures held { result ≡ nat_lt 0 (holds_of self.old c) }
+        ensures added { result ≡ true
+            → holds_of self.new ≡ at_chunk (holds_of self.old) c (holds_of self.old c + 1) }
+        ensures none { result ≡ false → holds_of self.new ≡ holds_of self.old }
+        ensures presence { presence_of self.new ≡ presence_of self.old }
+        ensures stays { (self.new.grid ≡ self.old.grid) × (self.new.filled ≡ self.old.filled)
+            × (self.new.died ≡ self.old.died) × (self.new.spare ≡ self.old.spare) }
+    {
+        hold_again(&mut self.holds, c)
+    }
+
     /// Whether an `add` of a chunk within the limits would make sections present now: the chunk needs missing ones, and there is room
     /// for them. Takes no memory, and looks where `add` does.
     pub fn will_fill(&self, c: ChunkPos) -> bool

@@ -22,6 +22,7 @@ use Rattle.fol_laws.proofs.ListCounts.{count_by-none}
 use Rattle.fol_laws.proofs.NumbersBelow.{some_below-is, some_below-gives}
 use Rattle.fol_laws.proofs.SamePlaces.{same_chunk-true}
 use Rattle.fol_regions.specs.Changes.{Changes, add_change, drawn_in, into, nothing}
+use Rattle.fol_regions.proofs.AddAgain.{none_wanted}
 use Rattle.fol_store.specs.Bag.{Bag, new_bag}
 use Rattle.fol_world.specs.Bags.{AreBut, CanJoin, IsBagOf, Follow, joined_bags, opened_bags, unsettled_at}
 use Rattle.fol_world.specs.Agenda.{Covers, owes}
@@ -76,16 +77,7 @@ gained_bags g h c ch owed owed' tick recorded f e added given r = elim (cases_Bo
   | inr l ↦ rw (l, ← e) (unsettled_bag h tick owed' recorded (h.owner (section_of g.grid c)) (changed_bags ch f) given added.bags r)
 ]
 
--- an added hold of a chunk that was held needs no section
-pub none_wanted : (g : GridState) (c : ChunkPos) → Rules g → is_loaded g c ≡ true → nat_eq (wanted g c) 0 ≡ true
-unfolding wanted
-none_wanted g c rules l = let p : 0 < g.holds c = ltb-true 0 (g.holds c) l in
-    eq-eqb (wanted g c) 0 (count_by-none (is_wanted g c) (λ s. elim (cases_Bool (is_within (section_of g.grid c) g.grid.create s)) [
-      | inl e ↦ let here : is_present g s ≡ true = lt-ltb _ _ (rules.margin c s p (leb-true _ _ e)) in rw here refl
-      | inr e ↦ elim (cases_Bool (is_present g s)) [ inl here ↦ rw here refl | inr here ↦ rw (here, e) refl ]
-    ]) all_sections)
-
--- nor does it change a region
+-- an added hold of a chunk that was held changes no region
 pub held_changes_none : (g : GridState) (c : ChunkPos) → Rules g → is_loaded g c ≡ true → add_change g c ≡ nothing
 unfolding add_change
 held_changes_none g c rules l =

@@ -21,6 +21,7 @@ use Rattle.fol_regions.specs.declared.answers.AddAnswer.{AddAnswer}
 use Rattle.fol_regions.specs.declared.answers.AddAnswer.TheVariants.{Changed, Counted, Full}
 use Rattle.fol_regions.specs.Answers.{add_answer}
 use Rattle.fol_regions.specs.Changes.{Changes, add_change, drawn_in, into, nothing}
+use Rattle.fol_regions.proofs.AddAgain.{none_wanted}
 use Rattle.fol_chunks.specs.Contents.{is_recorded}
 use Rattle.fol_store.specs.Bag.{Bag, new_bag}
 use Rattle.fol_store.specs.Relisted.{IsInOrder}
@@ -29,7 +30,7 @@ use Rattle.fol_world.specs.Begun.{Gathered}
 use Rattle.fol_world.specs.Follows.{CanGain, CanSettle, ChangesTo, IsKnown, Settle, Widens, changed_bags}
 use Rattle.fol_world.proofs.AddBags as parts
 use Rattle.fol_world.proofs.AddBags.{filter_none}
-use Rattle.fol_world.proofs.Added.{add_counted, add_ext, add_full, change_counted, change_full, change_new, change_old, none_wanted}
+use Rattle.fol_world.proofs.Added.{add_counted, add_ext, add_full, change_counted, change_full, change_new, change_old}
 use Rattle.fol_world.proofs.ChunkLists.{in_all, listed}
 use Rattle.fol_world.proofs.JoinedBags.{JoinedInto, among, joined_into}
 use Rattle.fol_world.proofs.KeptUp.{exact}

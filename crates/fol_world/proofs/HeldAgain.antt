@@ -8,10 +8,11 @@ use Rattle.fol_model.specs.GridState.{GridState, is_loaded}
 use Rattle.fol_model.specs.Add.{add, is_full}
 use Rattle.fol_model.specs.Rules.{Rules}
 use Rattle.fol_regions.specs.Changes.{Changes, add_change}
+use Rattle.fol_regions.proofs.AddAgain.{none_wanted}
 use Rattle.fol_store.specs.Bag.{Bag}
 use Rattle.fol_world.specs.Agenda.{Covers, TopOwes}
 use Rattle.fol_world.specs.Follows.{CanCover, Settle, followed, gaining}
-use Rattle.fol_world.proofs.Added.{held_changes_none, none_wanted}
+use Rattle.fol_world.proofs.Added.{held_changes_none}
 use Rattle.fol_world.proofs.SettledBags.{gathered_self}
 
 module _ (n : Grid) (g : GridState) (c : ChunkPos) (f : ℕ → Bag) (rules : Rules g) (held : is_loaded g c ≡ true) where

@@ -118,11 +118,10 @@ pub(crate) fn hold(tables: &mut Tables, c: ChunkPos) -> AddAnswer
         (length (add_change (grid_state tables.old.regions) c).created) }
 {
     tables.regions.keeps_rules();
-    let held = tables.regions.holds(c) > 0;
-    let answer = tables.regions.add(c);
-    if held {
-        return answer;
+    if tables.regions.add_again(c) {
+        return AddAnswer::Counted;
     }
+    let answer = tables.regions.add(c);
     let home = section_of(&tables.grid, c);
     follow(&tables.regions, &mut tables.store, home, c, answer);
     add_target(&mut tables.agenda, tables.regions.last().merges());
