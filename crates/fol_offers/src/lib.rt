@@ -18,8 +18,6 @@ mod offers;
 mod places;
 mod quiet;
 mod recalls;
-#[cfg(test)]
-mod tests;
 
 pub use offer::Offer;
 pub use offers::{Offers, OffersAndSeats};

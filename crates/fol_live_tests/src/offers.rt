@@ -3,9 +3,9 @@
 ghost use Rattle.std.specs.Prelude.{◌≡◌, ◌<◌, None, All};
 ghost use Rattle.fol_slots.specs.Table.{slots_id, slot_count};
 
-use crate::{Offer, Offers, OffersAndSeats};
 use fol_core::{Close, Core, Finish, Phase};
 use fol_model::{ChunkPos, EventRef, Grid, Loaded, Opening, PackedEntry, Sequence};
+use fol_offers::{Offer, Offers, OffersAndSeats};
 use fol_slots::{Claim, Slots, WorkerSeat};
 use std::alloc::Global;
 use std::process::Abort;

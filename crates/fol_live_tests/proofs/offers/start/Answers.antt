@@ -3,7 +3,7 @@ use Rattle.std.specs.List.Sorted.{IsStrictlySortedBy}
 use Rattle.fol_slots.specs.Table.{slots_id}
 use Rattle.fol_slots.proofs.Callers.{new_free}
 use Rattle.fol_offers.proofs.Turns.{turns_first}
-use Rattle.fol_offers.proofs.tests.start.Goals as goal
+use Rattle.fol_live_tests.proofs.offers.start.Goals as goal
 
 pub invariant_of-opening : goal.invariant_of-opening
 unfolding IsStrictlySortedBy
