@@ -1,6 +1,7 @@
 //! What is left of a line.
 
-ghost use Rattle.std.specs.Prelude.{◌≡◌, ◌≢◌, ◌+◌, ◌≤◌, ◌<◌, [], ◌++◌, length, IfOk, string_bytes, true, false};
+ghost use Rattle.std.specs.Prelude.{◌≡◌, ◌≢◌, ◌+◌, ◌≤◌, ◌<◌, [], ◌++◌, flat_map, length, IfOk, string_bytes, true, false};
+ghost use Rattle.fol_model.specs.ReportWords.{accept_words, ran_words};
 ghost use Rattle.fol_report.specs.Rests.{rest_words};
 ghost use Rattle.fol_report.specs.Spaced.{spaced};
 
@@ -41,13 +42,13 @@ impl<'a> Rest<'a> {
         }
     }
 
-    /// Puts the next words, and returns what is left behind them.
+    /// Puts the next words, those of tasks or answers as far as there is room, and returns what is left behind them.
     #[inline]
     pub fn push_some(self, page: &mut Page) -> Rest<'a>
-        requires { length page.old + 127 ≤ 1024 }
+        requires { length page.old + 128 ≤ 1024 }
         ensures text { page.new ++ spaced (rest_words result)
             ≡ page.old ++ spaced (rest_words self.entry) }
-        ensures len { length page.new ≤ length page.old + 127 }
+        ensures len { length page.new + 1 ≤ 1024 }
         ensures grows { rest_words self.entry ≢ [] → length page.old < length page.new }
         ensures fewer { rest_words self.entry ≢ []
             → length (rest_words result) < length (rest_words self.entry) }
@@ -56,8 +57,9 @@ impl<'a> Rest<'a> {
             Rest::Done => Rest::Done,
             Rest::Deed(action) => push_action(page, action),
             Rest::Tasks { ran, accepts } => match ran.split_first() {
-                Some((task, ran)) => {
+                Some((task, later)) => {
                     push_ran(page, *task);
+                    let ran = push_tasks(page, later);
                     Rest::Tasks { ran, accepts }
                 }
                 None => {
@@ -66,9 +68,9 @@ impl<'a> Rest<'a> {
                 }
             },
             Rest::Answers(accepts) => match accepts.split_first() {
-                Some((answer, accepts)) => {
+                Some((answer, later)) => {
                     push_accept(page, *answer);
-                    Rest::Answers(accepts)
+                    Rest::Answers(push_answers(page, later))
                 }
                 None => Rest::Done,
             },
@@ -87,4 +89,46 @@ impl<'a> Rest<'a> {
         }
         page.put(out)
     }
+}
+
+/// Puts tasks that ran, as far as there is room, and returns the others.
+fn push_tasks<'a>(page: &mut Page, ran: &'a [Ran]) -> &'a [Ran]
+    requires { length page.old + 1 ≤ 1024 }
+    ensures text { page.new ++ spaced (flat_map ran_words result.now)
+        ≡ page.old ++ spaced (flat_map ran_words ran.now) }
+    ensures len { length page.new + 1 ≤ 1024 }
+    ensures never_shrinks { length page.old ≤ length page.new }
+    ensures no_more { length (flat_map ran_words result.now)
+        ≤ length (flat_map ran_words ran.now) }
+{
+    let mut left = ran;
+    while page.has_room() {
+        let Some((task, later)) = left.split_first() else {
+            return left;
+        };
+        push_ran(page, *task);
+        left = later;
+    }
+    left
+}
+
+/// Puts what became of tasks that were asked for, as far as there is room, and returns the others.
+fn push_answers<'a>(page: &mut Page, accepts: &'a [Accept]) -> &'a [Accept]
+    requires { length page.old + 1 ≤ 1024 }
+    ensures text { page.new ++ spaced (flat_map accept_words result.now)
+        ≡ page.old ++ spaced (flat_map accept_words accepts.now) }
+    ensures len { length page.new + 1 ≤ 1024 }
+    ensures never_shrinks { length page.old ≤ length page.new }
+    ensures no_more { length (flat_map accept_words result.now)
+        ≤ length (flat_map accept_words accepts.now) }
+{
+    let mut left = accepts;
+    while page.has_room() {
+        let Some((answer, later)) = left.split_first() else {
+            return left;
+        };
+        push_accept(page, *answer);
+        left = later;
+    }
+    left
 }
