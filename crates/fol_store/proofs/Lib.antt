@@ -16,6 +16,7 @@ pub mod Spotting
 pub mod Stepping
 pub mod Arriving
 pub mod Delivering
+pub mod Handing
 pub mod Settling
 pub mod Noting
 pub mod Filling

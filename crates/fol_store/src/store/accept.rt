@@ -62,7 +62,7 @@ impl Store {
     }
 
     /// The bag that has the chunk, where it is here and memory is found for one task more.
-    fn make_room(&mut self, id: usize, c: ChunkPos) -> Option<usize>
+    pub(super) fn make_room(&mut self, id: usize, c: ChunkPos) -> Option<usize>
         requires home { (place self.old c).bag ≡ Some id }
         ensures found { ForSome result (TakesTask self.new c) }
         ensures same { Roomier self.old self.new }

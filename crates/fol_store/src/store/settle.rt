@@ -104,22 +104,47 @@ impl Store {
         Ok(())
     }
 
-    /// Hands the last task that came to the bag that has its chunk, where that is here and memory is found for it there, and else to
-    /// the spot of its chunk.
+    /// Hands the last task that came, and those before it that are on the same chunk, to the bag that has their chunk, where that is here
+    /// and memory is found for them there; else the last one alone to the spot of its chunk.
     fn hand_out_last(&mut self) -> Result<(), AllocError>
         requires { 0 < length self.old.arrivals }
         ensures same { SameMeaning self.old self.new }
         ensures bags { bag_of self.new ≡ bag_of self.old }
-        ensures len { OnOk result (length self.new.arrivals + 1 ≡ length self.old.arrivals) }
+        ensures len { OnOk result (length self.new.arrivals < length self.old.arrivals) }
     {
         let c = self.last_chunk();
         match self.bag_with_room(c) {
             Some(id) => {
                 self.deliver(id, c);
+                self.deliver_more(id, c);
                 Ok(())
             }
             None => self.set_aside(c),
         }
+    }
+
+    /// Hands the last tasks that came to the bag that has their chunk, as long as they are on this one and memory is found for them there.
+    fn deliver_more(&mut self, id: usize, c: ChunkPos)
+        requires home { (place self.old c).bag ≡ Some id }
+        ensures same { SameMeaning self.old self.new }
+        ensures bags { bag_of self.new ≡ bag_of self.old }
+        ensures len { length self.new.arrivals ≤ length self.old.arrivals }
+    {
+        while self.is_last_on(c) {
+            match self.make_room(id, c) {
+                Some(id) => self.deliver(id, c),
+                None => return,
+            }
+        }
+    }
+
+    /// Whether a task came that waits, and the last one is on this chunk.
+    fn is_last_on(&self, c: ChunkPos) -> bool
+        ensures some { result ≡ true → 0 < length self.now.arrivals }
+        ensures last { result ≡ true → (xs : List Dated) (d : Dated)
+            → self.now.arrivals ≡ xs ++ d ∷ [] → c ≡ d.task.chunk }
+    {
+        !self.arrivals.is_empty() && self.last_chunk() == c
     }
 
     /// Hands the last task that came to the bag that has its chunk.
@@ -130,6 +155,7 @@ impl Store {
         requires takes { TakesTask self.old c id }
         ensures same { SameMeaning self.old self.new }
         ensures bags { bag_of self.new ≡ bag_of self.old }
+        ensures places { self.new.places ≡ self.old.places }
         ensures len { length self.new.arrivals + 1 ≡ length self.old.arrivals }
     {
         let _chunk = c;
