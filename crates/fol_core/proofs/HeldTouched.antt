@@ -12,7 +12,7 @@ use Rattle.fol_model.specs.Universe.{numbers_below}
 use Rattle.fol_laws.proofs.Distances.{self_distance}
 use Rattle.fol_region_tables.proofs.Chosen.{filter_like}
 use Rattle.fol_regions.specs.Touched.{is_touched}
-use Rattle.fol_world.proofs.Added.{none_wanted}
+use Rattle.fol_regions.proofs.AddAgain.{none_wanted}
 
 -- ---- one number among all below a bound
 
