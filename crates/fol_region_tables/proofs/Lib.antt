@@ -2,6 +2,7 @@ pub mod Among
 pub mod Results
 pub mod SlotSteps
 pub mod MergeSteps
+pub mod Weaving
 pub mod Totals
 pub mod LinkSteps
 pub mod Chosen

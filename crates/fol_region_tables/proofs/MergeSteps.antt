@@ -22,7 +22,7 @@ use Rattle.fol_region_tables.proofs.Among.{among_at}
 abbrev pub Sorted : List SectionPos → Type 0
 Sorted xs = IsStrictlySortedBy section_cmp xs
 
-all_after : (x y : SectionPos) (ys : List SectionPos) → section_cmp x y ≡ Less → AllByRecursion (λ b. section_cmp y b ≡ Less) ys → AllByRecursion (λ b. section_cmp x b ≡ Less) ys
+pub all_after : (x y : SectionPos) (ys : List SectionPos) → section_cmp x y ≡ Less → AllByRecursion (λ b. section_cmp y b ≡ Less) ys → AllByRecursion (λ b. section_cmp x b ≡ Less) ys
 all_after x y [] l h = tt
 all_after x y (b ∷ ys) l h = (sections_tell.order.trans x y b l h.0, all_after x y ys l h.1)
 
@@ -63,7 +63,7 @@ behind_more xs s m k e d sorted l n never u h =
     ]
 
 -- what stands behind in a list in order is in order
-sorted_behind : (out rest : List SectionPos) → Sorted (out ++ rest) → Sorted rest
+pub sorted_behind : (out rest : List SectionPos) → Sorted (out ++ rest) → Sorted rest
 unfolding IsStrictlySortedBy
 sorted_behind [] rest h = h
 sorted_behind (o ∷ out) rest h = sorted_behind out rest h.1
@@ -86,13 +86,13 @@ less_not_less : (s t : SectionPos) → section_cmp s t ≡ Less → section_cmp 
 less_not_less s t a b = let k : Less ≡ Greater = sym a ∙ sections_tell.order.antisymm s t ∙ ap ordering_reverse b in cc
 
 -- an element before the first one is before all
-before_all : (s : SectionPos) (xs : List SectionPos) (d : SectionPos) → Sorted xs → (0 < length xs → section_cmp s (get_or xs 0 d) ≡ Less) → Sorted (s ∷ xs)
+pub before_all : (s : SectionPos) (xs : List SectionPos) (d : SectionPos) → Sorted xs → (0 < length xs → section_cmp s (get_or xs 0 d) ≡ Less) → Sorted (s ∷ xs)
 unfolding IsStrictlySortedBy
 before_all s [] d h l = (tt, tt)
 before_all s (x ∷ xs) d h l = let less : section_cmp s x ≡ Less = l (omega arith) in ((less, all_after s x xs less h.0), h)
 
 -- of two sections the one that is not before the other is behind it
-other_less : (s t : SectionPos) → (s ≡ t → ⊥) → (section_cmp s t ≡ Less → ⊥) → section_cmp t s ≡ Less
+pub other_less : (s t : SectionPos) → (s ≡ t → ⊥) → (section_cmp s t ≡ Less → ⊥) → section_cmp t s ≡ Less
 other_less s t other never = go (section_cmp s t) refl
   where
     go : (o : Ordering) → section_cmp s t ≡ o → section_cmp t s ≡ Less

@@ -17,5 +17,6 @@ mod parting;
 mod rows;
 mod slots;
 mod tables;
+mod weave;
 
 pub use tables::Tables;

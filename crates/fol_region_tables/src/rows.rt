@@ -11,11 +11,15 @@ ghost use Rattle.fol_model.specs.Geometry.{is_section};
 ghost use Rattle.fol_model.specs.Universe.{section_cmp};
 ghost use Rattle.fol_region_tables.specs.Rows.{united, AreApart, IsRow};
 
+use crate::weave::weave;
 use fol_lists::Lists;
 use fol_model::{MOST_SECTIONS, SectionPos};
 use std::alloc::{AllocError, Global};
 use std::cmp::Ordering;
 use std::marker::Model;
+
+/// Lists of so many sections are made anew where sections come, since that takes less than the search for their places.
+const SHORT: usize = 64;
 
 /// Lists of sections by number, of 16,384 sections together.
 #[derive(Drop)]
@@ -23,6 +27,8 @@ pub struct Rows {
     lists: Lists<SectionPos>,
     /// Where the sections of a list wait that another list takes over.
     moved: Vec<SectionPos>,
+    /// Where a short list is made.
+    made: Vec<SectionPos>,
 }
 
 impl Model for Rows {
@@ -35,7 +41,7 @@ impl Model for Rows {
 
     ghost view = { λ s. s.lists };
 
-    ghost invariant = { λ s. AreRows (total s.lists) s.lists.room (vec_capacity s.moved) };
+    ghost invariant = { λ s. AreRows (total s.lists) s.lists.room (vec_capacity s.moved) (vec_capacity s.made) };
 }
 
 impl Rows {
@@ -49,6 +55,7 @@ impl Rows {
         Ok(Rows {
             lists: Lists::new(alloc, numbers, MOST_SECTIONS)?,
             moved: Vec::with_capacity(alloc, MOST_SECTIONS)?,
+            made: Vec::with_capacity(alloc, SHORT)?,
         })
     }
 
@@ -61,6 +68,7 @@ impl Rows {
         Ok(Rows {
             lists,
             moved: Vec::with_capacity(alloc, MOST_SECTIONS)?,
+            made: Vec::with_capacity(alloc, SHORT)?,
         })
     }
 
@@ -98,7 +106,7 @@ impl Rows {
         requires room { total self.old + length sections.now ≤ MOST_SECTIONS }
         ensures { self.new ≡ with_list self.old n (united (list_at self.old n) sections.now) }
     {
-        add(&mut self.lists, n, sections);
+        add(&mut self.lists, &mut self.made, n, sections);
     }
 
     /// Adds the sections of another list, none of which is in this one. The other is empty from then on.
@@ -115,27 +123,34 @@ impl Rows {
         self.moved.clear();
         let _ = self.moved.extend_from_slice(self.lists.get(other));
         self.lists.clear(other);
-        add(&mut self.lists, n, &self.moved);
+        add(&mut self.lists, &mut self.made, n, &self.moved);
     }
 }
 
 /// Adds sections in order to a list in order, which has none of them.
-fn add(lists: &mut Lists<SectionPos>, n: usize, sections: &[SectionPos])
+fn add(lists: &mut Lists<SectionPos>, made: &mut Vec<SectionPos>, n: usize, sections: &[SectionPos])
     requires number { n < length lists.old.lists }
+    requires made { 64 ≤ vec_capacity made.old }
     requires row { IsRow (list_at lists.old n) }
     requires sections { IsRow sections.now }
     requires apart { AreApart (list_at lists.old n) sections.now }
     requires room { total lists.old + length sections.now ≤ lists.old.room }
     ensures added { lists.new ≡ with_list lists.old n (united (list_at lists.old n) sections.now) }
     ensures total { total lists.new ≡ total lists.old + length sections.now }
+    ensures made { vec_capacity made.old ≤ vec_capacity made.new }
 {
     let len = lists.get(n).len();
+    if len <= SHORT && sections.len() <= SHORT - len {
+        weave(lists.get(n), sections, made);
+        lists.put(n, made);
+        return;
+    }
     lists.extend(n, sections);
     merge(lists, n, len, sections);
 }
 
 /// The order by `z`, and then by `x`.
-fn compare(a: SectionPos, b: SectionPos) -> Ordering
+pub fn compare(a: SectionPos, b: SectionPos) -> Ordering
     ensures { result ≡ section_cmp a b }
 {
     (a.z, a.x).cmp(&(b.z, b.x))

@@ -10,4 +10,5 @@ invariant_of-self c =
       fits = omega (arith, ap total c.clear.ensures, total_with c.self.inside.lists c.args.n [] number, c.self.invariant.fits);
       most = omega (arith, ap (λ v. v.room) c.clear.ensures, c.self.invariant.most);
       moved = c.self.invariant.moved;
+      made = c.self.invariant.made;
     }

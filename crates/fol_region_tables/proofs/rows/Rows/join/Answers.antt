@@ -70,6 +70,7 @@ invariant_of-self c =
       fits = omega (arith, c.add.ensures.total, ap length waits, ap total c.clear-2.ensures, total_with c.self.inside.lists c.args.other [] other, c.self.invariant.fits);
       most = omega (arith, ap (λ v. v.room) c.add.ensures.added, ap (λ v. v.room) c.clear-2.ensures, c.self.invariant.most);
       moved = omega (arith, c.extend_from_slice.ensures.capacity, c.clear.ensures.capacity, c.self.invariant.moved);
+      made = omega (arith, c.add.ensures.made, c.self.invariant.made);
     }
 
 pub returns : goal.returns

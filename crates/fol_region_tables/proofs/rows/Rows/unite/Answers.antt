@@ -8,4 +8,5 @@ invariant_of-self c =
       fits = omega (arith, c.add.ensures.total, room);
       most = omega (arith, ap (λ v. v.room) c.add.ensures.added, c.self.invariant.most);
       moved = c.self.invariant.moved;
+      made = omega (arith, c.add.ensures.made, c.self.invariant.made);
     }
