@@ -96,7 +96,7 @@ impl Chunks {
         ensures ok { OnOk result (n ≤ self.new.spare) }
         ensures spare { self.old.spare ≤ self.new.spare }
     {
-        if n == 0 {
+        if n == 0 || n <= self.spare() {
             return Ok(());
         }
         self.take_room(n)
