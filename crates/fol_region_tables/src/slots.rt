@@ -8,7 +8,7 @@ ghost use Rattle.std.specs.Ordering.{nat_cmp};
 ghost use Rattle.fol_model.specs.declared.regions.State.TheVariants.{Dead};
 ghost use Rattle.fol_model.specs.GridState.{with_state};
 ghost use Rattle.fol_region_tables.specs.SlotKeys.{AreKeys, AreLiving, has_slot, key_at, table_of};
-ghost use Rattle.fol_region_tables.specs.Slots.{has_id, region_at, slot_of};
+ghost use Rattle.fol_region_tables.specs.Slots.{has_id, region_at, slot_of, slot_state, state_in};
 
 use crate::living::{forget_gone, keep_living, make_room, put_id};
 use fol_model::{MOST_SECTIONS, State};
@@ -125,10 +125,7 @@ impl Slots {
     pub fn state(&self, id: u64) -> State
         ensures { result ≡ slot_state self.now id }
     {
-        match self.regions.get(self.find(id)) {
-            Some(region) => region.state,
-            None => State::Dead,
-        }
+        find_state(&self.regions, &self.keys, id)
     }
 
     /// The ids of the regions that have a slot, rising. Goes over these and at most as many others or 64, and takes memory for them.
@@ -205,7 +202,40 @@ fn find_slot(regions: &Slab<Region>, keys: &[u32], id: u64) -> usize
     }
 }
 
+/// The state of a region; Dead where it has no slot. Its slot is looked up once.
+fn find_state(regions: &Slab<Region>, keys: &[u32], id: u64) -> State
+    requires { AreKeys regions.now.slots regions.now.capacity keys.now }
+    ensures { result ≡ slot_state (table_of regions.now) id }
+{
+    let key = key_of(keys, id);
+    if key == UNKNOWN {
+        return state_at(regions, look_for(regions, keys, id));
+    }
+    match regions.get(key as usize) {
+        Some(region) => {
+            if region.id == id {
+                region.state
+            } else {
+                State::Dead
+            }
+        }
+        None => State::Dead,
+    }
+}
+
+/// The state of the region in a slot; Dead where it has none.
+fn state_at(regions: &Slab<Region>, slot: usize) -> State
+    ensures { result ≡ state_in (region_at (table_of regions.now) slot) }
+{
+    match regions.get(slot) {
+        Some(region) => region.state,
+        None => State::Dead,
+    }
+}
+
 /// The slot of a region, or `room` where it has none. Goes over the slots.
+#[cold]
+#[inline(never)]
 fn look_for(regions: &Slab<Region>, keys: &[u32], id: u64) -> usize
     requires { AreKeys regions.now.slots regions.now.capacity keys.now }
     ensures { result ≡ slot_of (table_of regions.now) id }
