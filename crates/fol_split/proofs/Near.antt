@@ -43,16 +43,16 @@ one_of-more x n y = both_ways _ _
 pub rows-none : (z low high : ℤ) (run : Run) → is_met_in z 0 low high run ≡ false
 rows-none z low high run = ap (λ b. b && is_across low high run) (one_of-none z run.z)
 
+pub spread : (a b x : Bool) → ((a || b) && x) ≡ ((a && x) || (b && x))
+spread true true true = refl
+spread true true false = refl
+spread true false true = refl
+spread true false false = refl
+spread false b x = refl
+
 -- one more row
 pub rows-more : (z : ℤ) (n : ℕ) (low high : ℤ) (run : Run) → is_met_in z (n + 1) low high run ≡ (is_met_in z n low high run || is_met (z +ℤ pos n) low high run)
 rows-more z n low high run = ap (λ b. b && is_across low high run) (one_of-more z n run.z) ∙ spread (is_one_of z n run.z) (int_eq (z +ℤ pos n) run.z) (is_across low high run)
-  where
-    spread : (a b x : Bool) → ((a || b) && x) ≡ ((a && x) || (b && x))
-    spread true true true = refl
-    spread true true false = refl
-    spread true false true = refl
-    spread true false false = refl
-    spread false b x = refl
 
 pub is_across-gives : (low high : ℤ) (run : Run) → is_across low high run ≡ true → (low <ℤ run.to) × (run.from <ℤ high)
 unfolding is_across

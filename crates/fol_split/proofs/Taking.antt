@@ -1,18 +1,19 @@
 -- Runs that are taken, one, none, or those that pass one test and then another.
-use Rattle.std.proofs.Common.{◌≡◌, ℕ, zero, suc, ◌≤◌, ◌<◌, refl, sym, ◌∙◌, ap, arith, Bool, true, false, not, ◌&&◌, ◌||◌, inl, inr, List, [], ◌∷◌, ◌++◌, length, get_or, append_assoc, length-append, length-set, get_or-set_same, get_or-set_other}
-use Rattle.std.specs.Prelude.{nat_eq, slice_set}
+use Rattle.std.proofs.Common.{◌≡◌, ℕ, zero, suc, ◌+◌, ◌≤◌, ◌<◌, refl, sym, ◌∙◌, ap, arith, Bool, true, false, not, ◌&&◌, ◌||◌, inl, inr, List, [], ◌∷◌, ◌++◌, length, get_or, append_assoc, length-append, length-set, get_or-set_same, get_or-set_other}
+use Rattle.std.specs.Prelude.{nat_eq, nat_le, nat_lt, slice_set}
 use Rattle.std.specs.List.{IsDistinct}
 use Rattle.std.specs.List.Sorted.{IsPermutation, IsSorted}
 use Rattle.std.specs.Ordering.{nat_cmp}
 use Rattle.std.specs.Cmp.{IsEquivalence, both_ways}
-use Rattle.std.proofs.lemmas.Bool.{cases_Bool, cases_eq, or_cases, true≢false}
+use Rattle.std.proofs.lemmas.Bool.{cases_Bool, cases_eq, and_parts, and_from, or_cases, le-leb, lt-ltb, true≢false}
 use Rattle.std.proofs.lemmas.List.{append-nil}
 use Rattle.std.proofs.lemmas.List.Folds.{list_any-append}
 use Rattle.std.proofs.lemmas.List.Sorted.{list_any-IsPermutation, IsNonDecreasingBy-from_sort}
 use Rattle.std.proofs.lemmas.Map.Keys.{IsDistinct-push, IsDistinct-IsPermutation, IsStrictlyIncreasing-from_distinct, sorted_from_strictly_increasing}
 use Rattle.std.proofs.lemmas.Map.Steps.{length-le_from_distinct_below}
 use Rattle.fol_split.specs.Runs.{Marks, IsMarked, TakesRuns, SortsClass, is_left_at, is_place}
-use Rattle.fol_split.proofs.RunLists.{same_place, place_self}
+use Rattle.fol_split.proofs.Near.{spread}
+use Rattle.fol_split.proofs.RunLists.{same_place, place_self, between-none, between-more}
 
 place-swap : (k j : ℕ) → nat_eq k j ≡ nat_eq j k
 place-swap k j = both_ways _ _ (λ h. let e = same_place k j h in rw e (place_self j)) (λ h. let e = same_place j k h in rw e (place_self k))
@@ -157,6 +158,44 @@ takes_like a b p q takes same = record {
     like : (free taken p q : Bool) → (free ≡ true → q ≡ p) → (taken || (free && p)) ≡ (taken || (free && q))
     like true taken p q h = ap (λ b. taken || b) (sym (h refl))
     like false taken p q h = refl
+
+-- ---- a look at one run after another
+-- the place is before k, and passes the test
+abbrev pub passed : (ℕ → Bool) → ℕ → ℕ → Bool
+passed test k j = (nat_le 0 j && nat_lt j k) && test j
+
+module _ (test : ℕ → Bool) where
+  pub none-passed : (j : ℕ) → passed test 0 j ≡ false
+  none-passed j = ap (λ b. b && test j) (between-none 0 j)
+
+  passed-more : (k j : ℕ) → passed test (k + 1) j ≡ (passed test k j || (nat_eq k j && test j))
+  passed-more k j = ap (λ b. b && test j) (between-more 0 k j (omega arith)) ∙ spread (nat_le 0 j && nat_lt j k) (nat_eq k j) (test j)
+
+  -- the run at the place k is taken
+  pub takes_next : (a b c : Marks) (k : ℕ) → TakesRuns a b (passed test k) → test k ≡ true → TakesRuns b c (nat_eq k) → TakesRuns a c (passed test (k + 1))
+  takes_next a b c k before passes takes = takes_both a b c _ _ _ before (takes_like b c (nat_eq k) (λ j. nat_eq k j && test j) takes (λ j _. only j)) (passed-more k)
+    where
+      only : (j : ℕ) → (nat_eq k j && test j) ≡ nat_eq k j
+      only j = both_ways _ _ (λ h. (and_parts (nat_eq k j) (test j) h).0) (λ h. and_from _ _ h (ap test (sym (same_place k j h)) ∙ passes))
+
+  -- it is not, since it is gone or does not pass
+  pub keeps_next : (a b : Marks) (k : ℕ) → TakesRuns a b (passed test k) → (is_left_at b k && test k) ≡ false → TakesRuns a b (passed test (k + 1))
+  keeps_next a b k before fails = takes_both a b b _ _ _ before (takes_none b (λ j. nat_eq k j && test j) none) (passed-more k)
+    where
+      none : (j : ℕ) → is_left_at b j ≡ true → (nat_eq k j && test j) ≡ false
+      none j left = elim (cases_Bool (nat_eq k j && test j)) [
+        | inl e ↦
+            let p = and_parts (nat_eq k j) (test j) e in
+            let same = same_place k j p.0 in
+            absurd (true≢false (sym (and_from _ _ (ap (is_left_at b) same ∙ left) (ap test same ∙ p.1)) ∙ fails))
+        | inr e ↦ e
+      ]
+
+  -- the look went over all
+  pub takes_all : (a b : Marks) (n : ℕ) → length a.left ≤ n → TakesRuns a b (passed test n) → TakesRuns a b test
+  takes_all a b n all takes = takes_like a b (passed test n) test takes (λ j left. both_ways _ _
+      (λ h. and_from _ _ (and_from _ _ (le-leb 0 j (omega arith)) (lt-ltb j n (omega (arith, left_within a.left j left)))) h)
+      (λ h. (and_parts (nat_le 0 j && nat_lt j n) (test j) h).1))
 
 -- ---- the list of what was taken
 pub marked_cleared : (m : Marks) (class : List ℕ) → IsMarked m → class ≡ [] → IsMarked (record { runs = m.runs; left = m.left; class = class })

@@ -7,11 +7,14 @@ ghost use Rattle.std.specs.Vec.{vec_capacity};
 ghost use Rattle.fol_model.specs.declared.places.SectionPos.{SectionPos};
 ghost use Rattle.fol_model.specs.Geometry.{is_section};
 ghost use Rattle.fol_model.specs.Universe.{section_cmp};
-ghost use Rattle.fol_split.specs.Runs.{run_at, sections_of, all_of, sections_at, AreRuns, is_left_at, TakesRuns, IsClass, is_met, is_near, ends_before, begins_before, IsMarked, IsNext, SortsClass};
+ghost use Rattle.fol_split.specs.Runs.{run_at, sections_of, all_of, sections_at, AreRuns, is_left_at, TakesRuns, IsClass, is_one_of, is_across, is_met, is_met_in, is_near, ends_before, begins_before, IsMarked, IsNext, SortsClass};
 
 use fol_model::{MOST_SECTIONS, SectionPos};
 use std::alloc::{AllocError, Global};
 use std::marker::Model;
+
+/// Among up to so many runs a search looks at each one: that costs less than a search by halves in each row that may be near.
+const FEW: usize = 16;
 
 /// Sections that stand side by side in one row: those at `z` with an `x` from `from` up to but not including `to`.
 #[derive(Clone, Copy)]
@@ -99,6 +102,25 @@ impl Run {
         ensures { result ≡ begins_before window.z window.to self }
     {
         self.z == window.z && self.from < window.to
+    }
+
+    /// Whether the run stands in one of `rows` rows from `z` on.
+    #[tactic(auto, unfolding(crate::specs::Runs::is_one_of))]
+    fn is_in_rows(self, z: i32, rows: u32) -> bool
+        requires near { nat_abs z ≤ 1000020 }
+        requires few { rows ≤ 9 }
+        ensures { result ≡ is_one_of z rows self.z }
+    {
+        let end = z + rows as i32;
+        z <= self.z && self.z < end
+    }
+
+    /// Whether the run ends behind `low` and begins before `high`.
+    #[tactic(auto, unfolding(crate::specs::Runs::is_across))]
+    fn is_across(self, low: i32, high: i32) -> bool
+        ensures { result ≡ is_across low high self }
+    {
+        low < self.to && self.from < high
     }
 }
 
@@ -280,8 +302,51 @@ impl Runs {
     {
         let first = self.runs[k].grown(merge);
         let rows = 2 * merge as u32 + 1;
+        if self.runs.len() <= FEW {
+            self.take_each(first, rows);
+        } else {
+            self.take_rows(first, rows);
+        }
+    }
+
+    /// Takes the runs that are left and stand in one of `rows` rows from that of `window` on, end behind its `from` and begin
+    /// before its `to`: looks at each run.
+    fn take_each(&mut self, window: Run, rows: u32)
+        requires near { nat_abs window.z ≤ 1000020 }
+        requires few { rows ≤ 9 }
+        ensures { TakesRuns self.old self.new
+            (λ k. is_met_in window.z rows window.from window.to (run_at self.old.runs k)) }
+    {
+        for k in 0..self.runs.len() {
+            if self.is_met_in(k, window, rows) {
+                self.take(k);
+            }
+        }
+    }
+
+    /// Whether the run at a place is left, and stands in one of `rows` rows from that of `window` on, ends behind its `from` and
+    /// begins before its `to`.
+    fn is_met_in(&self, k: usize, window: Run, rows: u32) -> bool
+        requires in_place { k < length self.now.runs }
+        requires near { nat_abs window.z ≤ 1000020 }
+        requires few { rows ≤ 9 }
+        ensures { result ≡ (is_left_at self.now k
+            && is_met_in window.z rows window.from window.to (run_at self.now.runs k)) }
+    {
+        self.left[k]
+            && self.runs[k].is_in_rows(window.z, rows)
+            && self.runs[k].is_across(window.from, window.to)
+    }
+
+    /// The same as `take_each`: looks up each row.
+    fn take_rows(&mut self, window: Run, rows: u32)
+        requires near { nat_abs window.z ≤ 1000020 }
+        requires few { rows ≤ 9 }
+        ensures { TakesRuns self.old self.new
+            (λ k. is_met_in window.z rows window.from window.to (run_at self.old.runs k)) }
+    {
         for row in 0..rows {
-            self.take_row(first.behind(row));
+            self.take_row(window.behind(row));
         }
     }
 
