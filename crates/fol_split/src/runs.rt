@@ -54,11 +54,12 @@ impl Run {
         requires near { (nat_abs self.z ≤ 1000009) × (nat_abs self.from ≤ 1000009)
             × (nat_abs self.to ≤ 1000009) }
         requires reach { merge ≤ 4 }
-        ensures { result ≡ record {
+        ensures grown { result ≡ record {
           z = self.z -ℤ pos merge;
           from = self.from -ℤ pos merge;
           to = self.to +ℤ pos merge;
         } }
+        ensures near { nat_abs result.z ≤ 1000020 }
     {
         let reach = merge as i32;
         Run {
@@ -310,7 +311,7 @@ impl Runs {
     }
 
     /// Takes the runs that are left and stand in one of `rows` rows from that of `window` on, end behind its `from` and begin
-    /// before its `to`: looks at each run.
+    /// before its `to`. Looks at each run.
     fn take_each(&mut self, window: Run, rows: u32)
         requires near { nat_abs window.z ≤ 1000020 }
         requires few { rows ≤ 9 }
@@ -338,7 +339,7 @@ impl Runs {
             && self.runs[k].is_across(window.from, window.to)
     }
 
-    /// The same as `take_each`: looks up each row.
+    /// The same as `take_each`, by a search for each of the rows.
     fn take_rows(&mut self, window: Run, rows: u32)
         requires near { nat_abs window.z ≤ 1000020 }
         requires few { rows ≤ 9 }
