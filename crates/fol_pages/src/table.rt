@@ -73,6 +73,14 @@ impl<P> PageTable<P> {
         self.map.len()
     }
 
+    /// The key of the page at an index, if there are so many pages. Where a page is taken out, the last one comes to its index.
+    pub fn key(&self, index: usize) -> Option<(i32, i32)>
+        ensures { IfSome result (λ key. LiesAt self.now.entries key.0 key.1 index) }
+    {
+        let (key, _) = self.map.get_index(index)?;
+        Some(*key)
+    }
+
     /// How many pages there is memory for.
     pub fn capacity(&self) -> usize
         ensures { result ≡ length self.now.entries + self.now.spare }

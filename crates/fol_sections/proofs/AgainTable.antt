@@ -67,7 +67,7 @@ module _ (grid : Grid) (holds : List ((ℤ × ℤ) × ℕ)) (pages : List ((ℤ 
         (λ s. sym (or_no (is_here pages s)) ∙ here-more grid holds pages count filled died spare kept c limits [] found s)
         (λ s. none_counted (same_section (section_of grid c) s) (chunks_at pages s) ∙ ap (λ b. cond (same_section (section_of grid c) s && not b) 1 0 + chunks_at pages s) (sym held))
         (λ s. plain (near_at pages s) ∙ ap (λ b. near_at pages s + cond (not b && (nat_eq (chunks_at pages (section_of grid c)) 0 && is_within (section_of grid c) grid.create s)) 1 0) (sym held))
-        (omega (arith, missing_length grid holds pages count filled died spare kept c limits [] found)) kept.few (λ u. u)
+        (omega (arith, missing_length grid holds pages count filled died spare kept c limits [] found)) kept.few
 
     pub again_adds : (less : ℕ) → less + 1 ≡ spare → Adds (table grid holds pages filled died spare) (table grid holds' pages [] [] less) c
     again_adds less one =

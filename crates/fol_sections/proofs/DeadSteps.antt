@@ -19,7 +19,7 @@ use Rattle.fol_laws.proofs.Distances.{self_distance}
 use Rattle.fol_laws.proofs.AllSections.{some_chunk-is}
 use Rattle.fol_laws.proofs.ListCounts.{count_by-cons, count_by-none, count_by-some}
 use Rattle.fol_laws.proofs.SectionOrder.{section_count_change, square_members}
-use Rattle.fol_sections.specs.Pages.{AllUsed, chunks_at, counts_at, is_here, near_at, no_counts}
+use Rattle.fol_sections.specs.Pages.{chunks_at, counts_at, is_here, near_at, no_counts}
 use Rattle.fol_sections.specs.declared.pages.Page.{Page}
 use Rattle.fol_sections.specs.Kept.{IsKept, is_filled_near, is_held, is_loaded_in}
 use Rattle.fol_sections.specs.Table.{in_margin_of, presence_of}
@@ -90,8 +90,8 @@ module _ (grid : Grid) (holds : List ((ℤ × ℤ) × ℕ)) (pages pages' : List
   unfolding near_at
   near-out q = ap (λ o. (unwrap_or o no_counts).near) (out q) ∙ elim (cases_Bool (gone q)) [ inl e ↦ rw e (sym (eqb-true _ _ (lonely q e))) | inr e ↦ rw e refl ]
 
-  pub kept_out : (dropped : ℕ) → count_sections (is_here pages) ≡ dropped + count_sections (is_here pages') → (AllUsed pages → AllUsed pages') → IsKept grid holds pages' (count - dropped)
-  kept_out dropped counts used = record {
+  pub kept_out : (dropped : ℕ) → count_sections (is_here pages) ≡ dropped + count_sections (is_here pages') → IsKept grid holds pages' (count - dropped)
+  kept_out dropped counts = record {
     numbers = kept.numbers;
     chunk_limits = kept.chunk_limits;
     section_limits = λ q h. kept.section_limits q (and_parts (is_here pages q) (not (gone q)) (sym (here-out q) ∙ h)).0;
@@ -100,7 +100,6 @@ module _ (grid : Grid) (holds : List ((ℤ × ℤ) × ℕ)) (pages pages' : List
     margin = λ c q h w. here-out q ∙ and_from _ _ (kept.margin c q h w) (stays c q h w);
     count = omega (arith, kept.count, counts);
     few = omega (arith, kept.few);
-    used = used kept.used;
   }
     where
       stays : (c : ChunkPos) (q : SectionPos) → is_held holds c ≡ true → is_within (section_of grid c) grid.create q ≡ true → not (gone q) ≡ true
@@ -173,7 +172,7 @@ module _ (grid : Grid) (holds : List ((ℤ × ℤ) × ℕ)) (pages pages' : List
       let all = count_out (is_here pages) (is_lonely pages) list apart (λ s h. (listed s h, kept.section_limits s (listed s h))) in
       omega (arith, all, count-like (is_here pages') (λ q. is_here pages q && not (is_among list q && is_lonely pages q)) all_sections here_left)
 
-  pub kept_left : (AllUsed pages → AllUsed pages') → IsKept grid holds pages' (count - count_by (is_lonely pages) list)
+  pub kept_left : IsKept grid holds pages' (count - count_by (is_lonely pages) list)
   kept_left = kept_out grid holds pages pages' count (λ q. is_among list q && is_lonely pages q) kept gone out (count_by (is_lonely pages) list) counts_left
 
   pub stays_where : (q : SectionPos) → is_among list q ≡ true → is_here pages' q ≡ not (is_lonely pages q)

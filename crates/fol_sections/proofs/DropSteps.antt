@@ -1,7 +1,7 @@
 -- Dead sections that leave a page, and the pages of a list.
-use Rattle.std.proofs.Common.{◌≡◌, ◌≢◌, ℕ, ◌+◌, ◌<◌, ◌≤◌, refl, sym, ◌∙◌, ap, arith, Bool, true, false, cond, not, ◌&&◌, ◌||◌, inl, inr, List, [], ◌∷◌, ◌++◌, length, take, get_or}
-use Rattle.std.specs.Prelude.{ℤ, Option, Some, None, is_some, nat_eq, slice_index_or, slice_set}
-use Rattle.std.specs.List.{All, count_by, list_all}
+use Rattle.std.proofs.Common.{◌≡◌, ◌≢◌, ℕ, ◌+◌, ◌<◌, ◌≤◌, refl, sym, ◌∙◌, ap, arith, Bool, true, false, cond, ◌&&◌, ◌||◌, inl, inr, List, [], ◌∷◌, ◌++◌, length, take, get_or}
+use Rattle.std.specs.Prelude.{ℤ, Option, Some, None, nat_eq, slice_index_or, slice_set}
+use Rattle.std.specs.List.{All, count_by}
 use Rattle.std.specs.Option.{option_and_then, unwrap_or}
 use Rattle.std.proofs.lemmas.Bool.{cases_Bool, cases_eq, true≢false, eq-eqb, eqb-true}
 use Rattle.std.proofs.lemmas.List.{get_or-set_same, get_or-set_other}
@@ -13,8 +13,8 @@ use Rattle.fol_model.specs.Geometry.{is_among, same_section}
 use Rattle.fol_laws.proofs.Coordinates.{count_by-append}
 use Rattle.fol_laws.proofs.ListCounts.{count_by-cons}
 use Rattle.fol_laws.proofs.SamePlaces.{same_section-true, same_section-self}
-use Rattle.fol_pages.proofs.PagePlaces.{place_few, place_tells, same_self}
-use Rattle.fol_sections.specs.Pages.{HasSection, IsOnPage, counts_at, counts_on, near_at, near_on, no_counts, page_at, page_of, place_of}
+use Rattle.fol_pages.proofs.PagePlaces.{place_few, place_tells}
+use Rattle.fol_sections.specs.Pages.{IsOnPage, counts_at, counts_on, near_at, near_on, no_counts, page_at, page_of, place_of}
 use Rattle.fol_sections.specs.Places.{is_same}
 use Rattle.fol_sections.specs.declared.pages.Counts.{Counts}
 use Rattle.fol_sections.specs.declared.pages.Page.{Page}
@@ -22,8 +22,6 @@ use Rattle.fol_sections.proofs.Margins.{count-like}
 use Rattle.fol_sections.proofs.NumberSteps.{all_among}
 use Rattle.fol_sections.proofs.PageRuns.{after_off, after_on, before_near, before_on, off_page, on_page}
 use Rattle.fol_sections.proofs.PageStretches.{filter_stretch, near_nowhere}
-use Rattle.fol_sections.proofs.PageSteps.{nobody_in}
-use Rattle.fol_sections.proofs.UsedPages.{used-busy}
 
 -- ---- what is kept of a section that may leave
 -- as many sections are near: a section leaves only where none is
@@ -137,15 +135,6 @@ module _ (before after : List ((ℤ × ℤ) × Page)) (first : SectionPos) (old 
         ] in
         after_off before after first old new was step q e ∙ rw none refl
   ]
-
-  -- whether the page has a present section is seen in it alone
-  pub page_empty : list_all (λ counts. not (is_some counts)) new.sections ≡ true → (q : SectionPos) → IsOnPage first q → counts_at after q ≡ None
-  page_empty blank q on = after_on before after first old new was step q on ∙ nobody_in new.sections blank (place_of q)
-
-  pub page_busy : length new.sections ≡ 32 → list_all (λ counts. not (is_some counts)) new.sections ≡ false → HasSection after (page_of first.x) first.z
-  page_busy whole busy =
-      let there = step (page_of first.x) first.z ∙ ap (λ b. cond b (Some new) (page_at before (page_of first.x) first.z)) (same_self (page_of first.x) first.z) in
-      used-busy after (page_of first.x) first.z new there whole busy
 
 -- where the page is not there, all of them are dead, and nothing changes
 module _ (entries : List ((ℤ × ℤ) × Page)) (first : SectionPos) (part : List SectionPos) (all : All (IsOnPage first) part) (none : page_at entries (page_of first.x) first.z ≡ None) where

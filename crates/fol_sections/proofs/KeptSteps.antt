@@ -16,7 +16,7 @@ use Rattle.fol_laws.proofs.SectionOrder.{section_count_change}
 use Rattle.fol_laws.proofs.ChunkOrder.{chunk_count_change}
 use Rattle.fol_laws.proofs.FloorDivision.{around_in_limits}
 use Rattle.fol_sections.specs.Places.{count_at}
-use Rattle.fol_sections.specs.Pages.{AllUsed, chunks_at, is_here, near_at}
+use Rattle.fol_sections.specs.Pages.{chunks_at, is_here, near_at}
 use Rattle.fol_sections.specs.declared.pages.Page.{Page}
 use Rattle.fol_sections.specs.Kept.{IsKept, is_filled_near, is_held, is_loaded_in}
 use Rattle.fol_sections.proofs.Margins.{count-like, count-or}
@@ -49,7 +49,7 @@ module _ (grid : Grid) (holds holds' : List ((ℤ × ℤ) × ℕ)) (pages pages'
     (here : (s : SectionPos) → is_here pages' s ≡ (is_here pages s || is_within (section_of grid c) grid.create s))
     (chunks : (s : SectionPos) → chunks_at pages' s ≡ cond (same_section (section_of grid c) s && not (is_held holds c)) 1 0 + chunks_at pages s)
     (near : (s : SectionPos) → near_at pages' s ≡ near_at pages s + cond (not (is_held holds c) && (nat_eq (chunks_at pages (section_of grid c)) 0 && is_within (section_of grid c) grid.create s)) 1 0)
-    (len : count' ≡ count + count_sections (λ s. not (is_here pages s) && is_within (section_of grid c) grid.create s)) (few : count' ≤ 16384) (used : AllUsed pages → AllUsed pages') where
+    (len : count' ≡ count + count_sections (λ s. not (is_here pages s) && is_within (section_of grid c) grid.create s)) (few : count' ≤ 16384) where
   held : (q : ChunkPos) → is_held holds' q ≡ (same_chunk c q || is_held holds q)
   held = held-raised holds holds' c counts
 
@@ -149,7 +149,6 @@ module _ (grid : Grid) (holds holds' : List ((ℤ × ℤ) × ℕ)) (pages pages'
         ∙ sym (count-like (is_here pages') (λ s. is_here pages s || is_within (section_of grid c) grid.create s) all_sections here
         ∙ count-or (is_here pages) (is_within (section_of grid c) grid.create) all_sections);
     few = few;
-    used = used kept.used;
   }
 
 -- ---- one hold less
@@ -157,8 +156,7 @@ module _ (grid : Grid) (holds holds' : List ((ℤ × ℤ) × ℕ)) (pages pages'
     (counts : (q : ChunkPos) → count_at holds' q ≡ at_chunk (count_at holds) c (count_at holds c - 1) q)
     (here : (s : SectionPos) → is_here pages' s ≡ is_here pages s)
     (chunks : (s : SectionPos) → chunks_at pages s ≡ cond (same_section (section_of grid c) s && nat_eq (count_at holds c) 1) 1 0 + chunks_at pages' s)
-    (near : (s : SectionPos) → near_at pages s ≡ near_at pages' s + cond (nat_eq (count_at holds c) 1 && (nat_eq (chunks_at pages (section_of grid c)) 1 && is_within (section_of grid c) grid.create s)) 1 0)
-    (used : AllUsed pages → AllUsed pages') where
+    (near : (s : SectionPos) → near_at pages s ≡ near_at pages' s + cond (nat_eq (count_at holds c) 1 && (nat_eq (chunks_at pages (section_of grid c)) 1 && is_within (section_of grid c) grid.create s)) 1 0) where
   held_less : (q : ChunkPos) → is_held holds' q ≡ (is_held holds q && not (same_chunk c q && nat_eq (count_at holds c) 1))
   held_less = held-lowered holds holds' c counts
 
@@ -256,5 +254,4 @@ module _ (grid : Grid) (holds holds' : List ((ℤ × ℤ) × ℕ)) (pages pages'
     margin = λ q s h w. here s ∙ kept.margin q s (was_held q h) w;
     count = kept.count ∙ sym (count-like (is_here pages') (is_here pages) all_sections here);
     few = kept.few;
-    used = used kept.used;
   }

@@ -17,7 +17,6 @@ pub mod SquareRows
 pub mod TurnSteps
 pub mod PageRuns
 pub mod NearPages
-pub mod UsedPages
 pub mod PageStretches
 pub mod DropSteps
 pub mod MarkSteps

@@ -11,10 +11,9 @@ use borrow.Author.Differences.{ints}
 use Rattle.fol_model.specs.declared.places.SectionPos.{SectionPos}
 use Rattle.fol_model.specs.Geometry.{same_section}
 use Rattle.fol_laws.proofs.SamePlaces.{same_section-true, same_section-self}
-use Rattle.fol_pages.proofs.PageChanges.{pages-same}
 use Rattle.fol_pages.proofs.PagePlaces.{place_few, place_tells, same_place, same_self}
 use Rattle.fol_pages.proofs.PageRuns.{run_end, run_page}
-use Rattle.fol_sections.specs.Pages.{AllUsed, IsOnPage, KeepsOthers, chunks_at, counts_at, counts_on, has_page, is_here, near_at, near_on, no_counts, page_at, page_of, place_of}
+use Rattle.fol_sections.specs.Pages.{IsOnPage, KeepsOthers, chunks_at, counts_at, counts_on, has_page, is_here, near_at, near_on, no_counts, page_at, page_of, place_of}
 use Rattle.fol_sections.specs.Places.{is_same}
 use Rattle.fol_sections.specs.Rows.{row_of, section_at}
 use Rattle.fol_sections.specs.Turns.{fall, rise}
@@ -203,13 +202,6 @@ module _ (before after : List ((ℤ × ℤ) × Page)) (s : SectionPos) (old new 
       | inl e ↦ ap (λ o. (unwrap_or o no_counts).loaded) (after_on q (on_page q e)) ∙ keeps.chunks q ∙ sym (ap (λ o. (unwrap_or o no_counts).loaded) (before_on q (on_page q e)))
       | inr e ↦ ap (λ o. (unwrap_or o no_counts).loaded) (after_off q e)
     ]
-
-    pub run_used : AllUsed before → AllUsed after
-    unfolding has_page
-    run_used used x z h =
-        let there : has_page before (page_of s.x) s.z ≡ true = ap is_some was in
-        let w = used x z (sym (pages-same before after (page_of s.x) s.z new step there x z) ∙ h) in
-        (w.0, w.1, w.2, run_here w.0 ∙ w.3)
 
   pub before_near : (q : SectionPos) → IsOnPage s q → near_at before q ≡ near_on old q
   unfolding near_at

@@ -1,8 +1,8 @@
 -- The words of contracts on what a table keeps.
 use Rattle.std.proofs.Common.{◌≡◌, ℕ, refl, sym, ◌∙◌, ap, arith, Bool, true, not, ◌&&◌, List, []}
 use Rattle.std.specs.Prelude.{ℤ, nat_eq, nat_lt}
-use Rattle.std.specs.Option.{option_and_then, unwrap_or}
-use Rattle.std.specs.Prelude.{is_some, None, slice_index_or}
+use Rattle.std.specs.Option.{unwrap_or}
+use Rattle.std.specs.Prelude.{is_some}
 use Rattle.std.specs.List.{count_by}
 use Rattle.std.proofs.Math.Path.{fun_ext}
 use Rattle.std.proofs.lemmas.Bool.Decides.{nat_tests}
@@ -15,7 +15,7 @@ use Rattle.fol_model.specs.GridNumbers.{IsGrid}
 use Rattle.fol_model.specs.Universe.{all_chunks, all_sections, count_sections, some_chunk}
 use Rattle.fol_laws.proofs.ListCounts.{count_by-none}
 use Rattle.fol_sections.specs.Places.{count_at, number_at}
-use Rattle.fol_sections.specs.Pages.{chunks_at, counts_at, has_page, is_here, near_at, no_counts, page_at, page_of, place_of}
+use Rattle.fol_sections.specs.Pages.{chunks_at, counts_at, is_here, near_at, no_counts, page_at}
 use Rattle.fol_sections.specs.declared.pages.Page.{Page}
 use Rattle.fol_sections.specs.Table.{Table, holds_of, presence_of, in_margin_of, neighbours_of, is_filled_in, is_loaded_chunk_of, loaded_count, IsEmpty, IsSame}
 use Rattle.fol_sections.specs.Kept.{IsKept, is_filled_near, is_held, is_loaded_in, held_in, present_in}
@@ -61,7 +61,7 @@ module _ (grid : Grid) (holds : List ((ℤ × ℤ) × ℕ)) (pages : List ((ℤ 
 
 -- ---- nothing is held
 pub kept_none : (grid : Grid) (holds : List ((ℤ × ℤ) × ℕ)) (pages : List ((ℤ × ℤ) × Page)) → IsGrid grid → holds ≡ [] → pages ≡ [] → IsKept grid holds pages 0
-unfolding count_at number_at chunks_at is_here near_at counts_at has_page page_at
+unfolding count_at number_at chunks_at is_here near_at counts_at page_at
 kept_none grid holds pages numbers e f = rw (e, f) (record {
   numbers = numbers;
   chunk_limits = λ c h. absurd (true≢false (sym h));
@@ -71,7 +71,6 @@ kept_none grid holds pages numbers e f = rw (e, f) (record {
   margin = λ c s h w. absurd (true≢false (sym h));
   count = sym (count_by-none (is_here []) (λ s. refl) all_sections);
   few = omega arith;
-  used = λ x z h. absurd (true≢false (sym h));
 })
 
 pub table_none : (grid : Grid) (holds : List ((ℤ × ℤ) × ℕ)) (pages : List ((ℤ × ℤ) × Page)) (filled died : List SectionPos) (spare : ℕ) → holds ≡ [] → pages ≡ [] → filled ≡ [] → died ≡ [] → IsEmpty (table grid holds pages filled died spare)
@@ -84,30 +83,22 @@ table_none grid holds pages filled died spare e f g h = record {
 }
 
 -- ---- the same numbers in other tables
-module _ (grid : Grid) (holds holds' : List ((ℤ × ℤ) × ℕ)) (pages pages' : List ((ℤ × ℤ) × Page)) (same_holds : (a b : ℤ) → number_at holds' a b ≡ number_at holds a b) (same_pages : (a b : ℤ) → page_at pages' a b ≡ page_at pages a b) where
+module _ (grid : Grid) (holds holds' : List ((ℤ × ℤ) × ℕ)) (pages pages' : List ((ℤ × ℤ) × Page)) (same_holds : (a b : ℤ) → number_at holds' a b ≡ number_at holds a b) (same_counts : (s : SectionPos) → counts_at pages' s ≡ counts_at pages s) where
   counts : (c : ChunkPos) → count_at holds' c ≡ count_at holds c
   unfolding count_at
   counts c = ap (λ o. unwrap_or o 0) (same_holds c.x c.z)
 
-  kept_counts : (s : SectionPos) → counts_at pages' s ≡ counts_at pages s
-  unfolding counts_at
-  kept_counts s = ap (option_and_then (λ p. slice_index_or p.sections (place_of s) None)) (same_pages (page_of s.x) s.z)
-
   here : (s : SectionPos) → is_here pages' s ≡ is_here pages s
   unfolding is_here
-  here s = ap is_some (kept_counts s)
+  here s = ap is_some (same_counts s)
 
   chunks : (s : SectionPos) → chunks_at pages' s ≡ chunks_at pages s
   unfolding chunks_at
-  chunks s = ap (λ o. (unwrap_or o no_counts).loaded) (kept_counts s)
+  chunks s = ap (λ o. (unwrap_or o no_counts).loaded) (same_counts s)
 
   near : (s : SectionPos) → near_at pages' s ≡ near_at pages s
   unfolding near_at
-  near s = ap (λ o. (unwrap_or o no_counts).near) (kept_counts s)
-
-  pages_there : (x z : ℤ) → has_page pages' x z ≡ has_page pages x z
-  unfolding has_page
-  pages_there x z = ap is_some (same_pages x z)
+  near s = ap (λ o. (unwrap_or o no_counts).near) (same_counts s)
 
   held : (c : ChunkPos) → is_held holds' c ≡ is_held holds c
   held c = ap (nat_lt 0) (counts c)
@@ -122,7 +113,6 @@ module _ (grid : Grid) (holds holds' : List ((ℤ × ℤ) × ℕ)) (pages pages'
     margin = λ c s h w. here s ∙ kept.margin c s (sym (held c) ∙ h) w;
     count = kept.count ∙ sym (count-like (is_here pages') (is_here pages) all_sections here);
     few = kept.few;
-    used = λ x z h. let w = kept.used x z (sym (pages_there x z) ∙ h) in (w.0, w.1, w.2, here w.0 ∙ w.3);
   }
 
   pub table_same : (count : ℕ) → IsKept grid holds pages count → (filled filled' died died' : List SectionPos) (spare spare' : ℕ) → IsSame (table grid holds pages filled died spare) (table grid holds' pages' filled' died' spare')

@@ -9,7 +9,7 @@ use Rattle.fol_model.specs.Geometry.{is_chunk, is_section, is_within, section_of
 use Rattle.fol_model.specs.GridNumbers.{IsGrid}
 use Rattle.fol_model.specs.Universe.{all_chunks, all_sections, count_sections}
 use Rattle.fol_sections.specs.Places.{count_at}
-use Rattle.fol_sections.specs.Pages.{AllUsed, chunks_at, is_here, near_at}
+use Rattle.fol_sections.specs.Pages.{chunks_at, is_here, near_at}
 use Rattle.fol_sections.specs.Rows.{chunk_at, rows_of}
 use Rattle.fol_sections.specs.Table.{Held}
 use Rattle.fol_sections.specs.declared.pages.Page.{Page}
@@ -41,8 +41,8 @@ pub record IsListed (grid : Grid) (holds : List ((ℤ × ℤ) × ℕ)) (loaded :
 abbrev pub is_filled_near : Grid → List ((ℤ × ℤ) × Page) → SectionPos → SectionPos → Bool
 is_filled_near grid pages s q = nat_lt 0 (chunks_at pages q) && is_within s grid.create q
 
--- each present section has its number of loaded chunks and its number of sections near it that hold one, the sections that a loaded
--- chunk needs are present, and no page is empty
+-- each present section has its number of loaded chunks and its number of sections near it that hold one, and the sections that a loaded
+-- chunk needs are present
 pub record IsKept (grid : Grid) (holds : List ((ℤ × ℤ) × ℕ)) (pages : List ((ℤ × ℤ) × Page)) (present : ℕ) : Type 0 where
   pub numbers : IsGrid grid
   pub chunk_limits : (c : ChunkPos) → is_held holds c ≡ true → is_chunk c ≡ true
@@ -52,7 +52,6 @@ pub record IsKept (grid : Grid) (holds : List ((ℤ × ℤ) × ℕ)) (pages : Li
   pub margin : (c : ChunkPos) (s : SectionPos) → is_held holds c ≡ true → is_within (section_of grid c) grid.create s ≡ true → is_here pages s ≡ true
   pub count : present ≡ count_sections (is_here pages)
   pub few : present ≤ MOST_SECTIONS
-  pub used : AllUsed pages
 
 -- there is room for that many holds more
 pub record HasRoom (spare in_holds in_pages in_filled in_died : ℕ) : Type 0 where

@@ -51,11 +51,3 @@ pub record InNear (sections : List SectionPos) : Type 0 where
   pub z : ℤ
   pub column : (s : SectionPos) → is_among sections s ≡ true → (i : ℕ) × (i < 2) × (page_of s.x ≡ x +ℤ pos i)
   pub row : (s : SectionPos) → is_among sections s ≡ true → (i : ℕ) × (i < 17) × (s.z ≡ z +ℤ pos i)
-
--- a section of that page is present
-abbrev pub HasSection : List ((ℤ × ℤ) × Page) → ℤ → ℤ → Type 0
-HasSection pages x z = (s : SectionPos) × (page_of s.x ≡ x) × (s.z ≡ z) × (is_here pages s ≡ true)
-
--- a page is there only where one of its sections is present
-abbrev pub AllUsed : List ((ℤ × ℤ) × Page) → Type 0
-AllUsed pages = (x z : ℤ) → has_page pages x z ≡ true → HasSection pages x z

@@ -1,13 +1,13 @@
 //! Dead sections that leave, by stretches of a list that lie in one page.
 
-ghost use Rattle.std.specs.Prelude.{◌≡◌, ℤ, ◌≤◌, ◌&&◌, true, false, cond, IsTrue, None, count_by, nat_eq};
+ghost use Rattle.std.specs.Prelude.{◌≡◌, ◌≤◌, ◌&&◌, cond, None, count_by, nat_eq};
 ghost use Rattle.std.specs.List.{All};
 ghost use Rattle.fol_model.specs.declared.places.SectionPos.{SectionPos};
 ghost use Rattle.fol_model.specs.Geometry.{is_among};
-ghost use Rattle.fol_sections.specs.Pages.{AllUsed, HasSection, IsOnPage, counts_at, counts_on, has_page, near_at, near_on, page_of as page};
+ghost use Rattle.fol_sections.specs.Pages.{IsOnPage, counts_at, counts_on, near_at, near_on};
 
 use crate::packed::PackedCounts;
-use crate::pages::{Page, Pages, is_empty, near_in};
+use crate::pages::{Page, Pages, near_in};
 use fol_model::SectionPos;
 use fol_pages::{page_of, place_of, stretch_len};
 
@@ -27,47 +27,19 @@ fn clear_on(page: &mut Page, part: &[SectionPos]) -> usize
     dead
 }
 
-/// Takes those sections of a list, all in the page of `first`, out of the page near which no section holds a loaded chunk. Returns
-/// how many they are, and whether the page is there and has no present section any more.
-fn clear_stretch(pages: &mut Pages, first: SectionPos, part: &[SectionPos]) -> (usize, bool)
-    requires page { All (IsOnPage first) part.now }
-    ensures dead { result.0 ≡ count_by (λ s. nat_eq (near_at pages.old.entries s) 0) part.now }
-    ensures out { (q : SectionPos) → counts_at pages.new.entries q
-        ≡ cond (is_among part.now q && nat_eq (near_at pages.old.entries q) 0)
-        None (counts_at pages.old.entries q) }
-    ensures pages { (x z : ℤ) → has_page pages.new.entries x z ≡ has_page pages.old.entries x z }
-    ensures empty { result.1 ≡ true → (q : SectionPos) → IsOnPage first q
-        → counts_at pages.new.entries q ≡ None }
-    ensures busy { result.1 ≡ false
-        → IsTrue (has_page pages.new.entries (page first.x) first.z)
-        → HasSection pages.new.entries (page first.x) first.z }
-    ensures room { pages.new.spare ≡ pages.old.spare }
-{
-    match pages.get_mut(page_of(first)) {
-        Some(page) => {
-            let dead = clear_on(page, part);
-            (dead, is_empty(page))
-        }
-        None => (part.len(), false),
-    }
-}
-
-/// Takes those sections of a list, all in the page of `first`, out near which no section holds a loaded chunk, and the page with
-/// them where no other section of it is present. Returns how many they are.
+/// Takes those sections of a list, all in the page of `first`, out near which no section holds a loaded chunk, and returns how many they are.
 fn drop_stretch(pages: &mut Pages, first: SectionPos, part: &[SectionPos]) -> usize
     requires page { All (IsOnPage first) part.now }
     ensures dead { result ≡ count_by (λ s. nat_eq (near_at pages.old.entries s) 0) part.now }
     ensures out { (q : SectionPos) → counts_at pages.new.entries q
         ≡ cond (is_among part.now q && nat_eq (near_at pages.old.entries q) 0)
         None (counts_at pages.old.entries q) }
-    ensures room { pages.old.spare ≤ pages.new.spare }
-    ensures used { AllUsed pages.old.entries → AllUsed pages.new.entries }
+    ensures room { pages.new.spare ≡ pages.old.spare }
 {
-    let (dead, is_done) = clear_stretch(pages, first, part);
-    if is_done {
-        let _ = pages.remove(page_of(first));
+    match pages.get_mut(page_of(first)) {
+        Some(page) => clear_on(page, part),
+        None => part.len(),
     }
-    dead
 }
 
 /// Takes those sections of a list out near which no section holds a loaded chunk, and returns how many they are.
@@ -77,7 +49,6 @@ pub fn drop_list(pages: &mut Pages, list: &[SectionPos]) -> usize
         ≡ cond (is_among list.now q && nat_eq (near_at pages.old.entries q) 0)
         None (counts_at pages.old.entries q) }
     ensures room { pages.old.spare ≤ pages.new.spare }
-    ensures used { AllUsed pages.old.entries → AllUsed pages.new.entries }
 {
     let mut dead = 0;
     let mut rest = list;

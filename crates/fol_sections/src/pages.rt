@@ -1,11 +1,11 @@
 //! Present sections in pages of 32 that stand side by side in a row.
 
-ghost use Rattle.std.specs.Prelude.{◌≡◌, ℤ, ◌+◌, ◌<◌, ◌≤◌, ◌^◌, not, ◌||◌, false, cond, is_some, Some, None, IsTrue, length, slice_index_or, slice_set};
+ghost use Rattle.std.specs.Prelude.{◌≡◌, ℤ, ◌+◌, ◌<◌, ◌≤◌, ◌^◌, not, ◌||◌, true, false, cond, is_some, Some, None, IsTrue, OnOk, length, slice_index_or, slice_set};
 ghost use Rattle.std.specs.Option.{unwrap_or};
 ghost use Rattle.std.specs.List.{All, list_all};
 ghost use Rattle.fol_model.specs.declared.places.SectionPos.{SectionPos};
 ghost use Rattle.fol_model.specs.Geometry.{is_among, same_section};
-ghost use Rattle.fol_sections.specs.Pages.{AllUsed, HasSection, IsOnPage, counts_at, has_page, is_here, chunks_at, chunks_on, counts_on, near_at, near_on, no_counts, page_of as page};
+ghost use Rattle.fol_sections.specs.Pages.{IsOnPage, counts_at, has_page, is_here, chunks_at, chunks_on, counts_on, near_at, near_on, no_counts, page_of as page};
 ghost use Rattle.fol_sections.specs.Places.{is_same};
 ghost use Rattle.fol_sections.specs.Turns.{fall, rise, turned};
 
@@ -13,6 +13,7 @@ use crate::packed::PackedCounts;
 use crate::turns::Turn;
 use fol_model::SectionPos;
 use fol_pages::{PageTable, page_of, place_of};
+use std::alloc::AllocError;
 
 /// What is kept of a present section.
 #[derive(Clone, Copy, Debug, PartialEq, Eq)]
@@ -201,7 +202,6 @@ fn page_with(part: &[SectionPos]) -> Page
 
 /// Makes sections present that all lie in the page of `first`, with no loaded chunk near them.
 pub fn put_stretch(pages: &mut Pages, first: SectionPos, part: &[SectionPos])
-    requires some { IsTrue (is_among part.now first) }
     requires page { All (IsOnPage first) part.now }
     requires room { has_page pages.old.entries (page first.x) first.z ≡ false
         → 0 < pages.old.spare }
@@ -211,7 +211,6 @@ pub fn put_stretch(pages: &mut Pages, first: SectionPos, part: &[SectionPos])
         ≡ (is_same (page first.x) first.z x z || has_page pages.old.entries x z) }
     ensures room { pages.old.spare ≤ pages.new.spare
         + cond (has_page pages.old.entries (page first.x) first.z) 0 1 }
-    ensures used { AllUsed pages.old.entries → AllUsed pages.new.entries }
 {
     match pages.get_mut(page_of(first)) {
         Some(page) => mark_on(page, part),
@@ -231,7 +230,6 @@ pub fn count(pages: &mut Pages, s: SectionPos, turn: Turn) -> u16
         (Some (record { loaded = result; near = near_at pages.old.entries s }))
         (counts_at pages.old.entries q) }
     ensures room { pages.new.spare ≡ pages.old.spare }
-    ensures used { AllUsed pages.old.entries → AllUsed pages.new.entries }
 {
     match pages.get_mut(page_of(s)) {
         Some(page) => page.count(place_of(s), turn),
@@ -240,9 +238,60 @@ pub fn count(pages: &mut Pages, s: SectionPos, turn: Turn) -> u16
 }
 
 /// Whether a page has no present section.
-pub fn is_empty(page: &Page) -> bool
-    ensures value { result ≡ list_all (λ counts. not (is_some counts)) page.now.sections }
-    ensures whole { length page.now.sections ≡ 32 }
+fn is_empty(page: &Page) -> bool
+    ensures { result ≡ list_all (λ counts. not (is_some counts)) page.now.sections }
 {
     page.sections.iter().all(|counts| counts.is_absent())
+}
+
+/// Whether there is a page with that key which has no present section.
+fn is_unused(pages: &Pages, key: (i32, i32)) -> bool
+    ensures { result ≡ true → (q : SectionPos) → (page q.x ≡ key.0) × (q.z ≡ key.1)
+        → counts_at pages.now.entries q ≡ None }
+{
+    match pages.get(key) {
+        Some(page) => is_empty(page),
+        None => false,
+    }
+}
+
+/// Takes the page with that key out, if it has no present section.
+fn throw_out(pages: &mut Pages, key: (i32, i32))
+    ensures counts { (q : SectionPos) → counts_at pages.new.entries q
+        ≡ counts_at pages.old.entries q }
+    ensures room { pages.old.spare ≤ pages.new.spare }
+{
+    if is_unused(pages, key) {
+        let _ = pages.remove(key);
+    }
+}
+
+/// Takes the pages out that have no present section, the last one first, since another page only comes to the index of one that goes.
+fn throw_out_all(pages: &mut Pages)
+    ensures counts { (q : SectionPos) → counts_at pages.new.entries q
+        ≡ counts_at pages.old.entries q }
+    ensures room { pages.old.spare ≤ pages.new.spare }
+{
+    for index in (0..pages.len()).rev() {
+        if let Some(key) = pages.key(index) {
+            throw_out(pages, key);
+        }
+    }
+}
+
+/// Makes room for so many pages more. The sections stay either way.
+///
+/// Where there is less room, the pages with no present section are thrown out first, and room is made for as many pages more as are left. So
+/// they are gone over a second time for as much room only after that many pages came, which pay for it.
+pub fn make_room(pages: &mut Pages, n: usize) -> Result<(), AllocError>
+    ensures counts { (q : SectionPos) → counts_at pages.new.entries q
+        ≡ counts_at pages.old.entries q }
+    ensures ok { OnOk result (n ≤ pages.new.spare) }
+    ensures room { pages.old.spare ≤ pages.new.spare }
+{
+    if n <= pages.capacity() - pages.len() {
+        return Ok(());
+    }
+    throw_out_all(pages);
+    pages.reserve(n.saturating_add(pages.len()))
 }

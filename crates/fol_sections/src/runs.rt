@@ -6,7 +6,7 @@ ghost use Rattle.std.specs.List.{count_by, filter};
 ghost use Rattle.std.specs.Vec.{vec_capacity};
 ghost use Rattle.fol_model.specs.declared.places.SectionPos.{SectionPos};
 ghost use Rattle.fol_model.specs.Geometry.{same_section};
-ghost use Rattle.fol_sections.specs.Pages.{AllUsed, IsOnPage, KeepsOthers, chunks_at, counts_on, is_here, near_at, near_on};
+ghost use Rattle.fol_sections.specs.Pages.{IsOnPage, KeepsOthers, chunks_at, counts_on, is_here, near_at, near_on};
 ghost use Rattle.fol_sections.specs.Rows.{row_of, section_at};
 ghost use Rattle.fol_sections.specs.Turns.{fall, leaves_none, rise};
 
@@ -123,7 +123,6 @@ pub fn turn_run(pages: &mut Pages, died: &mut Vec<SectionPos>, s: SectionPos, le
     ensures chunks { (q : SectionPos) → chunks_at pages.new.entries q
         ≡ chunks_at pages.old.entries q }
     ensures room { pages.new.spare ≡ pages.old.spare }
-    ensures used { AllUsed pages.old.entries → AllUsed pages.new.entries }
     ensures died { died.new.items ≡ died.old.items
         ++ filter (λ q. leaves_none turn (near_at pages.old.entries q))
         (row_of section_at s.x s.z len) }

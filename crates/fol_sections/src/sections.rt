@@ -7,7 +7,7 @@ ghost use Rattle.std.specs.HashMap.{spare as room_of};
 ghost use Rattle.fol_model.specs.declared.places.ChunkPos.{ChunkPos};
 ghost use Rattle.fol_model.specs.declared.places.SectionPos.{SectionPos};
 ghost use Rattle.fol_sections.specs.Places.{count_at};
-ghost use Rattle.fol_sections.specs.Pages.{AllUsed, InNear, chunks_at, counts_at, is_here, near_at, no_counts};
+ghost use Rattle.fol_sections.specs.Pages.{InNear, chunks_at, counts_at, is_here, near_at, no_counts};
 ghost use Rattle.fol_sections.specs.Turns.{fall, rise};
 ghost use Rattle.fol_model.specs.Geometry.{is_chunk, is_within, same_section, section_of as home_of, is_among};
 ghost use Rattle.fol_model.specs.GridState.{at_chunk};
@@ -16,7 +16,7 @@ ghost use Rattle.fol_model.specs.Universe.{square};
 use crate::drops::drop_list;
 use crate::listings::list_all;
 use crate::missing::count_missing;
-use crate::pages::{self, Pages, is_present, loaded, near, put_stretch};
+use crate::pages::{self, Pages, is_present, loaded, make_room, near, put_stretch};
 use crate::places::{self, Numbers, number};
 use crate::squares::find_missing;
 use crate::stretches::{count_list, split_list};
@@ -201,7 +201,7 @@ impl Sections {
     {
         if n > self.spare {
             self.holds.reserve(n as usize)?;
-            self.pages.reserve(n as usize * NEAR_PAGES)?;
+            make_room(&mut self.pages, n as usize * NEAR_PAGES)?;
             self.spare = n;
         }
         Ok(())
@@ -429,7 +429,6 @@ fn take_hold(
         && is_within home radius s) 1 0 }
     ensures rooms { (room_of holds.old ≤ room_of holds.new + 1)
         × (pages.old.spare ≤ pages.new.spare + 34) }
-    ensures used { AllUsed pages.old.entries → AllUsed pages.new.entries }
     ensures died { died.new.items ≡ [] }
     ensures space { vec_capacity died.old ≤ vec_capacity died.new }
 {
@@ -452,7 +451,6 @@ fn fill(pages: &mut Pages, missing: &[SectionPos])
     ensures filled { (s : SectionPos) → counts_at pages.new.entries s
         ≡ cond (is_among missing.now s) (Some no_counts) (counts_at pages.old.entries s) }
     ensures room { pages.old.spare ≤ pages.new.spare + 34 }
-    ensures used { AllUsed pages.old.entries → AllUsed pages.new.entries }
 {
     let mut rest = missing;
     while !rest.is_empty() {
@@ -522,7 +520,6 @@ fn count_chunk(pages: &mut Pages, home: SectionPos, turn: Turn) -> u16
     ensures here { (s : SectionPos) → is_here pages.new.entries s ≡ is_here pages.old.entries s }
     ensures near { (s : SectionPos) → near_at pages.new.entries s ≡ near_at pages.old.entries s }
     ensures room { pages.new.spare ≡ pages.old.spare }
-    ensures used { AllUsed pages.old.entries → AllUsed pages.new.entries }
 {
     pages::count(pages, home, turn)
 }
@@ -544,7 +541,6 @@ fn add_chunk(pages: &mut Pages, died: &mut Vec<SectionPos>, home: SectionPos, ra
         && is_within home radius s) 1 0 }
     ensures here { (s : SectionPos) → is_here pages.new.entries s ≡ is_here pages.old.entries s }
     ensures room { pages.new.spare ≡ pages.old.spare }
-    ensures used { AllUsed pages.old.entries → AllUsed pages.new.entries }
     ensures died { died.new.items ≡ [] }
     ensures space { vec_capacity died.old ≤ vec_capacity died.new }
 {
@@ -573,7 +569,6 @@ fn drop_chunk(pages: &mut Pages, died: &mut Vec<SectionPos>, home: SectionPos, r
         && is_within home radius s) 1 0 }
     ensures here { (s : SectionPos) → is_here pages.new.entries s ≡ is_here pages.old.entries s }
     ensures room { pages.new.spare ≡ pages.old.spare }
-    ensures used { AllUsed pages.old.entries → AllUsed pages.new.entries }
     ensures died { died.new.items ≡ filter (λ q. nat_eq (near_at pages.new.entries q) 0)
         (square home radius) }
     ensures space { vec_capacity died.old ≤ vec_capacity died.new }

@@ -6,7 +6,7 @@ ghost use Rattle.std.specs.Vec.{vec_capacity};
 ghost use Rattle.fol_model.specs.declared.places.SectionPos.{SectionPos};
 ghost use Rattle.fol_model.specs.Geometry.{is_within};
 ghost use Rattle.fol_model.specs.Universe.{square};
-ghost use Rattle.fol_sections.specs.Pages.{AllUsed, chunks_at, is_here, near_at};
+ghost use Rattle.fol_sections.specs.Pages.{chunks_at, is_here, near_at};
 ghost use Rattle.fol_sections.specs.Turns.{fall, rise};
 
 use crate::pages::Pages;
@@ -59,7 +59,6 @@ pub fn turn_square(
     ensures chunks { (q : SectionPos) → chunks_at pages.new.entries q
         ≡ chunks_at pages.old.entries q }
     ensures room { pages.new.spare ≡ pages.old.spare }
-    ensures used { AllUsed pages.old.entries → AllUsed pages.new.entries }
     ensures died { died.new.items ≡ filter (λ q. nat_eq (near_at pages.new.entries q) 0)
         (square s radius) }
     ensures space { vec_capacity died.old ≤ vec_capacity died.new }

@@ -21,5 +21,4 @@ loop-rest-preserved c =
       near = near_more first now next part after rest split inv.near c.drop_stretch-dead.ensures.out;
       out = λ q. out_more first now next part after rest split inv.near c.drop_stretch-dead.ensures.out q _ (inv.out q);
       room = omega (arith, inv.room, c.drop_stretch-dead.ensures.room);
-      used = λ u. c.drop_stretch-dead.ensures.used (inv.used u);
     }

@@ -2,7 +2,7 @@ use Rattle.std.proofs.Common.{◌≡◌, ◌+◌, ◌≤◌, ◌&&◌, cond, len
 use Rattle.std.specs.Prelude.{None, count_by, nat_eq}
 use Rattle.fol_model.specs.declared.places.SectionPos.{SectionPos}
 use Rattle.fol_model.specs.Geometry.{is_among}
-use Rattle.fol_sections.specs.Pages.{AllUsed, counts_at, near_at}
+use Rattle.fol_sections.specs.Pages.{counts_at, near_at}
 use Rattle.fol_sections.proofs.drops.drop_list.Given as goal
 
 abbrev pub invariant-loop-rest : goal.invariant-loop-rest
@@ -12,7 +12,6 @@ invariant-loop-rest l = record {
   out : (q : SectionPos) → cond (is_among l.rest q && nat_eq (near_at l.pages.entries q) 0) None (counts_at l.pages.entries q)
       ≡ cond (is_among l.fn.list q && nat_eq (near_at l.initial.pages.entries q) 0) None (counts_at l.initial.pages.entries q);
   room : l.initial.pages.spare ≤ l.pages.spare;
-  used : AllUsed l.initial.pages.entries → AllUsed l.pages.entries;
 }
 
 abbrev pub decreases-loop-rest : goal.decreases-loop-rest

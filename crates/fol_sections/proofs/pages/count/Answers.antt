@@ -3,13 +3,11 @@ use Rattle.std.specs.Prelude.{None, Some, is_some, slice_index_or}
 use Rattle.std.specs.Option.{option_and_then, option_copied_mut, unwrap_or}
 use Rattle.std.proofs.lemmas.Bool.{true≢false}
 use Rattle.fol_model.specs.Geometry.{same_section}
-use Rattle.fol_pages.proofs.PageChanges.{pages-same}
 use Rattle.fol_sections.specs.Pages.{chunks_at, counts_at, counts_on, has_page, is_here, near_at, no_counts, page_at, page_of}
 use Rattle.fol_sections.specs.Places.{is_same}
 use Rattle.fol_sections.specs.Turns.{rise}
 use Rattle.fol_sections.specs.declared.pages.Counts.{Counts}
 use Rattle.fol_sections.proofs.PageSteps.{counts-written, here-page}
-use Rattle.fol_sections.proofs.UsedPages.{used-change}
 use Rattle.fol_sections.proofs.pages.count.Goals as goal
 
 pub count-requires : goal.count-requires
@@ -47,14 +45,6 @@ returns-in-Some-clause-put c = λ q.
     counts-written c.args.pages.now.entries _ c.args.s c.in-Some.page.now (omega (arith, n)) c.place_of.result c.place_of.ensures.value (Some now)
     (λ a b. updates a b ∙ ap (λ p. cond (is_same (page_of c.args.s.x) c.args.s.z a b) (Some p) (page_at c.args.pages.now.entries a b)) c.count.ensures.counted) q (ap (option_and_then (λ p. counts_on p q)) (sym was))
     ∙ ap (λ o. cond (same_section c.args.s q) (Some (record { loaded = c.count.result; near = (unwrap_or o no_counts).near })) (counts_at c.args.pages.now.entries q)) kept
-
-pub returns-in-Some-clause-used : goal.returns-in-Some-clause-used
-unfolding page_at is_same
-returns-in-Some-clause-used c =
-    let w = c.get_mut.follows.holds c.count.new.self in
-    let updates = rw c.page_of.ensures at (w.updates (ap is_some (sym c.get_mut.ensures.value ∙ ap option_copied_mut c.in-Some.is))) in
-    used-change c.args.pages.now.entries _ (same_section c.args.s) _ (returns-in-Some-clause-put c)
-    (pages-same c.args.pages.now.entries _ (page_of c.args.s.x) c.args.s.z _ updates (here-page c.args.pages.now.entries c.args.s c.requires.here))
 
 pub returns-in-None : goal.returns-in-None
 unfolding page_at has_page

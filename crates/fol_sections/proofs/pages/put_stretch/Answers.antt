@@ -8,7 +8,6 @@ use Rattle.fol_sections.specs.Pages.{counts_on, has_page, no_counts, page_at, pa
 use Rattle.fol_sections.specs.Places.{is_same}
 use Rattle.fol_sections.proofs.MarkSteps.{stretch-written}
 use Rattle.fol_sections.proofs.Results.{ok_value}
-use Rattle.fol_sections.proofs.UsedPages.{used-put}
 use Rattle.fol_sections.proofs.pages.put_stretch.Goals as goal
 
 pub returns-in-Some-clause-put : goal.returns-in-Some-clause-put
@@ -26,9 +25,6 @@ returns-in-Some-clause-pages c =
     let w = c.get_mut.follows.holds c.mark_on.new.page in
     let updates = rw c.page_of.ensures at (w.updates (ap is_some (sym c.get_mut.ensures.value ∙ ap option_copied_mut c.in-Some.is))) in
     pages-more c.args.pages.now.entries _ (page_of c.args.first.x) c.args.first.z c.mark_on.new.page updates
-
-pub returns-in-Some-clause-used : goal.returns-in-Some-clause-used
-returns-in-Some-clause-used c = used-put c.args.pages.now.entries _ (is_among c.args.part.now) no_counts (returns-in-Some-clause-put c) c.args.first c.requires.some (returns-in-Some-clause-pages c)
 
 pub returns-in-None-clause-put : goal.returns-in-None-clause-put
 unfolding page_at is_same has_page
@@ -56,6 +52,3 @@ returns-in-None-clause-room c =
     let absent : has_page c.args.pages.now.entries (page_of c.args.first.x) c.args.first.z ≡ false = ap is_some (sym none) in
     let spare = rw c.get_mut.follows.holds-at-none at c.insert.ensures.spare in
     omega (arith, spare, ap (λ b. cond {A = ℕ} b 0 1) absent)
-
-pub returns-in-None-clause-used : goal.returns-in-None-clause-used
-returns-in-None-clause-used c = used-put c.args.pages.now.entries _ (is_among c.args.part.now) no_counts (returns-in-None-clause-put c) c.args.first c.requires.some (returns-in-None-clause-pages c)

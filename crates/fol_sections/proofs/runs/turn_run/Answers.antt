@@ -7,7 +7,7 @@ use Rattle.fol_sections.specs.Pages.{is_here, near_at, near_on, page_at}
 use Rattle.fol_sections.specs.Places.{is_same}
 use Rattle.fol_sections.specs.Rows.{row_of, section_at}
 use Rattle.fol_sections.specs.Turns.{leaves_none}
-use Rattle.fol_sections.proofs.PageRuns.{before_near, before_on, count_none, filter_row, none_run, row_has, run_chunks, run_here, run_near, run_on, run_used, same_page}
+use Rattle.fol_sections.proofs.PageRuns.{before_near, before_on, count_none, filter_row, none_run, row_has, run_chunks, run_here, run_near, run_on, same_page}
 use Rattle.fol_sections.proofs.Rows.{append-none, filter_none}
 use Rattle.fol_sections.proofs.TurnSteps.{fall_none, rise_none}
 use Rattle.fol_sections.proofs.runs.turn_run.Goals as goal
@@ -56,14 +56,6 @@ returns-in-Some-clause-chunks c =
     let w = c.get_mut.follows.holds c.turn_on.new.page in
     let updates = rw c.page_of.ensures at (w.updates (ap is_some (sym c.get_mut.ensures.value ∙ ap option_copied_mut c.in-Some.is))) in
     run_chunks c.args.pages.now.entries _ c.args.s c.in-Some.page.now c.turn_on.new.page was updates c.turn_on.ensures.kept
-
-pub returns-in-Some-clause-used : goal.returns-in-Some-clause-used
-unfolding page_at is_same
-returns-in-Some-clause-used c =
-    let was = sym (ap option_copied_mut (sym c.in-Some.is) ∙ rw c.page_of.ensures at c.get_mut.ensures.value) in
-    let w = c.get_mut.follows.holds c.turn_on.new.page in
-    let updates = rw c.page_of.ensures at (w.updates (ap is_some (sym c.get_mut.ensures.value ∙ ap option_copied_mut c.in-Some.is))) in
-    run_used c.args.pages.now.entries _ c.args.s c.in-Some.page.now c.turn_on.new.page was updates c.turn_on.ensures.kept
 
 pub returns-in-None-clause-near : goal.returns-in-None-clause-near
 unfolding page_at

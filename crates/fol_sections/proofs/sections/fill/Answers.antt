@@ -13,7 +13,7 @@ abbrev origin : SectionPos
 origin = record { x = pos 0; z = pos 0 }
 
 pub loop-rest-init : goal.loop-rest-init
-loop-rest-init c = record { filled = λ q. refl; within = λ q h. h; used = λ u. u; room = λ near. omega arith }
+loop-rest-init c = record { filled = λ q. refl; within = λ q h. h; room = λ near. omega arith }
 
 pub put_stretch-requires : goal.put_stretch-requires
 put_stretch-requires c =
@@ -23,7 +23,6 @@ put_stretch-requires c =
     let listed : is_among part (get_or part 0 origin) ≡ true = among_at part 0 origin some in
     let member = c.loop-rest.invariant.within (get_or part 0 origin) (part_within c.loop-rest.rest.now part c.split_at.result.1.now c.split_at.ensures.by_index.0 (get_or part 0 origin) listed) in
     record {
-      some = listed;
       page = stretch_on c.loop-rest.rest.now part c.stretch_len.result c.split_at.ensures.front some c.stretch_len.ensures.page;
       room = λ none. omega (
         arith,
@@ -46,7 +45,6 @@ loop-rest-preserved c =
     record {
       filled = λ q. filled_more rest part after split c.loop-rest.pages.entries c.put_stretch.new.pages.entries c.put_stretch.ensures.put q _ (inv.filled q);
       within = λ q h. inv.within q (after_within rest part after split q h);
-      used = λ u. c.put_stretch.ensures.used (inv.used u);
       room = λ near. omega (
         arith,
         inv.room near,

@@ -47,7 +47,6 @@ loop-first-init c = record {
   few = λ q. omega (arith, ap (count_by (same_section q)) c.new-runs.ensures);
   here = λ q. refl;
   chunks = λ q. refl;
-  used = λ u. u;
   room = refl;
   died = (λ i. c.requires.none i ++ filter (λ q. leaves_none c.args.turn (near_at c.args.pages.now.entries q)) (c.new-runs.ensures i));
   most = omega (arith, ap length c.requires.none, ap length c.new-runs.ensures, length-square c.args.s c.args.radius c.requires.few);
@@ -114,7 +113,6 @@ loop-first-preserved c =
       few = λ q. let n = next q c.in-Some.first.x c.in-Some.first.z c.in-Some.len (square c.args.s c.args.radius) _ _ c.in-Some.ensures.run (c.loop-first.invariant.few q) in n.2;
       here = λ q. c.turn_run.ensures.here q ∙ c.loop-first.invariant.here q;
       chunks = λ q. c.turn_run.ensures.chunks q ∙ c.loop-first.invariant.chunks q;
-      used = λ u. c.turn_run.ensures.used (c.loop-first.invariant.used u);
       room = c.turn_run.ensures.room ∙ c.loop-first.invariant.room;
       died = ap (λ xs. xs ++ filter test come) (c.turn_run.ensures.died ∙ ap (λ xs. c.loop-first.died.items ++ xs) more) ∙ append_assoc c.loop-first.died.items (filter test row) (filter test come)
           ∙ ap (λ xs. c.loop-first.died.items ++ xs) (sym (ap (filter test) c.in-Some.ensures.run ∙ filter-append test row come)) ∙ c.loop-first.invariant.died;

@@ -4,7 +4,7 @@ use Rattle.std.specs.Vec.{vec_capacity}
 use Rattle.fol_model.specs.declared.places.SectionPos.{SectionPos}
 use Rattle.fol_model.specs.Geometry.{same_section}
 use Rattle.fol_model.specs.Universe.{square}
-use Rattle.fol_sections.specs.Pages.{AllUsed, chunks_at, is_here, near_at}
+use Rattle.fol_sections.specs.Pages.{chunks_at, is_here, near_at}
 use Rattle.fol_sections.specs.SquareRuns.{rest}
 use Rattle.fol_sections.specs.Turns.{fall, leaves_none, rise}
 use Rattle.fol_sections.proofs.turns.turn_square.Given as goal
@@ -16,7 +16,6 @@ invariant-loop-first l = record {
   few : (q : SectionPos) → count_by (same_section q) (rest l.runs) ≤ count_by (same_section q) (square l.fn.s l.fn.radius);
   here : (q : SectionPos) → is_here l.pages.entries q ≡ is_here l.initial.pages.entries q;
   chunks : (q : SectionPos) → chunks_at l.pages.entries q ≡ chunks_at l.initial.pages.entries q;
-  used : AllUsed l.initial.pages.entries → AllUsed l.pages.entries;
   room : l.pages.spare ≡ l.initial.pages.spare;
   died : l.died.items ++ filter (λ q. leaves_none l.fn.turn (near_at l.initial.pages.entries q)) (rest l.runs) ≡ filter (λ q. leaves_none l.fn.turn (near_at l.initial.pages.entries q)) (square l.fn.s l.fn.radius);
   most : length l.died.items + length (rest l.runs) ≤ 289;

@@ -68,7 +68,7 @@ returns-then-present-wanted-clause-answer c =
 
 pub returns-then-present-wanted-clause-full : goal.returns-then-present-wanted-clause-full
 returns-then-present-wanted-clause-full c = λ _.
-    rw (← c.self.view_is, c.hold_again.ensures.stays c.if-hold_again.false) (table_same _ _ _ _ _ (λ a b. refl) (λ a b. refl) _ c.self.invariant.0 _ _ _ _ _ _, c.clear-then-present-wanted.ensures.items, refl)
+    rw (← c.self.view_is, c.hold_again.ensures.stays c.if-hold_again.false) (table_same _ _ _ _ _ (λ a b. refl) (λ s. refl) _ c.self.invariant.0 _ _ _ _ _ _, c.clear-then-present-wanted.ensures.items, refl)
 
 pub returns-then-present-wanted-clause-room : goal.returns-then-present-wanted-clause-room
 returns-then-present-wanted-clause-room c = λ no.
@@ -124,7 +124,7 @@ invariant_of-self-2 c =
       kept_add _ _ _ _ _ _ _ c.args.c c.self.invariant.0 c.requires.in_range counts (λ s. here s ∙ more s)
           (λ s. chunks s ∙ first_chunks (same_section home s) _ (chunks_at c.self.inside.pages.entries s) new)
           (λ s. near s ∙ first_near (near_at c.self.inside.pages.entries s) _ (nat_eq (chunks_at c.self.inside.pages.entries home) 0 && is_within home c.self.inside.grid.create s) new)
-          (omega (arith, count, c.len-wanted.ensures, c.find_missing.ensures.few)) (omega (arith, c.if-present-wanted.false)) c.take_hold.ensures.used,
+          (omega (arith, count, c.len-wanted.ensures, c.find_missing.ensures.few)) (omega (arith, c.if-present-wanted.false)),
       record {
         holds = let rooms = c.take_hold.ensures.rooms in omega (arith, rooms.0, c.hold_again.ensures.room, c.self.invariant.1.holds);
         pages = let rooms = c.take_hold.ensures.rooms in omega (arith, rooms.1, c.self.invariant.1.pages, spare);

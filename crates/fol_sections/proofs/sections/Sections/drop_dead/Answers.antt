@@ -42,7 +42,7 @@ invariant_of-self c =
     let same = c.deref.ensures.value in
     let out = rw same at c.drop_list-dropped.ensures.out in
     let dead = rw same at c.drop_list-dropped.ensures.dead in (
-      rw dead (kept_left c.self.inside.grid c.self.inside.holds.entries c.self.inside.pages.entries c.drop_list-dropped.new.pages.entries c.self.inside.count c.self.invariant.0 c.args.list.now.items present c.requires.distinct out c.drop_list-dropped.ensures.used),
+      rw dead (kept_left c.self.inside.grid c.self.inside.holds.entries c.self.inside.pages.entries c.drop_list-dropped.new.pages.entries c.self.inside.count c.self.invariant.0 c.args.list.now.items present c.requires.distinct out),
       record {
         holds = c.self.invariant.1.holds;
         pages = omega (arith, c.drop_list-dropped.ensures.room, c.self.invariant.1.pages);
@@ -74,7 +74,7 @@ returns-clause-presence c =
     let same = c.deref.ensures.value in
     let out = rw same at c.drop_list-dropped.ensures.out in
     let dead = rw same at c.drop_list-dropped.ensures.dead in
-    let kept = kept_left c.self.inside.grid c.self.inside.holds.entries c.self.inside.pages.entries c.drop_list-dropped.new.pages.entries c.self.inside.count c.self.invariant.0 c.args.list.now.items present c.requires.distinct out c.drop_list-dropped.ensures.used in
+    let kept = kept_left c.self.inside.grid c.self.inside.holds.entries c.self.inside.pages.entries c.drop_list-dropped.new.pages.entries c.self.inside.count c.self.invariant.0 c.args.list.now.items present c.requires.distinct out in
     rw (← c.self.view_is) (table-presence c.self.inside.grid c.self.inside.holds.entries c.drop_list-dropped.new.pages.entries c.self.inside.filled.items c.self.inside.died.items c.self.inside.spare kept.section_limits ∙ fun_ext (λ s.
     here_left c.self.inside.grid c.self.inside.holds.entries c.self.inside.pages.entries c.drop_list-dropped.new.pages.entries c.self.inside.count c.self.invariant.0 c.args.list.now.items present c.requires.distinct out s
     ∙ ap (λ b. is_here c.self.inside.pages.entries s && not (is_among c.args.list.now.items s && b)) (lonely-is c.self.inside.grid c.self.inside.holds.entries c.self.inside.pages.entries c.self.inside.count c.self.inside.filled.items c.self.inside.died.items c.self.inside.spare c.self.invariant.0 s)

@@ -10,7 +10,7 @@ use Rattle.fol_model.specs.GridState.{at_chunk}
 use Rattle.fol_sections.specs.declared.answers.Removed.{Removed}
 use Rattle.fol_sections.specs.declared.answers.Removed.TheVariants.{Gone, Lowered, NotLoaded}
 use Rattle.fol_sections.specs.Kept.{IsKept, is_held}
-use Rattle.fol_sections.specs.Pages.{AllUsed, chunks_at, is_here, near_at}
+use Rattle.fol_sections.specs.Pages.{chunks_at, is_here, near_at}
 use Rattle.fol_sections.specs.declared.pages.Page.{Page}
 use Rattle.fol_sections.specs.Places.{count_at}
 use Rattle.fol_sections.specs.Table.{removed}
@@ -30,14 +30,13 @@ kept_last : (grid : Grid) (holds holds' : List ((ℤ × ℤ) × ℕ)) (pages pag
     → ((s : SectionPos) → is_here pages' s ≡ is_here pages s)
     → ((s : SectionPos) → chunks_at pages s ≡ cond (same_section (section_of grid c) s) 1 0 + chunks_at pages' s)
     → ((s : SectionPos) → near_at pages s ≡ near_at pages' s + cond (nat_eq (chunks_at pages (section_of grid c)) 1 && is_within (section_of grid c) grid.create s) 1 0)
-    → (AllUsed pages → AllUsed pages') → IsKept grid holds' pages' count
-kept_last grid holds holds' pages pages' count c kept last counts here fell near used =
+    → IsKept grid holds' pages' count
+kept_last grid holds holds' pages pages' count c kept last counts here fell near =
     let one : nat_eq (count_at holds c) 1 ≡ true = eq-eqb _ _ last in
     let home = section_of grid c in
     kept_remove grid holds holds' pages pages' count c kept counts here
     (λ s. fell s ∙ ap (λ b. cond b 1 0 + chunks_at pages' s) (sym (ap (λ b. same_section home s && b) one ∙ always (same_section home s))))
     (λ s. near s ∙ ap (λ b. near_at pages' s + cond (b && (nat_eq (chunks_at pages home) 1 && is_within home grid.create s)) 1 0) (sym one))
-    used
   where
     always : (b : Bool) → (b && true) ≡ b
     always true = refl
@@ -71,8 +70,7 @@ pub invariant_of-self : goal.invariant_of-self
 invariant_of-self c =
     let fell = rw c.section_of-home.ensures at c.drop_chunk.ensures.chunks in
     let near = rw (c.section_of-home.ensures, c.create_radius.ensures) at c.drop_chunk.ensures.near in (
-      kept_last _ _ _ _ _ _ c.args.c c.self.invariant.0 (omega (arith, c.drop_hold-count.ensures.before, c.if-count-eq1.true)) c.drop_hold-count.ensures.counts c.drop_chunk.ensures.here fell near
-          c.drop_chunk.ensures.used,
+      kept_last _ _ _ _ _ _ c.args.c c.self.invariant.0 (omega (arith, c.drop_hold-count.ensures.before, c.if-count-eq1.true)) c.drop_hold-count.ensures.counts c.drop_chunk.ensures.here fell near,
       record {
         holds = omega (arith, c.drop_hold-count.ensures.room, c.self.invariant.1.holds);
         pages = omega (arith, c.drop_chunk.ensures.room, c.self.invariant.1.pages);
@@ -90,8 +88,7 @@ invariant_of-self-else-count-eq1 c =
           (λ s. nothing (same_section home s) (chunks_at c.self.inside.pages.entries s)
           ∙ ap (λ b. cond (same_section home s && b) 1 0 + chunks_at c.self.inside.pages.entries s) (sym other))
           (λ s. plain (near_at c.self.inside.pages.entries s)
-          ∙ ap (λ b. near_at c.self.inside.pages.entries s + cond (b && (nat_eq (chunks_at c.self.inside.pages.entries home) 1 && is_within home c.self.inside.grid.create s)) 1 0) (sym other))
-          (λ u. u),
+          ∙ ap (λ b. near_at c.self.inside.pages.entries s + cond (b && (nat_eq (chunks_at c.self.inside.pages.entries home) 1 && is_within home c.self.inside.grid.create s)) 1 0) (sym other)),
       record {
         holds = omega (arith, c.drop_hold-count.ensures.room, c.self.invariant.1.holds);
         pages = c.self.invariant.1.pages;
@@ -153,7 +150,7 @@ returns-clause-died c = λ gone.
           let fell = rw w.section_of-home.ensures at w.drop_chunk.ensures.chunks in
           let near = rw (w.section_of-home.ensures, w.create_radius.ensures) at w.drop_chunk.ensures.near in
           let died = rw (w.section_of-home.ensures, w.create_radius.ensures) at w.drop_chunk.ensures.died in
-          let after = kept_last _ _ _ _ _ _ c.args.c kept (omega (arith, c.drop_hold-count.ensures.before, last)) c.drop_hold-count.ensures.counts w.drop_chunk.ensures.here fell near w.drop_chunk.ensures.used in
+          let after = kept_last _ _ _ _ _ _ c.args.c kept (omega (arith, c.drop_hold-count.ensures.before, last)) c.drop_hold-count.ensures.counts w.drop_chunk.ensures.here fell near in
           rw (w.self-is, ← c.self.view_is) (died ∙ dead_square _ _ _ c.self.inside.count _ _ _ after home c.self.inside.grid.create (λ s within. w.drop_chunk.ensures.here s ∙ kept.margin c.args.c s held within))
       | else-count-eq1 w ↦ absurd (w.if-count-eq1.false last)
     ]
