@@ -27,15 +27,6 @@ place_tells s q ex ez e =
     let x : s.x ≡ q.x = sx.0 ∙ (λ i. (ex i *ℤ pos 32) +ℤ pos (sym e i)) ∙ sym qx.0 in
     λ i. record { x = x i; z = ez i }
 
--- the section at a place of a page
-pub at_place : (x z : ℤ) (k : ℕ) → k < 32 → (s : SectionPos) × (page_of s.x ≡ x) × (s.z ≡ z) × (place_of s ≡ k)
-unfolding place_of
-at_place x z k l =
-    let s : SectionPos = record { x = (x *ℤ pos 32) +ℤ pos k; z = z } in
-    let px : page_of s.x ≡ x = quotient_of_row s.x x 32 k l refl in
-    let ix = rw px at (in_page s.x).0 in
-    (s, px, refl, omega (arith, ints, ix))
-
 -- ---- pages by column and row
 pub same_place : (x z a b : ℤ) → is_same x z a b ≡ true → (x ≡ a) × (z ≡ b)
 unfolding is_same

@@ -1,15 +1,15 @@
 -- The regions of sections in pages, and what a page's change changes.
-use Rattle.std.proofs.Common.{◌≡◌, ℕ, zero, suc, ◌<◌, refl, sym, ◌∙◌, ap, arith, true, false, cond, ◌||◌, inl, inr, List, [], ◌∷◌, length, replicate}
-use Rattle.std.specs.Prelude.{ℤ, nat_eq, Some, None, is_some, slice_index_or}
+use Rattle.std.proofs.Common.{◌≡◌, ℕ, zero, suc, refl, sym, ◌∙◌, ap, true, false, cond, ◌||◌, inl, inr, List, [], ◌∷◌, replicate}
+use Rattle.std.specs.Prelude.{ℤ, nat_eq, Some, None, slice_index_or}
 use Rattle.std.specs.Cmp.{both_ways}
 use Rattle.std.specs.List.{list_all, list_any}
 use Rattle.std.proofs.lemmas.Bool.{and_parts, cases_Bool, eq-eqb, eqb-true, true≢false}
 use Rattle.fol_model.specs.declared.places.SectionPos.{SectionPos}
 use Rattle.fol_model.specs.Geometry.{is_among, same_section}
 use Rattle.fol_laws.proofs.SamePlaces.{same_section-true, same_section-self}
-use Rattle.fol_pages.specs.Pages.{has_page, is_same, page_at, page_of, place_of}
-use Rattle.fol_pages.proofs.PagePlaces.{at_place, place_tells, same_place, same_self}
-use Rattle.fol_region_tables.specs.Owners.{AllOwned, AreAt, HasOwner, IsAt, owner_in, owner_on}
+use Rattle.fol_pages.specs.Pages.{is_same, page_at, page_of, place_of}
+use Rattle.fol_pages.proofs.PagePlaces.{place_tells, same_place, same_self}
+use Rattle.fol_region_tables.specs.Owners.{AreAt, IsAt, owner_in, owner_on}
 use Rattle.fol_region_tables.specs.declared.pages.OwnerPage.{OwnerPage}
 
 -- in one page the place tells the section
@@ -64,34 +64,6 @@ module _ (before after : List ((ℤ × ℤ) × OwnerPage)) (x z : ℤ) (p : Owne
     | inr e ↦ let none = not_among x z sections at q e in rw none (after_off q e)
   ]
 
--- ---- which pages have an owner
-module _ (before after : List ((ℤ × ℤ) × OwnerPage)) (x z : ℤ) (sections : List SectionPos) (id : ℕ) (at : AreAt x z sections)
-    (owner : (q : SectionPos) → owner_in after q ≡ cond (is_among sections q) id (owner_in before q)) where
-  -- a page that is not this one keeps its owner
-  other_owned : (a b : ℤ) → is_same x z a b ≡ false → HasOwner before a b → HasOwner after a b
-  other_owned a b e w =
-      let off : is_same x z (page_of (w.0).x) (w.0).z ≡ false = (λ i. is_same x z ((w.1).0 i) ((w.1).1 i)) ∙ e in
-      let none = not_among x z sections at w.0 off in
-      (w.0, w.1, omega (arith, owner w.0, ap (λ t. cond t id (owner_in before w.0)) none, w.2))
-
-  pub owned-given : (s : SectionPos) → is_among sections s ≡ true → 0 < id → ((a b : ℤ) → has_page after a b ≡ (is_same x z a b || has_page before a b)) → AllOwned before → AllOwned after
-  owned-given s member some pages owned a b h = elim (cases_Bool (is_same x z a b)) [
-    | inl e ↦
-        let k = same_place x z a b e in
-        let on = at s member in
-        (s, (on.0 ∙ k.0, on.1 ∙ k.1), omega (arith, owner s, ap (λ t. cond t id (owner_in before s)) member, some))
-    | inr e ↦ other_owned a b e (owned a b (sym (pages a b ∙ ap (λ t. t || has_page before a b) e) ∙ h))
-  ]
-
-  pub owned-taken : ((a b : ℤ) → has_page after a b ≡ true → has_page before a b ≡ true) → (has_page after x z ≡ true → HasOwner after x z) → AllOwned before → AllOwned after
-  owned-taken pages own owned a b h = elim (cases_Bool (is_same x z a b)) [
-    | inl e ↦
-        let k = same_place x z a b e in
-        let w = own ((λ i. has_page after (k.0 i) (k.1 i)) ∙ h) in
-        (w.0, ((w.1).0 ∙ k.0, (w.1).1 ∙ k.1), w.2)
-    | inr e ↦ other_owned a b e (owned a b (pages a b h))
-  ]
-
 -- ---- no page, or one in which no section has a region
 -- sections of a page that is not there have no region to be taken
 pub none_taken : (pages : List ((ℤ × ℤ) × OwnerPage)) (x z : ℤ) (sections : List SectionPos) → AreAt x z sections → page_at pages x z ≡ None → (q : SectionPos) → owner_in pages q ≡ cond (is_among sections q) 0 (owner_in pages q)
@@ -111,19 +83,6 @@ nobody_in [] h k = refl
 nobody_in (id ∷ ids) h zero = eqb-true id 0 (and_parts (nat_eq id 0) (list_all (λ id. nat_eq id 0) ids) h).0
 nobody_in (id ∷ ids) h (suc k) = nobody_in ids (and_parts (nat_eq id 0) (list_all (λ id. nat_eq id 0) ids) h).1 k
 
-some_in : (ids : List ℕ) → list_all (λ id. nat_eq id 0) ids ≡ false → (k : ℕ) × (k < length ids) × (0 < slice_index_or ids k 0)
-some_in [] h = absurd (true≢false h)
-some_in (zero ∷ ids) h = let r = some_in ids h in (suc r.0, omega (arith, r.1), r.2)
-some_in (suc id ∷ ids) h = (0, omega arith, omega arith)
-
-pub owned-busy : (pages : List ((ℤ × ℤ) × OwnerPage)) (x z : ℤ) (p : OwnerPage) → page_at pages x z ≡ Some p → length p.owners ≡ 32 → list_all (λ id. nat_eq id 0) p.owners ≡ false → HasOwner pages x z
-unfolding owner_in
-owned-busy pages x z p is n busy =
-    let k = some_in p.owners busy in
-    let w = at_place x z k.0 (omega (arith, k.1, n)) in
-    let found : page_at pages (page_of (w.0).x) (w.0).z ≡ Some p = (λ i. page_at pages (w.1 i) (w.2 i)) ∙ is in
-    (w.0, (w.1, w.2), omega (arith, ap (λ o. owner_on o w.0) found, ap (λ m. slice_index_or p.owners m 0) w.3, k.2))
-
 -- ---- a page that left, in which no section had a region
 module _ (before after : List ((ℤ × ℤ) × OwnerPage)) (x z : ℤ) (step : (a b : ℤ) → page_at after a b ≡ cond (is_same x z a b) None (page_at before a b)) where
   pub owners-left : ((q : SectionPos) → IsAt x z q → owner_in before q ≡ 0) → (q : SectionPos) → owner_in after q ≡ owner_in before q
@@ -140,15 +99,7 @@ pub nobody_owns : (pages : List ((ℤ × ℤ) × OwnerPage)) → pages ≡ [] �
 unfolding owner_in page_at
 nobody_owns pages e s = ap (λ ps. owner_in ps s) e
 
-pub none_owned : (pages : List ((ℤ × ℤ) × OwnerPage)) → pages ≡ [] → AllOwned pages
-unfolding has_page page_at
-none_owned pages e x z h = absurd (true≢false (sym h ∙ ap (λ ps. has_page ps x z) e))
-
 module _ (before after : List ((ℤ × ℤ) × OwnerPage)) (same : (a b : ℤ) → page_at after a b ≡ page_at before a b) where
   pub same_owners : (q : SectionPos) → owner_in after q ≡ owner_in before q
   unfolding owner_in
   same_owners q = ap (λ o. owner_on o q) (same (page_of q.x) q.z)
-
-  pub same_owned : AllOwned before → AllOwned after
-  unfolding has_page
-  same_owned owned x z h = let w = owned x z (sym (ap is_some (same x z)) ∙ h) in (w.0, w.1, omega (arith, same_owners w.0, w.2))

@@ -1,8 +1,8 @@
 -- The region of each section, in pages of 32 side by side in a row.
-use Rattle.std.specs.Prelude.{◌≡◌, ℕ, ℤ, ◌<◌, Bool, true, ◌&&◌, nat_eq, Option, Some, None, List, slice_index_or}
+use Rattle.std.specs.Prelude.{◌≡◌, ℕ, ℤ, Bool, true, ◌&&◌, nat_eq, Option, Some, None, List, slice_index_or}
 use Rattle.fol_model.specs.declared.places.SectionPos.{SectionPos}
 use Rattle.fol_model.specs.Geometry.{is_among}
-use Rattle.fol_pages.specs.Pages.{has_page, page_at, page_of, place_of}
+use Rattle.fol_pages.specs.Pages.{page_at, page_of, place_of}
 use Rattle.fol_region_tables.specs.declared.pages.OwnerPage.{OwnerPage}
 
 -- what contracts see of the owners
@@ -27,14 +27,6 @@ IsAt x z s = (page_of s.x ≡ x) × (s.z ≡ z)
 -- all sections of the list lie in that column and row of pages
 abbrev pub AreAt : ℤ → ℤ → List SectionPos → Type 0
 AreAt x z sections = (s : SectionPos) → is_among sections s ≡ true → IsAt x z s
-
--- a section of that page has a region
-abbrev pub HasOwner : List ((ℤ × ℤ) × OwnerPage) → ℤ → ℤ → Type 0
-HasOwner pages x z = (s : SectionPos) × IsAt x z s × (0 < owner_in pages s)
-
--- a page is there only where one of its sections has a region
-abbrev pub AllOwned : List ((ℤ × ℤ) × OwnerPage) → Type 0
-AllOwned pages = (x z : ℤ) → has_page pages x z ≡ true → HasOwner pages x z
 
 -- the section is one of the list, and has no region
 abbrev pub is_new : (SectionPos → ℕ) → List SectionPos → SectionPos → Bool

@@ -6,26 +6,24 @@ ghost use Rattle.fol_model.specs.declared.places.SectionPos.{SectionPos};
 ghost use Rattle.fol_model.specs.Geometry.{is_among};
 ghost use Rattle.fol_pages.specs.Pages.{LieIn};
 
-use crate::pages::{Pages, give_all, owner, run, take_all_out};
+use crate::pages::{Pages, give_all, make_room, owner, run, take_all_out};
 use fol_model::SectionPos;
 use fol_pages::PageTable;
 use std::alloc::{AllocError, Global};
 use std::marker::Model;
 
-/// The region of each section that has one, in pages: a page is there only where one of its sections has a region.
+/// The region of each section that has one, in pages. A page of which no section has a region any more stays until `reserve` finds too little room.
 #[derive(Drop)]
 pub struct Owners {
     pages: Pages,
 }
 
 impl Model for Owners {
-    ghost use Rattle.fol_region_tables.specs.Owners.{AllOwned, Owned};
+    ghost use Rattle.fol_region_tables.specs.Owners.{Owned};
 
     ghost Value = { Owned };
 
     ghost view = { λ s. record { pages = s.pages.entries; free = s.pages.spare } };
-
-    ghost invariant = { λ s. AllOwned s.pages.entries };
 }
 
 impl Owners {
@@ -59,7 +57,6 @@ impl Owners {
 
     /// Gives the sections of a list to a region. Takes no memory.
     pub fn give_all(&mut self, sections: &[SectionPos], id: u64)
-        requires region { 0 < id }
         requires room { LieIn (is_new (owner_in self.old.pages) sections.now) self.old.free }
         ensures owner { (q : SectionPos) → owner_in self.new.pages q
             ≡ (if is_among sections.now q then id else owner_in self.old.pages q) }
@@ -84,7 +81,7 @@ impl Owners {
         ensures ok { OnOk result (pages ≤ self.new.free) }
         ensures room { self.old.free ≤ self.new.free }
     {
-        self.pages.reserve(pages)
+        make_room(&mut self.pages, pages)
     }
 
     /// The same regions with the same room, in memory of their own.

@@ -1,15 +1,16 @@
 //! The regions of sections in pages of 32 that stand side by side in a row.
 
-ghost use Rattle.std.specs.Prelude.{◌≡◌, ℕ, ℤ, ◌+◌, ◌<◌, ◌≤◌, true, false, ◌||◌, IsTrue, cond, nat_eq, nat_abs, pos, ◌+ℤ◌, length, if◌then◌else◌, slice_index_or};
+ghost use Rattle.std.specs.Prelude.{◌≡◌, ℕ, ℤ, ◌+◌, ◌<◌, ◌≤◌, true, false, ◌||◌, OnOk, cond, nat_eq, nat_abs, pos, ◌+ℤ◌, length, if◌then◌else◌, slice_index_or};
 ghost use Rattle.std.specs.Int.{int_rem_euclid};
 ghost use Rattle.std.specs.List.{list_all, list_any};
 ghost use Rattle.fol_model.specs.declared.places.SectionPos.{SectionPos};
 ghost use Rattle.fol_model.specs.Geometry.{is_among};
 ghost use Rattle.fol_pages.specs.Pages.{LieIn, has_page, is_same, place_of as place};
-ghost use Rattle.fol_region_tables.specs.Owners.{AllOwned, AreAt, HasOwner, IsAt, is_new, owner_in};
+ghost use Rattle.fol_region_tables.specs.Owners.{AreAt, IsAt, is_new, owner_in};
 
 use fol_model::SectionPos;
 use fol_pages::{PageTable, page_of, place_of, stretch_len};
+use std::alloc::AllocError;
 
 /// The regions of 32 sections side by side in a row; 0 for a section that has none.
 #[derive(Clone, Copy)]
@@ -75,19 +76,9 @@ fn page_with(sections: &[SectionPos], id: u64) -> OwnerPage
     page
 }
 
-/// Whether no section of a page has a region.
-fn is_empty(page: &OwnerPage) -> bool
-    ensures value { result ≡ list_all (λ id. nat_eq id 0) page.now.owners }
-    ensures whole { length page.now.owners ≡ 32 }
-{
-    page.owners.iter().all(|id| *id == 0)
-}
-
 /// Gives sections that lie in one page to a region.
 fn give_stretch(pages: &mut Pages, key: (i32, i32), sections: &[SectionPos], id: u64)
-    requires some { 0 < length sections.now }
     requires page { AreAt key.0 key.1 sections.now }
-    requires region { 0 < id }
     requires room { has_page pages.old.entries key.0 key.1 ≡ false → 0 < pages.old.spare }
     ensures owner { (q : SectionPos) → owner_in pages.new.entries q
         ≡ (if is_among sections.now q then id else owner_in pages.old.entries q) }
@@ -95,7 +86,6 @@ fn give_stretch(pages: &mut Pages, key: (i32, i32), sections: &[SectionPos], id:
         ≡ (is_same key.0 key.1 x z || has_page pages.old.entries x z) }
     ensures room { pages.old.spare ≤ pages.new.spare
         + cond (has_page pages.old.entries key.0 key.1) 0 1 }
-    ensures owned { AllOwned pages.old.entries → AllOwned pages.new.entries }
 {
     match pages.get_mut(key) {
         Some(page) => write_on(page, sections, id),
@@ -107,13 +97,11 @@ fn give_stretch(pages: &mut Pages, key: (i32, i32), sections: &[SectionPos], id:
 
 /// Gives the sections of a list to a region: those that have another one, and those that have none.
 pub fn give_all(pages: &mut Pages, sections: &[SectionPos], id: u64)
-    requires region { 0 < id }
     requires room { LieIn (is_new (owner_in pages.old.entries) sections.now) pages.old.spare }
     ensures owner { (q : SectionPos) → owner_in pages.new.entries q
         ≡ (if is_among sections.now q then id else owner_in pages.old.entries q) }
     ensures room { (n : ℕ) → LieIn (is_new (owner_in pages.old.entries) sections.now) n
         → pages.old.spare ≤ pages.new.spare + n }
-    ensures owned { AllOwned pages.old.entries → AllOwned pages.new.entries }
 {
     let mut rest = sections;
     while !rest.is_empty() {
@@ -123,37 +111,16 @@ pub fn give_all(pages: &mut Pages, sections: &[SectionPos], id: u64)
     }
 }
 
-/// Takes the regions of sections that lie in one page; says whether then no section of the page has one.
-fn clear_stretch(pages: &mut Pages, key: (i32, i32), sections: &[SectionPos]) -> bool
-    requires { AreAt key.0 key.1 sections.now }
-    ensures owner { (q : SectionPos) → owner_in pages.new.entries q
-        ≡ (if is_among sections.now q then 0 else owner_in pages.old.entries q) }
-    ensures pages { (x z : ℤ) → has_page pages.new.entries x z ≡ has_page pages.old.entries x z }
-    ensures room { pages.new.spare ≡ pages.old.spare }
-    ensures empty { IsTrue result → (q : SectionPos) → IsAt key.0 key.1 q
-        → owner_in pages.new.entries q ≡ 0 }
-    ensures busy { result ≡ false → has_page pages.new.entries key.0 key.1 ≡ true
-        → HasOwner pages.new.entries key.0 key.1 }
-{
-    match pages.get_mut(key) {
-        Some(page) => {
-            write_on(page, sections, 0);
-            is_empty(page)
-        }
-        None => false,
-    }
-}
-
-/// Takes the regions of sections that lie in one page, and the page with them where then no section of it has one.
+/// Takes the regions of sections that lie in one page.
 fn take_stretch(pages: &mut Pages, key: (i32, i32), sections: &[SectionPos])
     requires { AreAt key.0 key.1 sections.now }
     ensures owner { (q : SectionPos) → owner_in pages.new.entries q
         ≡ (if is_among sections.now q then 0 else owner_in pages.old.entries q) }
-    ensures room { pages.old.spare ≤ pages.new.spare }
-    ensures owned { AllOwned pages.old.entries → AllOwned pages.new.entries }
+    ensures room { pages.new.spare ≡ pages.old.spare }
 {
-    if clear_stretch(pages, key, sections) {
-        let _ = pages.remove(key);
+    match pages.get_mut(key) {
+        Some(page) => write_on(page, sections, 0),
+        None => {}
     }
 }
 
@@ -162,7 +129,6 @@ pub fn take_all_out(pages: &mut Pages, sections: &[SectionPos])
     ensures owner { (q : SectionPos) → owner_in pages.new.entries q
         ≡ (if is_among sections.now q then 0 else owner_in pages.old.entries q) }
     ensures room { pages.old.spare ≤ pages.new.spare }
-    ensures owned { AllOwned pages.old.entries → AllOwned pages.new.entries }
 {
     let mut rest = sections;
     while !rest.is_empty() {
@@ -170,4 +136,60 @@ pub fn take_all_out(pages: &mut Pages, sections: &[SectionPos])
         take_stretch(pages, page_of(stretch[0]), stretch);
         rest = others;
     }
+}
+
+/// Whether no section of a page has a region.
+fn is_empty(page: &OwnerPage) -> bool
+    ensures { result ≡ list_all (λ id. nat_eq id 0) page.now.owners }
+{
+    page.owners.iter().all(|id| *id == 0)
+}
+
+/// Whether there is a page with that key of which no section has a region.
+fn is_unused(pages: &Pages, key: (i32, i32)) -> bool
+    ensures { result ≡ true → (q : SectionPos) → IsAt key.0 key.1 q
+        → owner_in pages.now.entries q ≡ 0 }
+{
+    match pages.get(key) {
+        Some(page) => is_empty(page),
+        None => false,
+    }
+}
+
+/// Takes the page with that key out, if no section of it has a region.
+fn throw_out(pages: &mut Pages, key: (i32, i32))
+    ensures owner { (q : SectionPos) → owner_in pages.new.entries q ≡ owner_in pages.old.entries q }
+    ensures room { pages.old.spare ≤ pages.new.spare }
+{
+    if is_unused(pages, key) {
+        let _ = pages.remove(key);
+    }
+}
+
+/// Takes the pages out of which no section has a region, the last one first, since another page only comes to the index of one that goes.
+fn throw_out_all(pages: &mut Pages)
+    ensures owner { (q : SectionPos) → owner_in pages.new.entries q ≡ owner_in pages.old.entries q }
+    ensures room { pages.old.spare ≤ pages.new.spare }
+{
+    for index in (0..pages.len()).rev() {
+        if let Some(key) = pages.key(index) {
+            throw_out(pages, key);
+        }
+    }
+}
+
+/// Makes room for so many pages more. The regions stay either way.
+///
+/// Where there is less room, the pages of which no section has a region are thrown out first, and room is made for as many pages more as are
+/// left. So they are gone over a second time for as much room only after that many pages came, which pay for it.
+pub fn make_room(pages: &mut Pages, n: usize) -> Result<(), AllocError>
+    ensures owner { (q : SectionPos) → owner_in pages.new.entries q ≡ owner_in pages.old.entries q }
+    ensures ok { OnOk result (n ≤ pages.new.spare) }
+    ensures room { pages.old.spare ≤ pages.new.spare }
+{
+    if n <= pages.capacity() - pages.len() {
+        return Ok(());
+    }
+    throw_out_all(pages);
+    pages.reserve(n.saturating_add(pages.len()))
 }

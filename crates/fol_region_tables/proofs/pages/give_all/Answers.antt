@@ -13,7 +13,6 @@ loop-rest-init c = record {
   within = λ q h. h;
   there = λ x z h. h;
   room = λ pages cover. omega arith;
-  owned = λ h. h;
 }
 
 pub give_stretch-requires : goal.give_stretch-requires
@@ -23,9 +22,7 @@ give_stretch-requires c =
     let within : (q : SectionPos) → is_among c.split_at.result.0.now q ≡ true → is_among c.args.sections.now q ≡ true = λ q h. c.loop-rest.invariant.within q (front_within c.loop-rest.rest.now c.split_at.result.0.now c.split_at.result.1.now c.stretch_len.result c.split_at.ensures.front c.split_at.ensures.back q h) in
     let lie = c.requires.room in
     record {
-      some = some;
       page = at;
-      region = c.requires.region;
       room = stretch_room c.args.pages.now.entries c.loop-rest.pages.entries c.args.sections.now c.split_at.result.0.now _ _ at some within c.loop-rest.invariant.there lie.pages lie.within _ _ lie.few (c.loop-rest.invariant.room lie.pages lie.within);
     }
 
@@ -43,7 +40,6 @@ loop-rest-preserved c =
       there = still_there c.args.pages.now.entries c.loop-rest.pages.entries c.args.sections.now c.split_at.result.0.now _ _ at some within c.loop-rest.invariant.there lie.pages lie.within _ c.give_stretch.ensures.pages;
       room = λ pages cover.
           room_kept c.args.pages.now.entries c.loop-rest.pages.entries c.args.sections.now c.split_at.result.0.now _ _ at some within c.loop-rest.invariant.there pages cover _ c.give_stretch.ensures.pages _ _ _ (c.loop-rest.invariant.room pages cover) c.give_stretch.ensures.room;
-      owned = λ h. c.give_stretch.ensures.owned (c.loop-rest.invariant.owned h);
     }
 
 pub returns-clause-room : goal.returns-clause-room

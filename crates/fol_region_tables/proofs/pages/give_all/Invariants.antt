@@ -5,7 +5,7 @@ use Rattle.fol_model.specs.declared.places.SectionPos.{SectionPos}
 use Rattle.fol_model.specs.Geometry.{is_among}
 use Rattle.fol_pages.specs.Pages.{has_page, is_listed, page_of}
 use Rattle.fol_pages.proofs.AbsentPages.{is_absent}
-use Rattle.fol_region_tables.specs.Owners.{AllOwned, is_new, owner_in}
+use Rattle.fol_region_tables.specs.Owners.{is_new, owner_in}
 use Rattle.fol_region_tables.proofs.pages.give_all.Given as goal
 
 abbrev pub invariant-loop-rest : goal.invariant-loop-rest
@@ -15,7 +15,6 @@ invariant-loop-rest l = record {
   there : (x z : ℤ) → has_page l.initial.pages.entries x z ≡ true → has_page l.pages.entries x z ≡ true;
   room : (pages : List (ℤ × ℤ)) → ((s : SectionPos) → is_new (owner_in l.initial.pages.entries) l.sections s ≡ true → is_listed pages (page_of s.x) s.z ≡ true)
       → l.initial.pages.spare + count_by (is_absent l.pages.entries) pages ≤ l.pages.spare + count_by (is_absent l.initial.pages.entries) pages;
-  owned : AllOwned l.initial.pages.entries → AllOwned l.pages.entries;
 }
 
 abbrev pub decreases-loop-rest : goal.decreases-loop-rest

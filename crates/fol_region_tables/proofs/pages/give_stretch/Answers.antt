@@ -1,19 +1,14 @@
 use Rattle.std.proofs.Common.{◌≡◌, ℕ, sym, ◌∙◌, ap, arith, cond, false}
-use Rattle.std.specs.Prelude.{nat_eq, is_some, pos}
+use Rattle.std.specs.Prelude.{nat_eq, is_some}
 use Rattle.std.specs.List.{list_any}
 use Rattle.std.specs.Option.{option_copied_mut}
 use Rattle.std.proofs.lemmas.Result.{IfOk-at_ok}
-use Rattle.fol_model.specs.declared.places.SectionPos.{SectionPos}
 use Rattle.fol_pages.specs.Pages.{has_page, is_same, page_at, place_of}
 use Rattle.fol_region_tables.specs.Owners.{owner_on}
-use Rattle.fol_region_tables.proofs.Among.{among_at}
 use Rattle.fol_pages.proofs.PageChanges.{pages-more}
-use Rattle.fol_region_tables.proofs.PageOwners.{owned-given, owners-written}
+use Rattle.fol_region_tables.proofs.PageOwners.{owners-written}
 use Rattle.fol_region_tables.proofs.Results.{ok_value}
 use Rattle.fol_region_tables.proofs.pages.give_stretch.Goals as goal
-
-abbrev origin : SectionPos
-origin = record { x = pos 0; z = pos 0 }
 
 pub returns-in-Some-clause-owner : goal.returns-in-Some-clause-owner
 unfolding page_at is_same
@@ -31,9 +26,6 @@ returns-in-Some-clause-pages c =
     let w = c.get_mut.follows.holds c.write_on.new.page in
     let updates = w.updates (ap is_some (sym was)) in
     pages-more c.args.pages.now.entries _ c.args.key.0 c.args.key.1 c.write_on.new.page updates
-
-pub returns-in-Some-clause-owned : goal.returns-in-Some-clause-owned
-returns-in-Some-clause-owned c = owned-given c.args.pages.now.entries _ c.args.key.0 c.args.key.1 c.args.sections.now c.args.id c.requires.page (returns-in-Some-clause-owner c) _ (among_at c.args.sections.now 0 origin c.requires.some) c.requires.region (returns-in-Some-clause-pages c)
 
 pub returns-in-None-clause-owner : goal.returns-in-None-clause-owner
 unfolding page_at is_same has_page
@@ -61,6 +53,3 @@ returns-in-None-clause-room c =
     let absent : has_page c.args.pages.now.entries c.args.key.0 c.args.key.1 ≡ false = ap is_some (sym none) in
     let spare = rw c.get_mut.follows.holds-at-none at c.insert.ensures.spare in
     omega (arith, spare, ap (λ b. cond {A = ℕ} b 0 1) absent)
-
-pub returns-in-None-clause-owned : goal.returns-in-None-clause-owned
-returns-in-None-clause-owned c = owned-given c.args.pages.now.entries _ c.args.key.0 c.args.key.1 c.args.sections.now c.args.id c.requires.page (returns-in-None-clause-owner c) _ (among_at c.args.sections.now 0 origin c.requires.some) c.requires.region (returns-in-None-clause-pages c)

@@ -12,5 +12,4 @@ loop-rest-preserved c = record {
       set_stretch c.loop-rest.rest.now c.split_at.result.0.now c.split_at.result.1.now c.stretch_len.result c.split_at.ensures.front c.split_at.ensures.back 0 (owner_in c.loop-rest.pages.entries) (owner_in c.take_stretch.new.pages.entries) c.take_stretch.ensures.owner q
       ∙ c.loop-rest.invariant.owner q;
   room = omega (arith, c.take_stretch.ensures.room, c.loop-rest.invariant.room);
-  owned = λ h. c.take_stretch.ensures.owned (c.loop-rest.invariant.owned h);
 }

@@ -1,14 +1,8 @@
 use Rattle.std.proofs.Common.{◌≡◌, ◌∙◌, ap}
 use Rattle.std.proofs.lemmas.List.Elements.{same_from_all_zip}
 use Rattle.fol_pages.specs.Pages.{page_at}
-use Rattle.fol_region_tables.proofs.PageOwners.{same_owned, same_owners}
+use Rattle.fol_region_tables.proofs.PageOwners.{same_owners}
 use Rattle.fol_region_tables.proofs.owners.Owners.copy.Goals as goal
-
-pub invariant_of-result : goal.invariant_of-result
-unfolding page_at
-invariant_of-result c =
-    let same : c.in_ok-pages.pages.entries ≡ c.self.inside.pages.entries = same_from_all_zip _ _ _ c.in_ok-pages.ensures.cases (λ x y r. λ i. (r.0 i, r.1 i)) in
-    same_owned c.self.inside.pages.entries _ (λ a b. ap (λ ps. page_at ps a b) c.reserve.ensures.entries ∙ ap (λ ps. page_at ps a b) same) c.self.invariant
 
 pub returns-clause-owner : goal.returns-clause-owner
 unfolding page_at

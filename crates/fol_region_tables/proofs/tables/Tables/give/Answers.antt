@@ -54,5 +54,5 @@ returns-clause-gives c =
     let e = c.unite.ensures ∙ ap (λ k. with_list b.rows k (united (list_at b.rows k) c.args.sections.now)) c.find-slot.ensures in
     rw (e, ← c.self.view_is) (given_is b c.self.invariant c.args.id live c.args.sections.now c.give_all.new.self.pages (c.give_all.new.self.free) c.give_all.ensures.owner absent c.requires.row (λ n lie. c.give_all.ensures.room n (some_new _ _ n lie)))
 
-pub give_all-requires-clause-room : goal.give_all-requires-clause-room
-give_all-requires-clause-room c = some_new _ _ _ (rw (← c.self.view_is) at c.requires.room)
+pub give_all-requires : goal.give_all-requires
+give_all-requires c = record { room = some_new _ _ _ (rw (← c.self.view_is) at c.requires.room) }

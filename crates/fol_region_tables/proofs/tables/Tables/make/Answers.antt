@@ -41,5 +41,5 @@ returns-clause-makes c =
     rw (put, ← c.self.view_is) (made_is b c.self.invariant c.args.sections.now c.requires.some absent c.requires.row c.give_all.new.self.pages (c.give_all.new.self.free) c.give_all.ensures.owner c.insert-slot.new.self c.insert-slot.result c.insert-slot.ensures.within c.insert-slot.ensures.fresh c.insert-slot.ensures.slots c.insert-slot.ensures.room
     c.args.state c.insert-slot.ensures.states (λ n lie. c.give_all.ensures.room n (some_new _ _ n lie)))
 
-pub give_all-requires-clause-room : goal.give_all-requires-clause-room
-give_all-requires-clause-room c = some_new _ _ _ (rw (← c.self.view_is) at c.requires.room)
+pub give_all-requires : goal.give_all-requires
+give_all-requires c = record { room = some_new _ _ _ (rw (← c.self.view_is) at c.requires.room) }

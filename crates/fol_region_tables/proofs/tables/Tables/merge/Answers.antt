@@ -68,16 +68,18 @@ join-requires-clause-other_row c =
     let e = ap (list_at b.rows) c.find-slot.ensures ∙ c.self.invariant.rows c.args.id (c.self.invariant.given c.args.id lu).0 in
     rw e (row_chosen _)
 
-pub give_all-requires-clause-room : goal.give_all-requires-clause-room
+pub give_all-requires : goal.give_all-requires
 unfolding rows_of owner_of
-give_all-requires-clause-room c =
+give_all-requires c =
     let b : Book = record { owned = c.self.inside.owners.pages; free = c.self.inside.owners.free; slots = c.self.inside.slots; rows = c.self.inside.rows; ahead = c.self.inside.ahead; behind = c.self.inside.behind; next = c.self.inside.next } in
     let lu = rw (← c.self.view_is) at (ap (λ (f : ℕ → Bool). f c.args.id) c.hand_on.ensures.live ∙ c.requires.region) in
     let lt = rw (← c.self.view_is) at (ap (λ (f : ℕ → Bool). f c.args.into) c.hand_on.ensures.live ∙ c.requires.into) in
     let is = c.get.ensures ∙ ap (list_at b.rows) c.find-slot.ensures in
-    none_new _ _ _ (λ q h.
-    let own = eqb-true (owner_of b q) c.args.id (sym (book.among_rows b c.self.invariant c.args.id (c.self.invariant.given c.args.id lu).0 q) ∙ ap (λ xs. is_among xs q) (sym is) ∙ h) in
-    omega (arith, own, (c.self.invariant.given c.args.id lu).0))
+    record {
+      room = none_new _ _ _ (λ q h.
+          let own = eqb-true (owner_of b q) c.args.id (sym (book.among_rows b c.self.invariant c.args.id (c.self.invariant.given c.args.id lu).0 q) ∙ ap (λ xs. is_among xs q) (sym is) ∙ h) in
+          omega (arith, own, (c.self.invariant.given c.args.id lu).0));
+    }
 
 pub invariant_of-self : goal.invariant_of-self
 unfolding rows_of owner_of

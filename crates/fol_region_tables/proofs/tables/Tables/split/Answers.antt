@@ -32,13 +32,15 @@ loop-i-init c =
     (gone_dead b n d c.args.id but live first last (λ s. refl) refl rows refl refl refl (λ s. refl) c.remove.ensures.slots c.remove.ensures.room refl refl refl refl)
     refl (record { free = omega arith; ahead = omega arith; behind = omega arith; ahead_room = refl; behind_room = refl }))
 
-pub give_all-requires-clause-room : goal.give_all-requires-clause-room
+pub give_all-requires : goal.give_all-requires
 unfolding owner_of
-give_all-requires-clause-room c = none_new _ _ _ (λ q e.
-    let h : IsBook c.args.self.now = rw c.self.view_is at c.self.invariant in
-    let in_part = rw c.part-part.ensures at e in
-    let own = still_owned c.args.self.now c.args.id h c.requires.region c.args.parts.now c.requires.parts _ c.loop-i.i c.loop-i.invariant (omega arith) q in_part in
-    omega (arith, own, (h.given c.args.id c.requires.region).0))
+give_all-requires c = record {
+  room = none_new _ _ _ (λ q e.
+      let h : IsBook c.args.self.now = rw c.self.view_is at c.self.invariant in
+      let in_part = rw c.part-part.ensures at e in
+      let own = still_owned c.args.self.now c.args.id h c.requires.region c.args.parts.now c.requires.parts _ c.loop-i.i c.loop-i.invariant (omega arith) q in_part in
+      omega (arith, own, (h.given c.args.id c.requires.region).0));
+}
 
 pub insert-slot-requires-clause-none : goal.insert-slot-requires-clause-none
 insert-slot-requires-clause-none c = next_unused _ c.args.id c.loop-i.invariant.but
