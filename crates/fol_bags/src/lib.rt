@@ -10,6 +10,7 @@
 #![tactic(auto)]
 
 mod bags;
+mod difference;
 mod kept;
 mod places;
 mod recalled;

@@ -12,7 +12,7 @@ ghost use Rattle.fol_bags.specs.Unions.{IsPartOfUnion, IsUnion};
 ghost use Rattle.fol_bags.specs.Things.{Key, no_data, things, IsTimely};
 
 use crate::recalled::Recalled;
-use crate::union;
+use crate::{difference, union};
 use fol_data::RegionData;
 use fol_keyed::ChunkSet;
 use fol_model::{ChunkPos, Sequence};
@@ -215,6 +215,24 @@ impl Slot {
         } }
     {
         self.list.narrow(c);
+        self.chunks = Recalled::of(&self.list);
+    }
+
+    /// Where it is listed, these chunks leave it.
+    pub fn keep_others(&mut self, others: &[ChunkPos])
+        requires { self.old.listed ≡ true → IsStrictlySortedBy chunk_cmp self.old.list }
+        ensures order { self.old.listed ≡ true → IsStrictlySortedBy chunk_cmp self.new.list }
+        ensures has { self.old.listed ≡ true → (q : ChunkPos) → is_recorded self.new.list q
+            ≡ (is_recorded self.old.list q && not (is_recorded others.now q)) }
+        ensures unlisted { self.old.listed ≡ false → self.new.list ≡ self.old.list }
+        ensures rest { self.new ≡ record self.old {
+          chunks = self.new.list;
+          list = self.new.list;
+        } }
+    {
+        if self.listed {
+            difference::narrow_all(&mut self.list, others);
+        }
         self.chunks = Recalled::of(&self.list);
     }
 }

@@ -433,6 +433,29 @@ pub fn dismiss(bags: &mut Bags, id: usize, c: ChunkPos)
     slot.dismiss(c);
 }
 
+/// Says whether a bag is listed. Where it is, these chunks leave it.
+pub fn list_others(bags: &mut Bags, id: usize, chunks: &[ChunkPos], listed: bool)
+    requires open { is_open (slot_in bags.old.items id) ≡ true }
+    requires order { listed ≡ true
+        → IsStrictlySortedBy chunk_cmp (slot_in bags.old.items id).list }
+    ensures order { listed ≡ true
+        → IsStrictlySortedBy chunk_cmp (slot_in bags.new.items id).list }
+    ensures has { listed ≡ true → (q : ChunkPos)
+        → is_recorded (slot_in bags.new.items id).list q
+        ≡ (is_recorded (slot_in bags.old.items id).list q && not (is_recorded chunks.now q)) }
+    ensures unlisted { listed ≡ false
+        → (slot_in bags.new.items id).list ≡ (slot_in bags.old.items id).list }
+    ensures sets { SetsSlot id (record (slot_in bags.old.items id) {
+      listed = listed;
+      chunks = (slot_in bags.new.items id).list;
+      list = (slot_in bags.new.items id).list;
+    }) bags.old bags.new }
+{
+    let slot = bags.slot_mut(id);
+    slot.listed = listed;
+    slot.keep_others(chunks);
+}
+
 /// Takes out what lies in a bag, and its chunks.
 pub fn take_out(alloc: Global, bags: &mut Bags, id: usize) -> Taken
     requires { is_open (slot_in bags.old.items id) ≡ true }
@@ -662,37 +685,41 @@ fn dissolve(alloc: Global, bags: &mut Bags, id: usize) -> Vec<ChunkPos>
     chunks
 }
 
-/// Two bags change what lies in them. The first has to be gathered anew.
-pub fn swap_bodies(bags: &mut Bags, from: usize, to: usize)
-    requires from_open { is_open (slot_in bags.old.items from) ≡ true }
-    requires to_open { is_open (slot_in bags.old.items to) ≡ true }
-    requires others { from ≢ to }
-    ensures sets { SetsTwo
-        from (record (slot_in bags.old.items from) {
-          body = (slot_in bags.old.items to).body;
-          listed = false;
-        })
-        to (record (slot_in bags.old.items to) { body = (slot_in bags.old.items from).body })
+/// Two bags are exchanged, with all that lies in them.
+pub fn exchange(bags: &mut Bags, a: usize, b: usize)
+    requires there { a < length bags.old.items }
+    requires other_there { b < length bags.old.items }
+    requires differ { a ≢ b }
+    ensures sets { SetsTwo a (slot_in bags.old.items b) b (slot_in bags.old.items a)
         bags.old bags.new }
 {
-    let mut kept = bags.lift(from);
-    match kept.get_mut() {
-        Some(slot) => exchange(slot, bags.slot_mut(to)),
-        None => unreachable!(),
-    }
-    bags.lay(from, kept);
+    let first = bags.lift(a);
+    let second = bags.lift(b);
+    bags.lay(a, second);
+    bags.lay(b, first);
 }
 
-/// Two bags change what lies in them. The first has to be gathered anew.
-fn exchange(from: &mut Slot, to: &mut Slot)
-    ensures from { from.new ≡ record from.old {
-      body = to.old.body;
-      listed = false;
-    } }
-    ensures to { to.new ≡ record to.old { body = from.old.body } }
+/// Takes out the list of the chunks of a bag.
+pub fn take_list(alloc: Global, bags: &mut Bags, id: usize) -> Vec<ChunkPos>
+    requires { is_open (slot_in bags.old.items id) ≡ true }
+    ensures list { result.items ≡ (slot_in bags.old.items id).list }
+    ensures sets { SetsSlot id
+        (record (slot_in bags.old.items id) { list = [] })
+        bags.old bags.new }
 {
-    from.listed = false;
-    mem::swap(&mut from.body, &mut to.body);
+    let slot = bags.slot_mut(id);
+    mem::replace(&mut slot.list, ChunkSet::new(alloc)).into_vec()
+}
+
+/// Puts back the list of the chunks of a bag.
+pub fn put_list(bags: &mut Bags, id: usize, chunks: Vec<ChunkPos>)
+    requires { is_open (slot_in bags.old.items id) ≡ true }
+    ensures sets { SetsSlot id
+        (record (slot_in bags.old.items id) { list = chunks.items })
+        bags.old bags.new }
+{
+    let slot = bags.slot_mut(id);
+    slot.list.put(chunks);
 }
 
 /// Moves what lies on the chunks from elsewhere into a bag. If memory runs out, nothing has moved.

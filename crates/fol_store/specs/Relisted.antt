@@ -1,5 +1,5 @@
 -- What becomes of the bag of a region that has a chunk more or a chunk less, or that another region joins.
-use Rattle.std.specs.Prelude.{ℕ, ◌≡◌, ◌≢◌, Bool, true, false, not, ◌&&◌, ◌||◌, max, List, []}
+use Rattle.std.specs.Prelude.{ℕ, ◌≡◌, ◌≢◌, Bool, true, false, not, ◌&&◌, ◌||◌, max, filter, List, []}
 use Rattle.std.specs.List.Sorted.{IsStrictlySortedBy}
 use Rattle.fol_model.specs.declared.places.ChunkPos.{ChunkPos}
 use Rattle.fol_model.specs.Geometry.{same_chunk}
@@ -46,11 +46,14 @@ pub record Joined («from» into : ℕ) (old new : ℕ → Bag) : Type 0 where
   pub both : (new into).listed ≡ true → (old «from»).listed ≡ true
   pub others : (u : ℕ) → u ≢ «from» → u ≢ into → new u ≡ old u
 
--- a bag that has none may be listed for these chunks, and all other bags stay
-pub record Receives (to : ℕ) (chunks : List ChunkPos) (old new : ℕ → Bag) : Type 0 where
+-- a bag that has none may be listed for these chunks; another one, where it is listed still, has its chunks but for these; and all other bags stay
+pub record Receives («from» to : ℕ) (chunks : List ChunkPos) (old new : ℕ → Bag) : Type 0 where
   pub own : Stays (old to) (new to)
   pub listing : (new to).listed ≡ true → (new to).chunks ≡ chunks
-  pub others : (u : ℕ) → u ≢ to → new u ≡ old u
+  pub rest : new «from» ≡ record (old «from») { listed = (new «from»).listed; chunks = (new «from»).chunks }
+  pub left : (new «from»).listed ≡ true → ((old «from»).listed ≡ true) × ((new «from»).chunks ≡ filter (λ q. not (is_recorded chunks q)) (old «from»).chunks)
+  pub in_order : IsInOrder (new «from»)
+  pub others : (u : ℕ) → u ≢ «from» → u ≢ to → new u ≡ old u
 
 -- of a part of a region that was just opened: it has no chunks, and has to be gathered
 pub record IsUngathered (b : Bag) : Type 0 where

@@ -1,16 +1,15 @@
 //! A region falls apart, and its parts get what lies on their chunks.
 
-ghost use Rattle.std.specs.Prelude.{◌≡◌, ◌≢◌, ◌≤◌, ℕ, true, false, Some, IfSome, OnOk};
+ghost use Rattle.std.specs.Prelude.{◌≡◌, ◌≢◌, ◌≤◌, ℕ, true, not, filter, Some, IfSome, OnOk};
 ghost use Rattle.std.specs.List.Sorted.{IsStrictlySortedBy};
 ghost use Rattle.fol_model.specs.declared.places.ChunkPos.{ChunkPos};
 ghost use Rattle.fol_chunks.specs.Contents.{is_recorded};
 ghost use Rattle.fol_chunks.specs.Order.{chunk_cmp};
 ghost use Rattle.fol_store.specs.Bag.{no_bag};
-ghost use Rattle.fol_store.specs.Relisted.{IsUngathered, Receives, Stays};
+ghost use Rattle.fol_store.specs.Relisted.{IsInOrder, IsUngathered, Receives, Stays};
 
 use crate::store::Store;
 use fol_bags::{Listing, Place, has_bag, slots};
-use fol_keyed::ChunkList;
 use fol_model::ChunkPos;
 use std::alloc::AllocError;
 
@@ -19,15 +18,23 @@ impl Store {
     ghost use Rattle.fol_store.specs.Noted.{AreNoted};
     ghost use Rattle.fol_store.specs.Steps.{SameWorld};
 
-    /// What lies on these chunks in the bag of a region goes into the bag of one of its parts, which is then listed for the chunks and
-    /// is not calm. Where the region's bag does not have all of them, or memory runs out, nothing moves, and the part's bag has to be
-    /// gathered. The region's bag has to be gathered anew.
+    /// What lies on these chunks in the bag of a region goes into the bag of one of its parts, which is then listed for the chunks and is not calm. Where the region's bag
+    /// was listed, it is listed for the others then. Where it does not have all of them, or memory runs out, nothing moves, the part's bag has to be gathered, and the region's
+    /// bag too.
     pub fn hand_over(&mut self, from: u64, to: u64, chunks: Vec<ChunkPos>)
         requires here { (bag_of self.old from).here ≡ true }
         requires fresh { IsUngathered (bag_of self.old to) }
         requires differ { from ≢ to }
         requires order { IsStrictlySortedBy chunk_cmp chunks.items }
-        ensures rest { bag_of self.new from ≡ record (bag_of self.old from) { listed = false } }
+        requires from_order { IsInOrder (bag_of self.old from) }
+        ensures rest { bag_of self.new from ≡ record (bag_of self.old from) {
+          listed = (bag_of self.new from).listed;
+          chunks = (bag_of self.new from).chunks;
+        } }
+        ensures left { (bag_of self.new from).listed ≡ true
+            → ((bag_of self.old from).listed ≡ true) × ((bag_of self.new from).chunks
+            ≡ filter (λ q. not (is_recorded chunks.items q)) (bag_of self.old from).chunks) }
+        ensures in_order { IsInOrder (bag_of self.new from) }
         ensures own { Stays (bag_of self.old to) (bag_of self.new to) }
         ensures chunks { (bag_of self.new to).listed ≡ true
             → (bag_of self.new to).chunks ≡ chunks.items }
@@ -38,24 +45,25 @@ impl Store {
         ensures spare { self.old.spare ≤ self.new.spare }
         ensures slots { self.old.slots ≤ self.new.slots }
     {
-        self.unsettle(from);
-        self.give_some(from as usize, to as usize, chunks);
+        match self.spots_among(from as usize, &chunks) {
+            Some(touched) => self.move_some(
+                from as usize,
+                to as usize,
+                Listing { chunks, touched },
+            ),
+            None => self.unsettle(from),
+        }
     }
 
-    /// A region is over, and a part of it takes its place: what lies in the region's bag is in the part's then, and does not move. The
-    /// part's bag is listed for these chunks and is not calm; where they are not those of what lies in the region's bag, or memory runs
-    /// out, it has to be gathered. The region's bag is closed.
-    pub fn succeed(&mut self, from: u64, to: u64, chunks: Vec<ChunkPos>)
+    /// A region is over, and a part of it takes its place: the part's bag is the region's then, with its list and all that lies in it; nothing moves. The region's bag is closed.
+    pub fn succeed(&mut self, from: u64, to: u64)
         requires here { (bag_of self.old from).here ≡ true }
         requires fresh { IsUngathered (bag_of self.old to) }
         requires differ { from ≢ to }
-        requires order { IsStrictlySortedBy chunk_cmp chunks.items }
         requires tick { (bag_of self.old from).tick ≡ (bag_of self.old to).tick }
         requires owed { (bag_of self.old from).owed ≡ (bag_of self.old to).owed }
         ensures gone { bag_of self.new from ≡ no_bag }
-        ensures own { Stays (bag_of self.old to) (bag_of self.new to) }
-        ensures chunks { (bag_of self.new to).listed ≡ true
-            → (bag_of self.new to).chunks ≡ chunks.items }
+        ensures own { bag_of self.new to ≡ bag_of self.old from }
         ensures others { (u : ℕ) → u ≢ from → u ≢ to → bag_of self.new u ≡ bag_of self.old u }
         ensures next { next_of self.new ≡ next_of self.old }
         ensures contents { flat_of self.new ≡ flat_of self.old }
@@ -63,90 +71,49 @@ impl Store {
         ensures spare { self.old.spare ≤ self.new.spare }
         ensures slots { self.old.slots ≤ self.new.slots }
     {
-        self.unsettle(from);
-        self.give_all(from as usize, to as usize, chunks);
+        self.exchange(from as usize, to as usize);
         self.close(from);
-    }
-
-    /// Moves what lies on these chunks from one bag to another, where the first has all of them.
-    fn give_some(&mut self, from: usize, to: usize, chunks: Vec<ChunkPos>)
-        requires here { (bag_of self.old from).here ≡ true }
-        requires unlisted { (bag_of self.old from).listed ≡ false }
-        requires fresh { IsUngathered (bag_of self.old to) }
-        requires differ { from ≢ to }
-        requires order { IsStrictlySortedBy chunk_cmp chunks.items }
-        ensures received { Receives to chunks.items (bag_of self.old) (bag_of self.new) }
-        ensures same { SameWorld self.old self.new }
-    {
-        match self.spots_among(from, &chunks) {
-            Some(touched) => self.move_some(from, to, Listing { chunks, touched }),
-            None => {}
-        }
-    }
-
-    /// Makes what lies in one bag that of another, where it lies on these chunks.
-    fn give_all(&mut self, from: usize, to: usize, chunks: Vec<ChunkPos>)
-        requires here { (bag_of self.old from).here ≡ true }
-        requires unlisted { (bag_of self.old from).listed ≡ false }
-        requires fresh { IsUngathered (bag_of self.old to) }
-        requires differ { from ≢ to }
-        requires order { IsStrictlySortedBy chunk_cmp chunks.items }
-        requires tick { (bag_of self.old from).tick ≡ (bag_of self.old to).tick }
-        requires owed { (bag_of self.old from).owed ≡ (bag_of self.old to).owed }
-        ensures received { Receives to chunks.items (bag_of self.old) (bag_of self.new) }
-        ensures same { SameWorld self.old self.new }
-    {
-        if !self.has_no_other(from, &chunks) {
-            return;
-        }
-        match self.spots_among(from, &chunks) {
-            Some(touched) => self.move_all(from, to, Listing { chunks, touched }),
-            None => {}
-        }
     }
 
     /// Moves what lies on the chunks of these lists from a bag that has them to another, which gets the lists. If memory runs out,
     /// nothing has moved.
     fn move_some(&mut self, from: usize, to: usize, lists: Listing)
         requires here { (bag_of self.old from).here ≡ true }
-        requires unlisted { (bag_of self.old from).listed ≡ false }
         requires fresh { IsUngathered (bag_of self.old to) }
         requires differ { from ≢ to }
         requires order { IsStrictlySortedBy chunk_cmp lists.chunks.items }
+        requires from_order { IsInOrder (bag_of self.old from) }
         requires homes { (q : ChunkPos) → is_recorded lists.chunks.items q ≡ true
             → (place self.old q).bag ≡ Some from }
         requires touched { AreNoted self.old lists.chunks.items lists.touched.items }
-        ensures received { Receives to lists.chunks.items (bag_of self.old) (bag_of self.new) }
+        ensures received { Receives from to lists.chunks.items (bag_of self.old) (bag_of self.new) }
         ensures same { SameWorld self.old self.new }
     {
+        let listed = self.is_listed(from as u64);
         match slots::shift_bags(self.alloc, &mut self.bags, from, &lists.chunks, to) {
             Ok(()) => {
                 self.places.rehome(&lists.chunks, from, to);
+                slots::list_others(&mut self.bags, from, &lists.chunks, listed);
                 slots::list(&mut self.bags, to, lists);
             }
             Err(_) => {}
         }
     }
 
-    /// Makes what lies in a bag that of another, which gets the lists: their chunks are those of the first bag.
-    fn move_all(&mut self, from: usize, to: usize, lists: Listing)
+    /// A bag and a fresh one are exchanged, and the places of the chunks of the first name it where it is then.
+    fn exchange(&mut self, from: usize, to: usize)
         requires here { (bag_of self.old from).here ≡ true }
-        requires unlisted { (bag_of self.old from).listed ≡ false }
         requires fresh { IsUngathered (bag_of self.old to) }
         requires differ { from ≢ to }
-        requires tick { (bag_of self.old from).tick ≡ (bag_of self.old to).tick }
-        requires owed { (bag_of self.old from).owed ≡ (bag_of self.old to).owed }
-        requires homes { (q : ChunkPos) → is_recorded lists.chunks.items q ≡ true
-            → (place self.old q).bag ≡ Some from }
-        requires no_other { (q : ChunkPos) → (place self.old q).bag ≡ Some from
-            → is_recorded lists.chunks.items q ≡ true }
-        requires touched { AreNoted self.old lists.chunks.items lists.touched.items }
-        ensures received { Receives to lists.chunks.items (bag_of self.old) (bag_of self.new) }
+        ensures from { bag_of self.new from ≡ bag_of self.old to }
+        ensures to { bag_of self.new to ≡ bag_of self.old from }
+        ensures others { (u : ℕ) → u ≢ from → u ≢ to → bag_of self.new u ≡ bag_of self.old u }
         ensures same { SameWorld self.old self.new }
     {
-        slots::swap_bodies(&mut self.bags, from, to);
-        self.places.rehome(&lists.chunks, from, to);
-        slots::list(&mut self.bags, to, lists);
+        let chunks = slots::take_list(self.alloc, &mut self.bags, from);
+        slots::exchange(&mut self.bags, from, to);
+        self.places.rehome(&chunks, from, to);
+        slots::put_list(&mut self.bags, to, chunks);
     }
 
     /// Those of the chunks that have a spot, where the bag has each of the chunks. `None` also where memory runs out.
@@ -167,36 +134,6 @@ impl Store {
             }
         }
         Some(list)
-    }
-
-    /// Whether a bag has no chunk but these. False too where memory runs out.
-    fn has_no_other(&self, id: usize, chunks: &[ChunkPos]) -> bool
-        requires here { (bag_of self.now id).here ≡ true }
-        requires order { IsStrictlySortedBy chunk_cmp chunks.now }
-        ensures { result ≡ true → (q : ChunkPos) → (place self.now q).bag ≡ Some id
-            → is_recorded chunks.now q ≡ true }
-    {
-        match self.chunks_of(id) {
-            Ok(own) => self.has_none_outside(id, &own, chunks),
-            Err(_) => false,
-        }
-    }
-
-    /// Whether a bag, which was listed for some chunks, has no chunk but these.
-    fn has_none_outside(&self, id: usize, own: &[ChunkPos], chunks: &[ChunkPos]) -> bool
-        requires here { (bag_of self.now id).here ≡ true }
-        requires own { own.now ≡ (bag_of self.now id).chunks }
-        requires order { IsStrictlySortedBy chunk_cmp chunks.now }
-        ensures { result ≡ true → (q : ChunkPos) → (place self.now q).bag ≡ Some id
-            → is_recorded chunks.now q ≡ true }
-    {
-        let list = ChunkList::of(chunks);
-        for c in own {
-            if !list.has(*c) && has_bag(self.places.at(*c), id) {
-                return false;
-            }
-        }
-        true
     }
 }
 
