@@ -35,4 +35,7 @@ pub mod LeavingBare
 pub mod Joining
 pub mod Relisting
 pub mod Releasing
+pub mod SameLists
+pub mod GoingOver
 pub mod Parting
+pub mod Exchanging

@@ -1,81 +1,67 @@
--- What lies in the bag of a region goes into the bag of a part of it.
-use Rattle.std.proofs.Common.{◌≡◌, ◌≢◌, ℕ, ◌≤◌, true, false, not, List, [], refl, sym, ◌∙◌, ap, subst, inl, inr, Option, Some, None}
+-- What lies on some chunks of the bag of a region goes into the bag of a part of it.
+use Rattle.std.proofs.Common.{◌≡◌, ◌≢◌, ℕ, ◌≤◌, Bool, true, false, not, ◌&&◌, ◌||◌, List, [], refl, sym, ◌∙◌, ap, subst, inl, inr, Some, filter}
 use Rattle.std.specs.Prelude.{nat_eq, if◌then◌else◌}
-use Rattle.std.specs.Option.{option_or}
-use Rattle.std.proofs.lemmas.Bool.{cases_Bool, eqb-true, true≢false}
-use Rattle.fol_queues.specs.Waiting.{option_filter}
+use Rattle.std.specs.List.Sorted.{IsStrictlySortedBy}
+use Rattle.std.proofs.lemmas.Bool.{cases_Bool, true≢false}
 use Rattle.fol_model.specs.declared.places.ChunkPos.{ChunkPos}
 use Rattle.fol_chunks.specs.Contents.{is_recorded}
+use Rattle.fol_chunks.specs.Order.{chunk_cmp}
 use Rattle.fol_queues.proofs.Numbers.{nat_self}
 use Rattle.fol_data.specs.declared.region_data.RegionData.{RegionData}
 use Rattle.fol_bags.specs.declared.slot.Slot.{Slot}
 use Rattle.fol_store.specs.Bag.{Bag}
-use Rattle.fol_bags.specs.Moves.{Loses, Gains}
 use Rattle.fol_bags.specs.Places.{PlaceRows}
-use Rattle.fol_store.specs.Relisted.{IsUngathered, Receives}
-use Rattle.fol_bags.specs.Things.{Key, Thing, things, chunk_at}
-use Rattle.fol_store.specs.Stock.{Stock, Where, arriving, in_spot, in_bag, slot, place, column, found, next_of, bag_of, shown}
+use Rattle.fol_store.specs.Relisted.{IsInOrder, Receives}
+use Rattle.fol_bags.specs.Things.{Key, Thing, chunk_at}
+use Rattle.fol_store.specs.Stock.{Stock, Where, arriving, in_spot, in_bag, slot, place, column, bag_of, shown}
 use Rattle.fol_store.specs.Sound.{Near, IsBag, IsSound}
 use Rattle.fol_store.specs.Noted.{AreNoted}
 use Rattle.fol_store.specs.Steps.{SameWorld}
-use Rattle.fol_store.proofs.Columns.{Moves, Stayed, filter_no, filter_yes, moves_back}
-use Rattle.fol_store.proofs.Totals.{where_cases, same_flat, same_jobs}
-use Rattle.fol_store.proofs.Resound.{kept_self, moved_unique, moved_found, moved_lies, moved_bag}
-use Rattle.fol_store.proofs.Drawing.{with_parts, Pours, at_target, apart_bags, moves_over, by_bag, home_keeps, home_moves, home_cases, comes_over, stays_over, spots_within, bags_within, times_over}
+use Rattle.fol_store.proofs.Columns.{Moves, Stayed, moves_back}
+use Rattle.fol_store.proofs.Totals.{where_cases}
+use Rattle.fol_store.proofs.Resound.{moved_bag}
+use Rattle.fol_store.proofs.Drawing.{with_parts, Pours, at_source, at_target, apart_bags, moves_over, home_keeps, home_moves, home_cases}
+use Rattle.fol_store.proofs.GoingOver.{Pair, GoesOver, WentOver, not_here, went_over}
+use Rattle.fol_store.proofs.Leaving.{one_alone}
+use Rattle.fol_store.proofs.SameLists.{without}
 use Rattle.fol_store.proofs.Stepping.{here_not_taken}
 
-pub record Handed (id : ℕ) (chunks : List ChunkPos) (s t : Stock) : Type 0 where
+pub record Handed (u id : ℕ) (chunks : List ChunkPos) (s t : Stock) : Type 0 where
   pub sound : IsSound t
-  pub received : Receives id chunks (bag_of s) (bag_of t)
+  pub received : Receives u id chunks (bag_of s) (bag_of t)
   pub same : SameWorld s t
 
 never : {P : Type 0} → false ≡ true → P
 never e = absurd (true≢false (sym e))
 
--- a bag that has to be gathered, and a fresh one
-pub record Pair (s : Stock) (u id : ℕ) : Type 0 where
-  pub here : (slot s u).here ≡ true
-  pub unlisted : (slot s u).listed ≡ false
-  pub id_here : (slot s id).here ≡ true
-  pub bare : (slot s id).chunks ≡ []
-  pub id_unlisted : (slot s id).listed ≡ false
-  pub apart : u ≢ id
+-- the bags after what lies on some chunks went over: the first has other chunks then
+pub shift_and_lose : (s : Stock) (u id : ℕ) (source target : Slot) (mid new : ℕ → Slot) (others : Slot → Slot)
+    → ((n : ℕ) → mid n ≡ (if nat_eq u n then source else (if nat_eq id n then target else slot s n)))
+    → ((n : ℕ) → new n ≡ (if nat_eq u n then others (mid u) else mid n))
+    → (n : ℕ) → new n ≡ (if nat_eq u n then others source else (if nat_eq id n then target else slot s n))
+shift_and_lose s u id source target mid new others first second n = elim (cases_Bool (nat_eq u n)) [
+  | inl e ↦ second n ∙ rw e (ap others (first u ∙ rw (nat_self u) refl))
+  | inr e ↦ second n ∙ rw e (first n ∙ rw e refl)
+]
 
--- from what contracts see
-pub a_pair : (s v : Stock) (u id : ℕ) → s ≡ v → (bag_of v u).here ≡ true → (bag_of v u).listed ≡ false → IsUngathered (bag_of v id) → u ≢ id → Pair s u id
-unfolding bag_of
-a_pair s v u id e here unlisted fresh apart = subst (λ w. Pair w u id) (sym e) (record {
-  here = here;
-  unlisted = unlisted;
-  id_here = fresh.here;
-  bare = fresh.chunks;
-  id_unlisted = fresh.listed;
-  apart = apart;
-})
-
--- two bags have the same numbers
-pub record SameNumbers (s : Stock) (u id : ℕ) : Type 0 where
-  pub tick : (slot s id).body.tick ≡ (slot s u).body.tick
-  pub owed : (slot s id).body.owed ≡ (slot s u).body.owed
-
-pub same_numbers : (s v : Stock) (u id : ℕ) → s ≡ v → Pair s u id → (bag_of v u).tick ≡ (bag_of v id).tick → (bag_of v u).owed ≡ (bag_of v id).owed → SameNumbers s u id
-unfolding bag_of
-same_numbers s v u id e pair tick owed = record {
-  tick = let f : (bag_of s u).tick ≡ (bag_of s id).tick = rw e tick in sym (rw (pair.here, pair.id_here) at f);
-  owed = let f : (bag_of s u).owed ≡ (bag_of s id).owed = rw e owed in sym (rw (pair.here, pair.id_here) at f);
-}
-
--- ---- some things go over, and the second bag becomes the target
-module _ (s : Stock) (bags : List Slot) (places : PlaceRows) (spare slots u id : ℕ) (moved chunks : List ChunkPos) (left : RegionData) (target : Slot) where
+-- ---- some things go over, and the first bag has other chunks then
+module _ (s : Stock) (bags : List Slot) (places : PlaceRows) (spare slots u id : ℕ) (moved chunks : List ChunkPos) (left : RegionData) (listed : Bool) (rest list : List ChunkPos) (target : Slot) where
   abbrev t : Stock
   t = with_parts s s.spots bags places spare slots
 
   abbrev source : Slot
-  source = record (slot s u) { body = left; listed = false }
+  source = record (slot s u) { body = left; listed = listed; chunks = rest; list = list }
 
   pub record HandsOver : Type 0 where
     pub pours : Pours s bags places spare slots u id moved source target
     pub pair : Pair s u id
+    pub before : listed ≡ true → (slot s u).listed ≡ true
+    pub order : listed ≡ true → IsStrictlySortedBy chunk_cmp (slot s u).chunks
+    pub rest_order : listed ≡ true → IsStrictlySortedBy chunk_cmp rest
+    pub has : listed ≡ true → (q : ChunkPos) → is_recorded rest q ≡ (is_recorded (slot s u).chunks q && not (is_recorded moved q))
+    pub unlisted : listed ≡ false → rest ≡ (slot s u).chunks
+    pub list_is : list ≡ rest
+    pub moved_are : listed ≡ true → moved ≡ chunks
     pub own : IsBag t id target
     pub stays : shown target ≡ (let b : Bag = record (shown (slot s id)) { listed = target.listed; calm = target.calm; chunks = target.chunks } in b)
     pub chunks_are : target.listed ≡ true → target.chunks ≡ chunks
@@ -83,84 +69,95 @@ module _ (s : Stock) (bags : List Slot) (places : PlaceRows) (spare slots u id :
     pub more_slots : s.slots ≤ slots
 
   module _ (d : HandsOver) (h : IsSound s) where
-    apart : in_bag u ≢ in_bag id
-    apart = apart_bags s bags places spare slots u id moved source target d.pours
-
-    moves : (k : Key) → Moves where_cases (column s k) (column t k) (in_bag u) (in_bag id) (λ x. is_recorded moved (chunk_at k x))
-    moves = moves_over s bags places spare slots u id moved source target d.pours
-
-    keeps : (c : ChunkPos) (n : ℕ) → (place s c).bag ≡ Some n → (n ≡ u → is_recorded moved c ≡ false) → (place t c).bag ≡ Some n
-    keeps = home_keeps s bags places spare slots u id moved source target d.pours
-
     not_taken : (slot s u).taken ≡ false
     not_taken = here_not_taken u s h d.pair.here
 
-    not_here : (n : ℕ) → id ≢ n → (c : ChunkPos) → (place t c).bag ≡ Some n → (place s c).bag ≡ Some n
-    not_here n b c q = elim (home_cases s bags places spare slots u id moved source target d.pours c n q) [
-      | inl z ↦ absurd (b (sym z.here))
-      | inr z ↦ z
+    -- a chunk that the first bag has still did not go over
+    kept_chunk : listed ≡ true → (c : ChunkPos) → is_recorded rest c ≡ true → (is_recorded (slot s u).chunks c ≡ true) × (is_recorded moved c ≡ false)
+    kept_chunk l c r = one_alone (is_recorded (slot s u).chunks c) (is_recorded moved c) (sym (d.has l c) ∙ r)
+
+    still_named : (c : ChunkPos) → (place t c).bag ≡ Some u → (place s c).bag ≡ Some u
+    still_named = not_here s bags places spare slots u id moved source target d.pours u (λ e. d.pair.apart (sym e))
+
+    not_moved : (c : ChunkPos) → (place t c).bag ≡ Some u → is_recorded moved c ≡ false
+    not_moved c q = elim (cases_Bool (is_recorded moved c)) [
+      | inl r ↦
+          let e : Some u ≡ Some id = sym q ∙ home_moves s bags places spare slots u id moved source target d.pours c r (still_named c q) in
+          let f : u ≡ id = cc in absurd (d.pair.apart f)
+      | inr r ↦ r
     ]
 
-    source_bag : IsBag t u source
-    source_bag =
-        moved_bag s t (in_bag u) (in_bag id) (λ k x. is_recorded moved (chunk_at k x)) apart moves u (slot s u) source
-        (record { here = refl; taken = refl; chunks = refl; list = refl; touched = refl; listed = λ o. never o; calm = λ o. o })
-        (λ c q. inl (not_here u (λ e. d.pair.apart (sym e)) c q))
-        (λ o c q. never (sym not_taken ∙ o))
-        (λ o k x q p r. never o)
-        (λ o e. never (sym not_taken ∙ o))
-        (h.bags u)
+    -- a chunk that names the first bag is one that it has
+    claimed : (c : ChunkPos) → is_recorded (slot s u).chunks c ≡ true → is_recorded moved c ≡ false → is_recorded rest c ≡ true
+    claimed c had stayed = elim (cases_Bool listed) [
+      | inl l ↦ d.has l c ∙ rw (had, stayed) refl
+      | inr l ↦ ap (λ m. is_recorded m c) (d.unlisted l) ∙ had
+    ]
 
-    other_bag : (n : ℕ) → u ≢ n → id ≢ n → IsBag t n (slot s n)
-    other_bag n a b =
-        moved_bag s t (in_bag u) (in_bag id) (λ k x. is_recorded moved (chunk_at k x)) apart moves n (slot s n) (slot s n) (kept_self (slot s n))
-        (λ c q. inl (not_here n b c q))
-        (λ o c q. keeps c n q (λ e. absurd (a (sym e))))
-        (λ o k x q p r. absurd (a ((h.bags n).near o k (in_bag u) x q r)))
-        (λ o e. let f : id ≡ n = cc in b f)
-        (h.bags n)
+    is_listed : (listed || (slot s u).taken) ≡ true → listed ≡ true
+    is_listed o = elim (cases_Bool listed) [ inl l ↦ l | inr l ↦ never (sym (rw (l, not_taken) refl) ∙ o) ]
 
-    found_all : (k : Key) → found t k ≡ found s k
-    found_all = moved_found s t (in_bag u) (in_bag id) (λ k x. is_recorded moved (chunk_at k x)) apart moves h.unique
+    first_bag : IsBag t u source
+    first_bag = record {
+      claims = λ o c q. claimed c ((h.bags u).claims o c (still_named c q)) (not_moved c q);
+      held = λ o c r.
+          let l : listed ≡ true = is_listed o in
+          let two = kept_chunk l c r in
+          home_keeps s bags places spare slots u id moved source target d.pours c u ((h.bags u).held (rw (d.before l) refl) c two.0) (λ e. two.1);
+      near = λ l k w x q r.
+          let two = kept_chunk l (chunk_at k x) r in
+          elim (moves_back where_cases (column s k) (column t k) (in_bag u) (in_bag id) (λ y. is_recorded moved (chunk_at k y))
+          (apart_bags s bags places spare slots u id moved source target d.pours)
+          (moves_over s bags places spare slots u id moved source target d.pours k) w x q) [
+            | inl z ↦ never (sym two.1 ∙ z.passes)
+            | inr z ↦ close k w x ((h.bags u).near (d.before l) k w x z.had two.0)
+          ];
+      untouched = λ l p. (h.bags u).untouched (d.before l) p;
+      opened = λ l. (h.bags u).opened (d.before l);
+      one = (h.bags u).one;
+      out = λ o k x q. never (sym not_taken ∙ o);
+      list = λ o. d.list_is;
+    }
+      where
+        close : (k : Key) (w : Where) (x : Thing k) → Near u (slot s u) (chunk_at k x) w → Near u source (chunk_at k x) w
+        close k arriving x n = n
+        close k (in_spot v) x n = n
+        close k (in_bag v) x n = n
 
-    pub handed_over : Handed id chunks s t
-    unfolding bag_of next_of
+    over : WentOver s bags places spare slots u id moved source target
+    over = went_over s bags places spare slots u id moved source target (record {
+      pours = d.pours;
+      first = first_bag;
+      second = d.own;
+      more_spare = d.more_spare;
+      more_slots = d.more_slots;
+    }) h
+
+    left_are : listed ≡ true → rest ≡ filter (λ q. not (is_recorded chunks q)) (slot s u).chunks
+    left_are l = without (slot s u).chunks chunks rest (d.order l) (d.rest_order l) (rw (d.moved_are l) at (d.has l))
+
+    pub handed_over : Handed u id chunks s t
+    unfolding bag_of
     handed_over = record {
-      sound = record {
-        unique = moved_unique s t (in_bag u) (in_bag id) (λ k x. is_recorded moved (chunk_at k x)) apart moves h.unique;
-        lies = moved_lies s t (in_bag u) (in_bag id) (λ k x. is_recorded moved (chunk_at k x)) apart moves (comes_over s bags places spare slots u id moved source target d.pours h) (stays_over s bags places spare slots u id moved source target d.pours h);
-        spot_range = spots_within s bags places spare slots u id moved source target d.pours h;
-        bag_range = bags_within s bags places spare slots u id moved source target d.pours h;
-        bags = by_bag s bags places spare slots u id moved source target d.pours (λ n b. IsBag t n b) source_bag d.own other_bag;
-        spot_times = h.spot_times;
-        bag_times = times_over s bags places spare slots u id moved source target d.pours h;
-        arrival_times = h.arrival_times;
-        arrivals_differ = h.arrivals_differ;
-      };
+      sound = over.sound;
       received = record {
         own = let P : Slot → Type 0 = λ b. shown b ≡ (let r : Bag = record (shown (slot s id)) { listed = b.listed; calm = b.calm; chunks = b.chunks } in r) in subst P (sym (at_target s bags places spare slots u id moved source target d.pours)) d.stays;
         listing = let P : Slot → Type 0 = λ b. b.listed ≡ true → b.chunks ≡ chunks in subst P (sym (at_target s bags places spare slots u id moved source target d.pours)) d.chunks_are;
-        others = by_bag s bags places spare slots u id moved source target d.pours (λ n b. n ≢ id → shown b ≡ shown (slot s n))
-            (λ e. rw (d.pours.loses.tick, d.pours.loses.owed, d.pair.unlisted) refl)
-            (λ e. absurd (e refl))
-            (λ n a b e. refl);
+        rest = let P : Slot → Type 0 = λ b. shown b ≡ (let r : Bag = record (shown (slot s u)) { listed = b.listed; chunks = b.chunks } in r) in subst P (sym (at_source s bags places spare slots u id moved source target d.pours)) (rw (d.pours.loses.tick, d.pours.loses.owed) refl);
+        left = let P : Slot → Type 0 = λ b. b.listed ≡ true → ((slot s u).listed ≡ true) × (b.chunks ≡ filter (λ q. not (is_recorded chunks q)) (slot s u).chunks) in subst P (sym (at_source s bags places spare slots u id moved source target d.pours)) (λ l. (d.before l, left_are l));
+        in_order = let P : Slot → Type 0 = λ b. IsInOrder (shown b) in subst P (sym (at_source s bags places spare slots u id moved source target d.pours)) d.rest_order;
+        others = over.others;
       };
-      same = record {
-        contents = same_flat s t found_all;
-        tasks = same_jobs s t found_all;
-        next = d.pours.long;
-        spare = d.more_spare;
-        slots = d.more_slots;
-      };
+      same = over.same;
     }
 
 -- ---- all that lies on the chunks goes over, and the second bag is listed for them
-module _ (s : Stock) (bags : List Slot) (places : PlaceRows) (spare slots u id : ℕ) (chunks touched : List ChunkPos) (left come : RegionData) where
+module _ (s : Stock) (bags : List Slot) (places : PlaceRows) (spare slots u id : ℕ) (chunks touched : List ChunkPos) (left come : RegionData) (listed : Bool) (rest : List ChunkPos) where
   abbrev after : Stock
   after = with_parts s s.spots bags places spare slots
 
   abbrev first_left : Slot
-  first_left = record (slot s u) { body = left; listed = false }
+  first_left = record (slot s u) { body = left; listed = listed; chunks = rest; list = rest }
 
   abbrev second_listed : Slot
   second_listed = record (slot s id) { body = come; listed = true; calm = false; chunks = chunks; list = chunks; touched = touched }
@@ -168,6 +165,11 @@ module _ (s : Stock) (bags : List Slot) (places : PlaceRows) (spare slots u id :
   pub record ListsBag : Type 0 where
     pub pours : Pours s bags places spare slots u id chunks first_left second_listed
     pub pair : Pair s u id
+    pub before : listed ≡ true → (slot s u).listed ≡ true
+    pub order : listed ≡ true → IsStrictlySortedBy chunk_cmp (slot s u).chunks
+    pub rest_order : listed ≡ true → IsStrictlySortedBy chunk_cmp rest
+    pub has : listed ≡ true → (q : ChunkPos) → is_recorded rest q ≡ (is_recorded (slot s u).chunks q && not (is_recorded chunks q))
+    pub unlisted : listed ≡ false → rest ≡ (slot s u).chunks
     pub homes : (q : ChunkPos) → is_recorded chunks q ≡ true → (place s q).bag ≡ Some u
     pub touched_are : AreNoted s chunks touched
     pub more_spare : s.spare ≤ spare
@@ -205,10 +207,17 @@ module _ (s : Stock) (bags : List Slot) (places : PlaceRows) (spare slots u id :
       list = λ o. refl;
     }
 
-    pub listed_over : Handed id chunks s after
-    listed_over = handed_over s bags places spare slots u id chunks chunks left second_listed (record {
+    pub listed_over : Handed u id chunks s after
+    listed_over = handed_over s bags places spare slots u id chunks chunks left listed rest rest second_listed (record {
       pours = d.pours;
       pair = d.pair;
+      before = d.before;
+      order = d.order;
+      rest_order = d.rest_order;
+      has = d.has;
+      unlisted = d.unlisted;
+      list_is = refl;
+      moved_are = λ l. refl;
       own = second_bag;
       stays = rw (d.pair.id_here, d.pours.gains.tick, d.pours.gains.owed) refl;
       chunks_are = λ o. refl;
@@ -246,70 +255,20 @@ module _ (s : Stock) (bags : List Slot) (spare slots u id : ℕ) (chunks : List 
         (λ o e. never (sym (here_not_taken id s h d.pair.id_here) ∙ o))
         (h.bags id)
 
-    pub left_over : Handed id chunks s still
-    left_over = handed_over s bags s.places spare slots u id [] chunks left second_same (record {
+    pub left_over : Handed u id chunks s still
+    left_over = handed_over s bags s.places spare slots u id [] chunks left false (slot s u).chunks (slot s u).list second_same (record {
       pours = d.pours;
       pair = d.pair;
+      before = λ o. never o;
+      order = λ o. never o;
+      rest_order = λ o. never o;
+      has = λ o. never o;
+      unlisted = λ o. refl;
+      list_is = (h.bags u).list (here_not_taken u s h d.pair.here);
+      moved_are = λ o. never o;
       own = same_second;
       stays = rw (d.pair.id_here, d.pours.gains.tick, d.pours.gains.owed) refl;
       chunks_are = λ o. never (sym d.pair.id_unlisted ∙ o);
       more_spare = d.more_spare;
       more_slots = d.more_slots;
     }) h
-
--- the bags after two steps: both bags change, and then the second gets lists
-pub shift_and_list : (s : Stock) (u id : ℕ) (source target : Slot) (mid new : ℕ → Slot) (lists : Slot → Slot) → u ≢ id
-    → ((n : ℕ) → mid n ≡ (if nat_eq u n then source else (if nat_eq id n then target else slot s n)))
-    → ((n : ℕ) → new n ≡ (if nat_eq id n then lists (mid id) else mid n))
-    → (n : ℕ) → new n ≡ (if nat_eq u n then source else (if nat_eq id n then lists target else slot s n))
-shift_and_list s u id source target mid new lists apart first second n = elim (cases_Bool (nat_eq id n)) [
-  | inl e ↦ elim (cases_Bool (nat_eq u n)) [
-    | inl f ↦ absurd (apart (eqb-true u n f ∙ sym (eqb-true id n e)))
-    | inr f ↦ second n ∙ rw (e, f) (ap lists mid_here)
-  ]
-  | inr e ↦ second n ∙ rw e (first n ∙ rw e refl)
-]
-  where
-    mid_here : mid id ≡ target
-    mid_here = first id ∙ elim (cases_Bool (nat_eq u id)) [
-      | inl f ↦ absurd (apart (eqb-true u id f))
-      | inr f ↦ rw (f, nat_self id) refl
-    ]
-
--- ---- all that lies in the first bag lies on the chunks, and nothing lies in the second
-module _ (s : Stock) (u id : ℕ) (chunks : List ChunkPos) (h : IsSound s) (pair : Pair s u id) (numbers : SameNumbers s u id)
-    (all : (q : ChunkPos) → (place s q).bag ≡ Some u → is_recorded chunks q ≡ true) where
-  none_lies : (k : Key) → things (slot s id).body k ≡ None
-  none_lies k = go (things (slot s id).body k) refl
-    where
-      go : (o : Option (Thing k)) → things (slot s id).body k ≡ o → things (slot s id).body k ≡ None
-      go None e = e
-      go (Some x) e = never (sym (ap (λ l. is_recorded l (chunk_at k x)) pair.bare) ∙ (h.bags id).claims (rw pair.id_here refl) (chunk_at k x) (h.lies k (in_bag id) x e))
-
-  recorded_all : (k : Key) (x : Thing k) → things (slot s u).body k ≡ Some x → is_recorded chunks (chunk_at k x) ≡ true
-  recorded_all k x e = all (chunk_at k x) (h.lies k (in_bag u) x e)
-
-  pub swap_loses : Loses chunks (slot s u).body (slot s id).body
-  swap_loses = record { things = λ k. none_lies k ∙ sym (none_left k (things (slot s u).body k) refl); tick = numbers.tick; owed = numbers.owed }
-    where
-      none_left : (k : Key) (o : Option (Thing k)) → things (slot s u).body k ≡ o → option_filter (λ x. not (is_recorded chunks (chunk_at k x))) (things (slot s u).body k) ≡ None
-      none_left k None e = rw e refl
-      none_left k (Some x) e = filter_no (λ y. not (is_recorded chunks (chunk_at k y))) (things (slot s u).body k) x e (ap not (recorded_all k x e))
-
-  pub swap_gains : Gains chunks (slot s u).body (slot s id).body (slot s u).body
-  swap_gains = record {
-    things = λ k. sym (ap (λ o. option_or o (option_filter (λ x. is_recorded chunks (chunk_at k x)) (things (slot s u).body k))) (none_lies k) ∙ all_come k (things (slot s u).body k) refl);
-    tick = sym numbers.tick;
-    owed = sym numbers.owed;
-  }
-    where
-      all_come : (k : Key) (o : Option (Thing k)) → things (slot s u).body k ≡ o → option_filter (λ x. is_recorded chunks (chunk_at k x)) (things (slot s u).body k) ≡ things (slot s u).body k
-      all_come k None e = rw e refl
-      all_come k (Some x) e = filter_yes (λ y. is_recorded chunks (chunk_at k y)) (things (slot s u).body k) x e (recorded_all k x e) ∙ sym e
-
--- a chunk whose things may lie in a bag that is here is one of its chunks
-pub is_claimed : (s v : Stock) (id : ℕ) → s ≡ v → IsSound s → (bag_of v id).here ≡ true → (q : ChunkPos) → (place v q).bag ≡ Some id → is_recorded (bag_of v id).chunks q ≡ true
-unfolding bag_of
-is_claimed s v id e h here q named =
-    let sound : IsSound v = subst IsSound e h in
-    (sound.bags id).claims (rw here refl) q named

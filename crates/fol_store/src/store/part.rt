@@ -105,6 +105,8 @@ impl Store {
         requires here { (bag_of self.old from).here ≡ true }
         requires fresh { IsUngathered (bag_of self.old to) }
         requires differ { from ≢ to }
+        requires tick { (bag_of self.old from).tick ≡ (bag_of self.old to).tick }
+        requires owed { (bag_of self.old from).owed ≡ (bag_of self.old to).owed }
         ensures from { bag_of self.new from ≡ bag_of self.old to }
         ensures to { bag_of self.new to ≡ bag_of self.old from }
         ensures others { (u : ℕ) → u ≢ from → u ≢ to → bag_of self.new u ≡ bag_of self.old u }

@@ -32,8 +32,10 @@ exchanged a b f g h i k x y apart one two three four first second u = elim (case
 
 pub returns : goal.returns
 returns c = record {
-  slots = exchanged c.args.a c.args.b (slot_in c.args.bags.now.items) (slot_in c.lift-first.new.self.items) (slot_in c.lift-second.new.self.items) (slot_in c.lay.new.self.items) (slot_in c.lay-2.new.self.items)
-      c.lift-first.result c.lift-second.result c.requires.differ c.lift-first.ensures.sets.slots c.lift-second.ensures.sets.slots c.lay.ensures.sets.slots c.lay-2.ensures.sets.slots c.lift-first.ensures.kept c.lift-second.ensures.kept;
-  len = c.lay-2.ensures.sets.len ∙ c.lay.ensures.sets.len ∙ c.lift-second.ensures.sets.len ∙ c.lift-first.ensures.sets.len;
-  free = c.lay-2.ensures.sets.free ∙ c.lay.ensures.sets.free ∙ c.lift-second.ensures.sets.free ∙ c.lift-first.ensures.sets.free;
+  sets = record {
+    slots = exchanged c.args.a c.args.b (slot_in c.args.bags.now.items) (slot_in c.lift-first.new.self.items) (slot_in c.lift-second.new.self.items) (slot_in c.lay.new.self.items) (slot_in c.lay-2.new.self.items)
+        c.lift-first.result c.lift-second.result c.requires.differ c.lift-first.ensures.sets.slots c.lift-second.ensures.sets.slots c.lay.ensures.sets.slots c.lay-2.ensures.sets.slots c.lift-first.ensures.kept c.lift-second.ensures.kept;
+    len = c.lay-2.ensures.sets.len ∙ c.lay.ensures.sets.len ∙ c.lift-second.ensures.sets.len ∙ c.lift-first.ensures.sets.len;
+    free = c.lay-2.ensures.sets.free ∙ c.lay.ensures.sets.free ∙ c.lift-second.ensures.sets.free ∙ c.lift-first.ensures.sets.free;
+  };
 }

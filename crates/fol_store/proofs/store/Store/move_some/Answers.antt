@@ -8,17 +8,19 @@ use Rattle.fol_bags.specs.Slots.{slot_in}
 use Rattle.fol_store.specs.Stock.{slot, place, in_bag}
 use Rattle.fol_bags.proofs.OpenBags.{here_range, here_open, second_open}
 use Rattle.fol_store.proofs.Drawing.{with_parts, loses_none, gains_none}
-use Rattle.fol_store.proofs.Parting.{Handed, a_pair, left_over, listed_over, shift_and_list}
+use Rattle.fol_store.proofs.GoingOver.{a_pair, shift_and_list}
+use Rattle.fol_store.proofs.Parting.{Handed, left_over, listed_over, shift_and_lose}
+use Rattle.fol_store.proofs.Stepping.{here_not_taken}
 use Rattle.fol_store.proofs.store.Store.move_some.Goals as goal
 
 pub shift_bags-requires-clause-from_there : goal.shift_bags-requires-clause-from_there
 shift_bags-requires-clause-from_there c =
-    let p = a_pair _ c.args.self.now c.args.from c.args.to c.self.view_is c.requires.here c.requires.unlisted c.requires.fresh c.requires.differ in
+    let p = a_pair _ c.args.self.now c.args.from c.args.to c.self.view_is c.requires.here c.requires.fresh c.requires.differ in
     here_range c.self.inside.bags.items c.args.from p.here
 
 pub shift_bags-requires-clause-to_open : goal.shift_bags-requires-clause-to_open
 shift_bags-requires-clause-to_open c =
-    let p = a_pair _ c.args.self.now c.args.from c.args.to c.self.view_is c.requires.here c.requires.unlisted c.requires.fresh c.requires.differ in
+    let p = a_pair _ c.args.self.now c.args.from c.args.to c.self.view_is c.requires.here c.requires.fresh c.requires.differ in
     here_open c.self.inside.bags.items c.args.to p.id_here
 
 pub shift_bags-requires-clause-apart : goal.shift_bags-requires-clause-apart
@@ -28,13 +30,13 @@ shift_bags-requires-clause-apart c = λ k x y p q.
 
 pub list-requires : goal.list-requires
 list-requires c =
-    let p = a_pair _ c.args.self.now c.args.from c.args.to c.self.view_is c.requires.here c.requires.unlisted c.requires.fresh c.requires.differ in
+    let p = a_pair _ c.args.self.now c.args.from c.args.to c.self.view_is c.requires.here c.requires.fresh c.requires.differ in
     second_open c.args.from c.args.to _ _ _ _ c.requires.differ (c.shift_bags.ensures.sets.slots c.args.to) p.id_here
 
-moved : (c : goal.After-list) → Handed c.args.to c.args.lists.chunks.items (the_view c.self.inside) (with_parts (the_view c.self.inside) c.self.inside.spots.items c.list.new.bags.items c.rehome.new.self (vec_capacity c.self.inside.arrivals - vec_len c.self.inside.arrivals) c.list.new.bags.free)
+moved : (c : goal.After-list) → Handed c.args.from c.args.to c.args.lists.chunks.items (the_view c.self.inside) (with_parts (the_view c.self.inside) c.self.inside.spots.items c.list.new.bags.items c.rehome.new.self (vec_capacity c.self.inside.arrivals - vec_len c.self.inside.arrivals) c.list.new.bags.free)
 moved c =
     let s = the_view c.self.inside in
-    let p = a_pair s c.args.self.now c.args.from c.args.to c.self.view_is c.requires.here c.requires.unlisted c.requires.fresh c.requires.differ in
+    let p = a_pair s c.args.self.now c.args.from c.args.to c.self.view_is c.requires.here c.requires.fresh c.requires.differ in
     listed_over s c.list.new.bags.items c.rehome.new.self _ _ c.args.from c.args.to c.args.lists.chunks.items c.args.lists.touched.items
     (slot_in c.shift_bags.new.bags.items c.args.from).body (slot_in c.shift_bags.new.bags.items c.args.to).body
     (record {
@@ -61,10 +63,10 @@ moved c =
     })
     c.self.invariant
 
-stayed : (c : goal.After-drop-lists-in-Err-1) → Handed c.args.to c.args.lists.chunks.items (the_view c.self.inside) (with_parts (the_view c.self.inside) c.self.inside.spots.items c.shift_bags.new.bags.items c.self.inside.places (vec_capacity c.self.inside.arrivals - vec_len c.self.inside.arrivals) c.shift_bags.new.bags.free)
+stayed : (c : goal.After-drop-lists-in-Err-1) → Handed c.args.from c.args.to c.args.lists.chunks.items (the_view c.self.inside) (with_parts (the_view c.self.inside) c.self.inside.spots.items c.shift_bags.new.bags.items c.self.inside.places (vec_capacity c.self.inside.arrivals - vec_len c.self.inside.arrivals) c.shift_bags.new.bags.free)
 stayed c =
     let s = the_view c.self.inside in
-    let p = a_pair s c.args.self.now c.args.from c.args.to c.self.view_is c.requires.here c.requires.unlisted c.requires.fresh c.requires.differ in
+    let p = a_pair s c.args.self.now c.args.from c.args.to c.self.view_is c.requires.here c.requires.fresh c.requires.differ in
     left_over s c.shift_bags.new.bags.items _ _ c.args.from c.args.to c.args.lists.chunks.items
     (slot_in c.shift_bags.new.bags.items c.args.from).body (slot_in c.shift_bags.new.bags.items c.args.to).body
     (record {
