@@ -103,6 +103,10 @@ module _ (s : Stock) (bags : List Slot) (places : PlaceRows) (spare slots u id :
       };
     }
 
+-- the first of two bags that change
+pub first_is : (s : Stock) (u id : ℕ) (source target : Slot) (new : ℕ → Slot) → ((n : ℕ) → new n ≡ (if nat_eq u n then source else (if nat_eq id n then target else slot s n))) → new u ≡ source
+first_is s u id source target new each = each u ∙ rw (nat_self u) refl
+
 -- the bags after two steps: both bags change, and then the second gets lists
 pub shift_and_list : (s : Stock) (u id : ℕ) (source target : Slot) (mid new : ℕ → Slot) (lists : Slot → Slot) → u ≢ id
     → ((n : ℕ) → mid n ≡ (if nat_eq u n then source else (if nat_eq id n then target else slot s n)))

@@ -6,7 +6,6 @@ use Rattle.std.proofs.lemmas.Bool.{cases_Bool, true≢false}
 use Rattle.fol_model.specs.declared.places.ChunkPos.{ChunkPos}
 use Rattle.fol_chunks.specs.Contents.{is_recorded}
 use Rattle.fol_chunks.specs.Order.{chunk_cmp}
-use Rattle.fol_queues.proofs.Numbers.{nat_self}
 use Rattle.fol_data.specs.declared.region_data.RegionData.{RegionData}
 use Rattle.fol_bags.specs.declared.slot.Slot.{Slot}
 use Rattle.fol_store.specs.Bag.{Bag}
@@ -21,7 +20,7 @@ use Rattle.fol_store.proofs.Columns.{Moves, Stayed, moves_back}
 use Rattle.fol_store.proofs.Totals.{where_cases}
 use Rattle.fol_store.proofs.Resound.{moved_bag}
 use Rattle.fol_store.proofs.Drawing.{with_parts, Pours, at_source, at_target, apart_bags, moves_over, home_keeps, home_moves, home_cases}
-use Rattle.fol_store.proofs.GoingOver.{Pair, GoesOver, WentOver, not_here, went_over}
+use Rattle.fol_store.proofs.GoingOver.{Pair, GoesOver, WentOver, first_is, not_here, went_over}
 use Rattle.fol_store.proofs.Leaving.{one_alone}
 use Rattle.fol_store.proofs.SameLists.{without}
 use Rattle.fol_store.proofs.Stepping.{here_not_taken}
@@ -40,9 +39,25 @@ pub shift_and_lose : (s : Stock) (u id : ℕ) (source target : Slot) (mid new : 
     → ((n : ℕ) → new n ≡ (if nat_eq u n then others (mid u) else mid n))
     → (n : ℕ) → new n ≡ (if nat_eq u n then others source else (if nat_eq id n then target else slot s n))
 shift_and_lose s u id source target mid new others first second n = elim (cases_Bool (nat_eq u n)) [
-  | inl e ↦ second n ∙ rw e (ap others (first u ∙ rw (nat_self u) refl))
+  | inl e ↦ second n ∙ rw e (ap others (first_is s u id source target mid first))
   | inr e ↦ second n ∙ rw e (first n ∙ rw e refl)
 ]
+
+-- the list of the first has the chunks of the bag still
+pub poured_list : (s : Stock) (u id : ℕ) (left : RegionData) (target : Slot) (mid : ℕ → Slot)
+    → ((n : ℕ) → mid n ≡ (if nat_eq u n then (record (slot s u) { body = left; listed = false }) else (if nat_eq id n then target else slot s n)))
+    → IsSound s → (slot s u).here ≡ true → (mid u).list ≡ (slot s u).chunks
+poured_list s u id left target mid each h here =
+    ap (λ (b : Slot). b.list) (first_is s u id (record (slot s u) { body = left; listed = false }) target mid each) ∙ (h.bags u).list (here_not_taken u s h here)
+
+-- what contracts see of a bag that is listed
+pub was_listed : (s v : Stock) (u : ℕ) (b : Bool) → s ≡ v → b ≡ (bag_of v u).listed → b ≡ true → (slot s u).listed ≡ true
+unfolding bag_of
+was_listed s v u b e f l = subst (λ w. (slot w u).listed ≡ true) (sym e) (sym f ∙ l)
+
+pub was_in_order : (s v : Stock) (u : ℕ) → s ≡ v → IsInOrder (bag_of v u) → (slot s u).listed ≡ true → IsStrictlySortedBy chunk_cmp (slot s u).chunks
+unfolding bag_of
+was_in_order s v u e order = subst (λ w. (slot w u).listed ≡ true → IsStrictlySortedBy chunk_cmp (slot w u).chunks) (sym e) order
 
 -- ---- some things go over, and the first bag has other chunks then
 module _ (s : Stock) (bags : List Slot) (places : PlaceRows) (spare slots u id : ℕ) (moved chunks : List ChunkPos) (left : RegionData) (listed : Bool) (rest list : List ChunkPos) (target : Slot) where
