@@ -1,5 +1,5 @@
 -- The bag of a region is exchanged with a fresh one.
-use Rattle.std.proofs.Common.{◌≡◌, ◌≢◌, ℕ, ◌<◌, ◌≤◌, true, false, not, ◌||◌, List, [], refl, sym, ◌∙◌, ap, subst, inl, inr, Option, Some, None}
+use Rattle.std.proofs.Common.{◌≡◌, ◌≢◌, ℕ, ◌<◌, ◌≤◌, true, false, not, ◌||◌, List, refl, sym, ◌∙◌, ap, subst, inl, inr, Option, Some, None}
 use Rattle.std.specs.Prelude.{nat_eq, if◌then◌else◌, length}
 use Rattle.std.specs.Option.{option_or}
 use Rattle.std.proofs.lemmas.Bool.{cases_Bool, eqb-true, true≢false}
@@ -17,7 +17,7 @@ use Rattle.fol_store.specs.Steps.{SameWorld}
 use Rattle.fol_store.proofs.Columns.{Stayed, filter_no, filter_yes, moves_back}
 use Rattle.fol_store.proofs.Totals.{where_cases}
 use Rattle.fol_store.proofs.Drawing.{with_parts, Pours, at_source, at_target, apart_bags, moves_over, home_moves, home_cases}
-use Rattle.fol_store.proofs.GoingOver.{Pair, GoesOver, WentOver, went_over, shift_and_list}
+use Rattle.fol_store.proofs.GoingOver.{Pair, WentOver, went_over, shift_and_list}
 use Rattle.fol_store.proofs.Stepping.{here_not_taken}
 
 never : {P : Type 0} → false ≡ true → P

@@ -16,11 +16,11 @@ use Rattle.fol_store.specs.Stock.{Stock, Where, arriving, in_spot, in_bag, slot,
 use Rattle.fol_store.specs.Sound.{Near, IsBag, IsSound}
 use Rattle.fol_store.specs.Noted.{AreNoted}
 use Rattle.fol_store.specs.Steps.{SameWorld}
-use Rattle.fol_store.proofs.Columns.{Moves, Stayed, moves_back}
+use Rattle.fol_store.proofs.Columns.{Stayed, moves_back}
 use Rattle.fol_store.proofs.Totals.{where_cases}
 use Rattle.fol_store.proofs.Resound.{moved_bag}
 use Rattle.fol_store.proofs.Drawing.{with_parts, Pours, at_source, at_target, apart_bags, moves_over, home_keeps, home_moves, home_cases}
-use Rattle.fol_store.proofs.GoingOver.{Pair, GoesOver, WentOver, first_is, not_here, went_over}
+use Rattle.fol_store.proofs.GoingOver.{Pair, WentOver, first_is, not_here, went_over}
 use Rattle.fol_store.proofs.Leaving.{one_alone}
 use Rattle.fol_store.proofs.SameLists.{without}
 use Rattle.fol_store.proofs.Stepping.{here_not_taken}

@@ -10,7 +10,7 @@
 //! have it gathered anew, that `take` and `put` hand out and take back exactly what lies in a bag, and that `into_rows` lists all
 //! that the store holds. A bag that a worker has keeps its chunks, and `gain` and `lose` note those that come and leave meanwhile;
 //! once the bag is back, `next_change` gives them one by one, for the bag to follow. Only `new`, `reserve`, `gather`, `settle`,
-//! `gain`, `lose`, `unite`, `hand_over`, `succeed` and `into_rows` take memory; `accept` takes some where there is. It serves the core.
+//! `gain`, `lose`, `unite`, `hand_over` and `into_rows` take memory; `accept` takes some where there is. It serves the core.
 #![tactic(auto)]
 
 mod rows;

@@ -55,7 +55,8 @@ impl Store {
         }
     }
 
-    /// A region is over, and a part of it takes its place: the part's bag is the region's then, with its list and all that lies in it; nothing moves. The region's bag is closed.
+    /// A region is over, and a part of it takes its place: the part's bag is the region's then, with its list and all that lies in it; nothing moves. The region's bag is closed. Takes no
+    /// memory.
     pub fn succeed(&mut self, from: u64, to: u64)
         requires here { (bag_of self.old from).here ≡ true }
         requires fresh { IsUngathered (bag_of self.old to) }

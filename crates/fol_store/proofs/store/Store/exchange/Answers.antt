@@ -8,7 +8,6 @@ use Rattle.fol_bags.specs.Places.{rehomed}
 use Rattle.fol_bags.specs.Slots.{slot_in}
 use Rattle.fol_store.specs.Stock.{slot, place}
 use Rattle.fol_bags.proofs.OpenBags.{here_range, here_open, second_open}
-use Rattle.fol_store.proofs.Drawing.{with_parts}
 use Rattle.fol_store.proofs.GoingOver.{a_pair}
 use Rattle.fol_store.proofs.Exchanging.{Exchanged, bags_exchanged, exchanged, same_numbers}
 use Rattle.fol_store.proofs.store.Store.exchange.Goals as goal
