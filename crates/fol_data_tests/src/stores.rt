@@ -299,8 +299,7 @@ fn parts(store: &mut Store, alloc: Global) -> Result<bool, AllocError>
     store.unsettle(3);
     let west = Vec::from_slice(alloc, &CHUNKS[..1])?;
     store.hand_over(1, 2, west);
-    let east = Vec::from_slice(alloc, &CHUNKS[1..])?;
-    store.succeed(1, 3, east);
+    store.succeed(1, 3);
     store.accept(task(4, CHUNKS[0]), 9);
     if !store.is_listed(3) {
         return Ok(false);

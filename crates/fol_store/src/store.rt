@@ -1,6 +1,6 @@
 //! The store.
 
-ghost use Rattle.std.specs.Prelude.{nat_lt, nat_le, if◌then◌else◌, ◌≡◌, ◌+◌, ◌≤◌, ◌<◌, ◌^◌, not, ◌||◌, true, false, ℕ, IsTrue, IsNone, IfOk, OnOk, OnErr, All};
+ghost use Rattle.std.specs.Prelude.{nat_lt, nat_le, if◌then◌else◌, ◌≡◌, ◌+◌, ◌≤◌, ◌<◌, ◌^◌, not, ◌||◌, true, false, ℕ, IsTrue, IsNone, IfOk, IfSome, OnOk, OnErr, All};
 ghost use Rattle.std.specs.Option.{option_or, is_none, ForSome};
 ghost use Rattle.std.specs.List.Sorted.{IsStrictlySortedBy};
 ghost use Rattle.std.specs.Ordering.{nat_cmp};
@@ -147,6 +147,14 @@ impl Store {
         ensures { result ≡ (bag_of self.now id).listed }
     {
         self.bags.slot(id as usize).listed
+    }
+
+    /// The chunks of a bag that is here, as one list; `None` where changes of it wait.
+    pub fn chunks(&self, id: u64) -> Option<&[ChunkPos]>
+        requires { (bag_of self.now id).here ≡ true }
+        ensures { IfSome result (λ chunks. chunks.now ≡ (bag_of self.now id).chunks) }
+    {
+        self.bags.slot(id as usize).list.as_slice()
     }
 
     /// Whether the bag of a region is whole: nothing outside it lies on its chunks, and nothing in it lies elsewhere.

@@ -1,24 +1,23 @@
 -- An added hold: bags, counters and stack after it.
 use Rattle.std.proofs.Common.{◌≡◌, ◌≢◌, ℕ, ◌+◌, ◌≤◌, ◌<◌, refl, sym, ◌∙◌, ap, subst, arith, true, false, inl, inr, ◌⊎◌, List, [], ◌∷◌, ◌++◌, length, ◌&&◌, not}
 use Rattle.std.specs.Prelude.{nat_eq, nat_lt}
-use Rattle.std.proofs.lemmas.Bool.{cases_Bool, cases_eq, eqb-true, eq-eqb, ne_eqb, leb-true, lt-ltb, ltb-true, and_parts, and_from, and_right, or_right, true≢false}
+use Rattle.std.proofs.lemmas.Bool.{cases_Bool, cases_eq, eqb-true, eq-eqb, ne_eqb, lt-ltb, and_parts, and_from, and_right, or_right, true≢false}
 use Rattle.fol_model.specs.declared.places.ChunkPos.{ChunkPos}
 use Rattle.fol_model.specs.declared.regions.State.{State}
 use Rattle.fol_model.specs.declared.regions.State.TheVariants.{Transient, Ready, Ticking, Dead}
-use Rattle.fol_model.specs.Geometry.{is_chunk, is_within, same_chunk, section_of}
+use Rattle.fol_model.specs.Geometry.{is_chunk, same_chunk, section_of}
 use Rattle.fol_model.specs.GridNumbers.{IsGrid}
-use Rattle.fol_model.specs.Universe.{all_chunks, all_sections, numbers_below}
-use Rattle.fol_model.specs.GridState.{GridState, is_loaded, is_present, is_ready, is_ticking}
+use Rattle.fol_model.specs.Universe.{all_chunks, numbers_below}
+use Rattle.fol_model.specs.GridState.{GridState, is_loaded, is_ready, is_ticking}
 use Rattle.fol_model.specs.Counting.{greatest_below, some_below}
 use Rattle.fol_model.specs.Counters.{owed_after_add}
-use Rattle.fol_model.specs.Add.{add, counted, extended, is_full, is_wanted, is_near, is_near_calm, is_near_ticking, target, target_state, target_waits, wanted}
+use Rattle.fol_model.specs.Add.{add, counted, extended, is_full, is_near, is_near_calm, is_near_ticking, target, target_state, target_waits, wanted}
 use Rattle.fol_model.specs.ActionStep.{Recorded, at_id}
 use Rattle.fol_model.specs.Outputs.{is_chunk_of}
 use Rattle.fol_model.specs.Rules.{Rules}
 use Rattle.fol_laws.proofs.AddEffect.{state_stays, state_target, target_transient}
 use Rattle.fol_laws.proofs.AddTarget.{calm_below, near_lives, target_is}
 use Rattle.fol_laws.proofs.FunctionsChanged.{at_here}
-use Rattle.fol_laws.proofs.ListCounts.{count_by-none}
 use Rattle.fol_laws.proofs.NumbersBelow.{some_below-is, some_below-gives}
 use Rattle.fol_laws.proofs.SamePlaces.{same_chunk-true}
 use Rattle.fol_regions.specs.Changes.{Changes, add_change, drawn_in, into, nothing}

@@ -54,7 +54,7 @@ use Rattle.fol_world.specs.Hands.{at_rest, in_hands, since}
 use Rattle.fol_world.specs.MostParts.{parts_at_most}
 use Rattle.fol_world.specs.Follows.{Settle}
 use Rattle.fol_world.specs.Released.{CanEnd, CanRelease, DropsHolds, EndsRegion, Loosens, heirs, parts_in, released_bags}
-use Rattle.fol_world.proofs.ReturnedBags.{back_joins, back_order, returned_settle}
+use Rattle.fol_world.proofs.ReturnedBags.{back_joins, back_order, returned_lists, returned_settle}
 use Rattle.fol_world.proofs.SettledBags.{settled_bags}
 use Rattle.fol_world.specs.Stands.{Fits, Stands}
 use Rattle.fol_world.specs.Underway.{AreFit, Ends, HasRoomFor, MayAcceptAll, Midway, Underway}
@@ -336,6 +336,7 @@ module _ (t : Tables) (tick : Tick) (o : Opening) (h : List Entry) (s : Stands o
       joins = λ b is. back_joins g r u.ends.ending.sound.rules u.ends.ending.sound.grid u.ends.ending.ticks z.tick z.owed z.recorded (bag_of t2.store) u.midway.stored.bags b is (release_change g r).merges to.joins;
       order = back_order g r u.ends.ending.sound.rules u.ends.ending.sound.grid u.ends.ending.ticks z.tick z.owed z.recorded (bag_of t2.store) u.midway.stored.bags;
       settles = returned_settle g r u.ends.ending.sound.rules u.ends.ending.sound.grid u.ends.ending.ticks z.tick z.owed z.recorded (bag_of t2.store) u.midway.stored.bags;
+      lists = returned_lists g r u.ends.ending.sound.rules u.ends.ending.sound.grid u.ends.ending.ticks z.tick z.owed z.recorded (bag_of t2.store) u.midway.stored.bags;
       follow = rw u.midway.stored.next to.follow;
       slots = omega (arith, parts_few, u.room.slots);
       bags = have_bags (release g r) (tick_after_release g r z.tick) (owed_after_release g r z.owed) z.recorded (released_bags (release g r) (release_change g r) r (z.tick r) (z.owed r) (bag_of t2.store)) to.bags;

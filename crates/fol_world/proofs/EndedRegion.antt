@@ -2,7 +2,7 @@
 use Rattle.std.proofs.Common.{◌≡◌, ℕ, ◌+◌, sym, ◌∙◌, ap, subst, arith, true, List, length}
 use Rattle.fol_model.specs.declared.places.ChunkPos.{ChunkPos}
 use Rattle.fol_model.specs.ActionStep.{at_id}
-use Rattle.fol_model.specs.GridState.{GridState}
+use Rattle.fol_model.specs.GridState.{GridState, is_dead}
 use Rattle.fol_model.specs.Release.{release}
 use Rattle.fol_laws.proofs.FunctionsChanged.{at_here}
 use Rattle.fol_regions.specs.Changes.{release_change}
@@ -13,7 +13,7 @@ use Rattle.fol_store.specs.Stock.{bag_of, next_of}
 use Rattle.fol_world.specs.declared.tables.Tables.{Tables}
 use Rattle.fol_world.specs.Bags.{AreInOrder, CanJoin, Joins}
 use Rattle.fol_world.specs.Follows.{Settle}
-use Rattle.fol_world.specs.Released.{BringsBack, CanEnd, EndsRegion, IsReturned, MayRelease, Releases, parted_in, parts_in, released_bags}
+use Rattle.fol_world.specs.Released.{BringsBack, CanEnd, EndsRegion, HasChunksOfAll, IsReturned, MayRelease, Releases, parted_in, parts_in, released_bags}
 use Rattle.fol_world.proofs.CatchingUp.{place_twice}
 
 -- the bag of r once it was put back, and once it followed the chunks that it noted
@@ -42,6 +42,10 @@ module _ (t u : Tables) (r : ℕ) (places : List ChunkPos) (body : RegionData) (
       → ((h r).here ≡ true) × Settle (release (grid_state t.regions) r) after (parted_in (release (grid_state t.regions) r) (release_change (grid_state t.regions) r) r h)
   settles h joins = can.can.settles (bag_of u.store r) back.own h (subst (λ (f : ℕ → Bag). Joins (release_change (grid_state t.regions) r).merges f h) back.bags joins)
 
+  lists : (h : ℕ → Bag) → Joins (release_change (grid_state t.regions) r).merges (bag_of u.store) h → is_dead ((release (grid_state t.regions) r).state r) ≡ true
+      → HasChunksOfAll (release (grid_state t.regions) r) (release_change (grid_state t.regions) r).parts (h r)
+  lists h joins = can.can.lists (bag_of u.store r) back.own h (subst (λ (f : ℕ → Bag). Joins (release_change (grid_state t.regions) r).merges f h) back.bags joins)
+
   pub may_release : MayRelease u r
   may_release =
       let e = back.regions in
@@ -50,12 +54,14 @@ module _ (t u : Tables) (r : ℕ) (places : List ChunkPos) (body : RegionData) (
       let a = back.agenda in
       rw e (record {
         ticks = can.comes.ticks;
+        grid = back.grid ∙ can.comes.grid;
         spare = can.spare;
         few_ids = can.few_ids;
         after = after;
         joins = subst (CanJoin (release_change (grid_state t.regions) r).merges) (sym b) (can.can.joins (bag_of u.store r) back.own);
         order = subst AreInOrder (sym b) (can.can.order (bag_of u.store r) back.own);
         settles = settles;
+        lists = lists;
         follow = rw n can.can.follow;
         slots = omega (arith, can.can.slots, back.slots);
         bags = can.can.bags;

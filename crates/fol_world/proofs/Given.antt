@@ -35,7 +35,7 @@ module _ (g : GridState) (r : ℕ) where
   unfolding release_change
   none_rested w k = rw (w, k) refl
 
-  parts_are : must_wait g r ≡ false → cleans g r ≡ true → (release_change g r).parts ≡ part_ids g r
+  pub parts_are : must_wait g r ≡ false → cleans g r ≡ true → (release_change g r).parts ≡ part_ids g r
   unfolding release_change
   parts_are w k = rw (w, k) refl
 

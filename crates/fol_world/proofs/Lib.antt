@@ -5,6 +5,7 @@ pub mod TicketRuns
 -- steps
 pub mod Longer
 pub mod Flats
+pub mod FollowedIds
 pub mod BagSteps
 pub mod JoinedBags
 pub mod UnsettledBags
@@ -40,6 +41,7 @@ pub mod UnitedBags
 pub mod GainedBags
 pub mod ReturnedBags
 pub mod LeastFound
+pub mod LeftChunks
 pub mod Given
 pub mod BlockRuns
 pub mod KeyedRows

@@ -1,7 +1,7 @@
 -- The bags after a release.
 use Rattle.std.proofs.Common.{◌≡◌, ◌≢◌, ℕ, ◌+◌, ◌≤◌, ◌<◌, le_antisymm, refl, sym, ◌∙◌, ap, subst, arith, true, false, inl, inr, List, [], ◌&&◌, not, filter}
 use Rattle.std.specs.Prelude.{nat_eq, nat_lt, nat_le, if◌then◌else◌, ◌↔◌}
-use Rattle.std.proofs.lemmas.Bool.{cases_Bool, cases_eq, eqb-true, eq-eqb, ne_eqb, leb-true, ltb-true, and_parts, and_from, and_right, or_cases, or_left, or_right, true≢false, false_from_ne_true}
+use Rattle.std.proofs.lemmas.Bool.{cases_Bool, cases_eq, eqb-true, eq-eqb, ne_eqb, leb-true, ltb-true, le-leb, lt-ltb, and_parts, and_from, and_right, or_cases, or_left, or_right, true≢false, false_from_ne_true}
 use Rattle.std.proofs.lemmas.List.Kept.{IsStrictlySortedBy-filter}
 use Rattle.std.specs.Ordering.{nat_cmp}
 use Rattle.fol_model.specs.declared.places.ChunkPos.{ChunkPos}
@@ -19,6 +19,8 @@ use Rattle.fol_model.specs.ActionStep.{Recorded, at_id}
 use Rattle.fol_model.specs.Outputs.{is_chunk_of}
 use Rattle.fol_model.specs.Rules.{Rules}
 use Rattle.fol_laws.proofs.AddTarget.{is_ticking-true}
+use Rattle.fol_laws.proofs.CleanedGrid.{margin_from, part_cases}
+use Rattle.fol_laws.proofs.Distances.{self_distance}
 use Rattle.fol_laws.proofs.FunctionsChanged.{at_here, at_other}
 use Rattle.fol_laws.proofs.GreatestBelow.{greatest-at_least, greatest-at_most}
 use Rattle.fol_laws.proofs.NumbersBelow.{some_below-is}
@@ -227,7 +229,7 @@ module _ (g : GridState) (r : ℕ) (rules : Rules g) (ok : IsGrid g.grid) (ticks
 
     -- ---- r waits itself now
     module _ (waits : must_wait g r ≡ true) where
-      held_state : (q : ℕ) → after.state q ≡ (if nat_eq q r then Transient else (if g.waits q r then Dead else g.state q))
+      pub held_state : (q : ℕ) → after.state q ≡ (if nat_eq q r then Transient else (if g.waits q r then Dead else g.state q))
       unfolding release
       held_state q = rw waits refl
 
@@ -311,6 +313,19 @@ module _ (g : GridState) (r : ℕ) (rules : Rules g) (ok : IsGrid g.grid) (ticks
       unfolding release
       cleaned_owner s = rw (free, cleaning) refl
 
+      -- a section of a part is one of the region, once the others joined
+      pub part_joined : (q : ℕ) → is_part_id g r q ≡ true → (s : SectionPos) → after.owner s ≡ q → joined_owner g r s ≡ r
+      part_joined q p s e = elim (cases_Bool (nat_eq (joined_owner g r s) r)) [
+        | inl k ↦ eqb-true (joined_owner g r s) r k
+        | inr k ↦
+            let x : after.owner s ≡ g.owner s = cleaned_owner s ∙ rw k refl in
+            let o : g.owner s ≡ q = sym x ∙ e in
+            let a = part_above q p in
+            let n = rules.next_id in
+            let b = rules.below_next (g.owner s) (rules.owner_lives s (omega arith)) in
+            absurd (omega arith)
+      ]
+
       new_part : (q : ℕ) → is_new_part g r q ≡ is_part_id g r q
       new_part q = rw (free, cleaning) refl
 
@@ -370,6 +385,21 @@ module _ (g : GridState) (r : ℕ) (rules : Rules g) (ok : IsGrid g.grid) (ticks
             (λ h. (and_parts (is_part_id g r q) (among q (numbers_below (g.next + parts g r))) h).0)
             (λ h. and_from (is_part_id g r q) (among q (numbers_below (g.next + parts g r))) h (in_numbers (g.next + parts g r) q
             (ltb-true _ _ (and_parts (nat_le g.next q) (nat_lt q (g.next + parts g r)) (and_parts (nat_le 2 (parts g r)) (nat_le g.next q && nat_lt q (g.next + parts g r)) h).1).1)))
+
+        -- the section of a loaded chunk of the region, once the others joined, is in a part
+        pub loaded_part : (c : ChunkPos) → 0 < g.holds c → joined_owner g r (section_of g.grid c) ≡ r → is_part_id g r (after.owner (section_of g.grid c)) ≡ true
+        loaded_part c held x =
+            let s = section_of g.grid c in
+            let m : in_margin g s ≡ true = margin_from g r rules ok ticks free c s held (omega (arith, self_distance s)) in
+            let j : nat_eq (joined_owner g r s) r ≡ true = eq-eqb _ _ x in
+            let o : after.owner s ≡ part_id g r s = cleaned_owner s ∙ rw (j, m) refl in
+            elim (part_cases g r rules ok ticks free s (and_from (nat_eq (joined_owner g r s) r) (in_margin g s) j m)) [
+              | inl k ↦ absurd (true≢false (sym (eq-eqb _ _ k.0) ∙ several))
+              | inr k ↦
+                  let e = o ∙ k.1 in
+                  let p : is_part_id g r (g.next + part_of g r s) ≡ true = and_from _ _ (le-leb _ _ k.0) (and_from _ _ (le-leb g.next (g.next + part_of g r s) (omega arith)) (lt-ltb _ _ (omega (arith, k.2)))) in
+                  rw e p
+            ]
 
         parted_off : (q : ℕ) → is_part_id g r q ≡ false → parted ids r all q ≡ bare q
         parted_off q p = opened_off (all r).tick (all r).owed ids bare q (among_ids q ∙ p)

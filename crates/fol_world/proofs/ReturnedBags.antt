@@ -1,17 +1,18 @@
 -- The bags after a release, once regions joined the one that came back.
-use Rattle.std.proofs.Common.{◌≡◌, ◌≢◌, ℕ, ◌<◌, refl, sym, ◌∙◌, ap, subst, arith, true, false, inl, inr, ◌&&◌, List, filter}
+use Rattle.std.proofs.Common.{◌≡◌, ◌≢◌, ℕ, ◌<◌, refl, sym, ◌∙◌, ap, subst, arith, Bool, true, false, inl, inr, ◌&&◌, List, filter}
 use Rattle.std.specs.Prelude.{nat_eq, nat_lt, ◌↔◌}
 use Rattle.std.specs.List.Sorted.{IsStrictlySortedBy}
 use Rattle.std.proofs.Math.Path.{fun_ext}
 use Rattle.std.proofs.lemmas.Bool.{cases_Bool, cases_eq, and_from, and_parts, eq-eqb, eqb-false, eqb-true, ltb-true, true≢false}
 use Rattle.fol_model.specs.declared.places.ChunkPos.{ChunkPos}
 use Rattle.fol_model.specs.declared.places.SectionPos.{SectionPos}
-use Rattle.fol_model.specs.declared.regions.State.TheVariants.{Dead, Ticking, Transient}
+use Rattle.fol_model.specs.declared.regions.State.TheVariants.{Dead, Ready, Ticking, Transient}
 use Rattle.fol_model.specs.Geometry.{section_of}
 use Rattle.fol_model.specs.GridNumbers.{IsGrid}
 use Rattle.fol_model.specs.Universe.{all_chunks}
 use Rattle.fol_model.specs.GridState.{GridState, in_margin, is_dead}
 use Rattle.fol_model.specs.Release.{cleans, joined_owner, must_wait, parts, release}
+use Rattle.fol_model.specs.declared.regions.State.{State}
 use Rattle.fol_model.specs.ActionStep.{Recorded, at_id}
 use Rattle.fol_model.specs.Outputs.{is_chunk_of}
 use Rattle.fol_model.specs.Rules.{Rules}
@@ -19,16 +20,19 @@ use Rattle.fol_laws.proofs.CleanedGrid.{margin_from}
 use Rattle.fol_laws.proofs.Distances.{self_distance}
 use Rattle.fol_laws.proofs.FunctionsChanged.{at_here, at_other}
 use Rattle.fol_laws.proofs.ReleaseKeeps.{grid_release, holds_release}
+use Rattle.fol_laws.proofs.Tests.{same_answer}
 use Rattle.fol_regions.specs.declared.change.MergePair.{MergePair}
-use Rattle.fol_regions.specs.Changes.{into, release_change, waiting_for}
+use Rattle.fol_regions.specs.Changes.{into, part_ids, release_change, waiting_for}
 use Rattle.fol_chunks.specs.Order.{chunk_cmp}
 use Rattle.fol_store.specs.Bag.{Bag, no_bag}
 use Rattle.fol_store.specs.Relisted.{IsInOrder}
 use Rattle.fol_world.specs.Bags.{Alike, AreInOrder, CanJoin, IsBagOf, Joins, joined_bags}
 use Rattle.fol_world.specs.Begun.{Gathered}
 use Rattle.fol_world.specs.Follows.{Settle}
-use Rattle.fol_world.specs.Released.{IsReturned, opened_parts, parted, parted_in, released_bags, returned_bag}
+use Rattle.fol_world.specs.Released.{HasChunksOfAll, IsReturned, is_chunk_among, opened_parts, parted, parted_in, released_bags, returned_bag}
+use Rattle.fol_world.proofs.AddBags.{same_filter}
 use Rattle.fol_world.proofs.ChunkLists.{kept_sorted}
+use Rattle.fol_world.proofs.Given.{parts_are}
 use Rattle.fol_world.proofs.JoinedBags.{JoinedInto, among, joined_into}
 use Rattle.fol_world.proofs.ReleasedBags as rb
 use Rattle.fol_world.proofs.SettledBags.{gathered_self, settle_same}
@@ -188,20 +192,81 @@ module _ (g : GridState) (r : ℕ) (rules : Rules g) (ok : IsGrid g.grid) (ticks
         out = λ x. absurd (true≢false (sym x ∙ all_home));
       }
 
-      chunk_is : (c : ChunkPos) → is_chunk_of after r c ≡ (nat_lt 0 (g.holds c) && nat_eq (after.owner (section_of g.grid c)) r)
-      chunk_is c = rw (grid_release g r, holds_release g r) refl
+      chunk_is : (q : ℕ) (c : ChunkPos) → is_chunk_of after q c ≡ (nat_lt 0 (g.holds c) && nat_eq (after.owner (section_of g.grid c)) q)
+      chunk_is q c = rw (grid_release g r, holds_release g r) refl
 
-      whole : Keeps → (h r).listed ≡ true → (h r).chunks ≡ filter (is_chunk_of after r) all_chunks
-      whole keep w = union_list g r us back h u back_is w (joins_order (into r us) back h back_order joins r r_here) (is_chunk_of after r)
+      -- the loaded chunks of all that united
+      abbrev was_chunk : ChunkPos → Bool
+      was_chunk c = nat_lt 0 (g.holds c) && nat_eq (joined_owner g r (section_of g.grid c)) r
+
+      united_list : (h r).listed ≡ true → (h r).chunks ≡ filter was_chunk all_chunks
+      united_list w = union_list g r us back h u back_is w (joins_order (into r us) back h back_order joins r r_here) was_chunk
           (λ c e.
-          let p = and_parts (nat_lt 0 (g.holds c)) (nat_eq (after.owner (section_of g.grid c)) r) (sym (chunk_is c) ∙ e) in
-          let x = (keep c (ltb-true 0 (g.holds c) p.0)).0 (eqb-true (after.owner (section_of g.grid c)) r p.1) in
+          let p = and_parts (nat_lt 0 (g.holds c)) (nat_eq (joined_owner g r (section_of g.grid c)) r) e in
+          let x = eqb-true (joined_owner g r (section_of g.grid c)) r p.1 in
           (g.owner (section_of g.grid c), was_part (section_of g.grid c) x, and_from (nat_lt 0 (g.holds c)) (nat_eq (g.owner (section_of g.grid c)) (g.owner (section_of g.grid c))) p.0 (eq-eqb _ _ refl)))
           (λ c q p e.
           let b = and_parts (nat_lt 0 (g.holds c)) (nat_eq (g.owner (section_of g.grid c)) q) e in
           let o : g.owner (section_of g.grid c) ≡ q = eqb-true (g.owner (section_of g.grid c)) q b.1 in
-          let x = (keep c (ltb-true 0 (g.holds c) b.0)).1 (part_joins (section_of g.grid c) (subst (IsPart r us) (sym o) p)) in
-          chunk_is c ∙ and_from (nat_lt 0 (g.holds c)) (nat_eq (after.owner (section_of g.grid c)) r) b.0 (eq-eqb (after.owner (section_of g.grid c)) r x))
+          let x = part_joins (section_of g.grid c) (subst (IsPart r us) (sym o) p) in
+          and_from (nat_lt 0 (g.holds c)) (nat_eq (joined_owner g r (section_of g.grid c)) r) b.0 (eq-eqb (joined_owner g r (section_of g.grid c)) r x))
+
+      whole : Keeps → (h r).listed ≡ true → (h r).chunks ≡ filter (is_chunk_of after r) all_chunks
+      whole keep w = united_list w ∙ same_filter was_chunk (is_chunk_of after r) all_chunks (λ c. same_answer (was_chunk c) (is_chunk_of after r c)
+          (λ e.
+          let p = and_parts (nat_lt 0 (g.holds c)) (nat_eq (joined_owner g r (section_of g.grid c)) r) e in
+          let x = (keep c (ltb-true 0 (g.holds c) p.0)).1 (eqb-true (joined_owner g r (section_of g.grid c)) r p.1) in
+          chunk_is r c ∙ and_from (nat_lt 0 (g.holds c)) (nat_eq (after.owner (section_of g.grid c)) r) p.0 (eq-eqb (after.owner (section_of g.grid c)) r x))
+          (λ e.
+          let p = and_parts (nat_lt 0 (g.holds c)) (nat_eq (after.owner (section_of g.grid c)) r) (sym (chunk_is r c) ∙ e) in
+          let x = (keep c (ltb-true 0 (g.holds c) p.0)).0 (eqb-true (after.owner (section_of g.grid c)) r p.1) in
+          and_from (nat_lt 0 (g.holds c)) (nat_eq (joined_owner g r (section_of g.grid c)) r) p.0 (eq-eqb (joined_owner g r (section_of g.grid c)) r x)))
+
+      among_is : (ids : List ℕ) (c : ChunkPos) → is_chunk_among after ids c ≡ (nat_lt 0 (g.holds c) && among (after.owner (section_of g.grid c)) ids)
+      among_is ids c = rw (grid_release g r, holds_release g r) refl
+
+      -- where the region is over, these are the loaded chunks of its parts
+      parts_list : must_wait g r ≡ false → cleans g r ≡ true → nat_eq (parts g r) 1 ≡ false → (h r).listed ≡ true → (h r).chunks ≡ filter (is_chunk_among after (part_ids g r)) all_chunks
+      parts_list free cleaning several w = united_list w ∙ same_filter was_chunk (is_chunk_among after (part_ids g r)) all_chunks (λ c. same_answer (was_chunk c) (is_chunk_among after (part_ids g r) c)
+          (λ e.
+          let p = and_parts (nat_lt 0 (g.holds c)) (nat_eq (joined_owner g r (section_of g.grid c)) r) e in
+          let x = rb.loaded_part g r rules ok ticks tick owed recorded f bags free cleaning several c (ltb-true 0 (g.holds c) p.0) (eqb-true (joined_owner g r (section_of g.grid c)) r p.1) in
+          among_is (part_ids g r) c ∙ and_from (nat_lt 0 (g.holds c)) (among (after.owner (section_of g.grid c)) (part_ids g r)) p.0
+          (rb.among_ids g r rules ok ticks tick owed recorded f bags free cleaning several (after.owner (section_of g.grid c)) ∙ x))
+          (λ e.
+          let p = and_parts (nat_lt 0 (g.holds c)) (among (after.owner (section_of g.grid c)) (part_ids g r)) (sym (among_is (part_ids g r) c) ∙ e) in
+          let k = sym (rb.among_ids g r rules ok ticks tick owed recorded f bags free cleaning several (after.owner (section_of g.grid c))) ∙ p.1 in
+          let x = rb.part_joined g r rules ok ticks tick owed recorded f bags free cleaning (after.owner (section_of g.grid c)) k (section_of g.grid c) refl in
+          and_from (nat_lt 0 (g.holds c)) (nat_eq (joined_owner g r (section_of g.grid c)) r) p.0 (eq-eqb (joined_owner g r (section_of g.grid c)) r x)))
+
+      -- where it is over, it is cleaned, and has not one part
+      all_listed : is_dead (after.state r) ≡ true → (h r).listed ≡ true → (h r).chunks ≡ filter (is_chunk_among after (release_change g r).parts) all_chunks
+      all_listed dead w = elim (cases_Bool (must_wait g r)) [
+        | inl k ↦ let t : after.state r ≡ Transient = rb.held_state g r rules ok ticks tick owed recorded f bags k r ∙ rw itself refl in absurd (lives Transient t refl)
+        | inr k ↦ elim (cases_Bool (cleans g r)) [
+          | inr l ↦ let t : after.state r ≡ Ready = rb.rested_state g r rules ok ticks tick owed recorded f bags k l r ∙ rw itself refl in absurd (lives Ready t refl)
+          | inl l ↦ elim (cases_Bool (nat_eq (parts g r) 1)) [
+            | inl one ↦
+                let no_part = rb.old_no_part g r rules ok ticks r (rb.r_below g r rules ok ticks) in
+                let t : after.state r ≡ Ready = rb.cleaned_state g r rules ok ticks tick owed recorded f bags k l r ∙ rw (no_part, itself, one) refl in
+                absurd (lives Ready t refl)
+            | inr several ↦ subst (λ (ids : List ℕ). (h r).chunks ≡ filter (is_chunk_among after ids) all_chunks) (sym (parts_are g r k l)) (parts_list k l several w)
+          ]
+        ]
+      ]
+        where
+          itself : nat_eq r r ≡ true
+          itself = eq-eqb r r refl
+
+          lives : (s : State) → after.state r ≡ s → is_dead s ≡ false → ⊥
+          lives s e alive = true≢false (sym dead ∙ ap is_dead e ∙ alive)
+
+      has_all : is_dead (after.state r) ≡ true → HasChunksOfAll after (release_change g r).parts (h r)
+      has_all dead = record {
+        home = alike_r.taken ∙ all_home;
+        since = alike_r.since all_home ∙ j.since ∙ ap (λ (x : Bag). x.since) base_here;
+        listed = all_listed dead;
+      }
 
       settle_live : is_dead (after.state r) ≡ false → Settle after all h
       settle_live lives q = elim (cases_eq q r) [
@@ -230,3 +295,8 @@ module _ (g : GridState) (r : ℕ) (rules : Rules g) (ok : IsGrid g.grid) (ticks
     returned_settle h joins =
         let P : List MergePair → Type 0 = λ ms. Joins ms back h → ((h r).here ≡ true) × Settle after (parted_in after (release_change g r) r (joined_bags ms base)) (parted_in after (release_change g r) r h) in
         subst P (sym merges_are) (λ k. (r_here h k, settled h k)) joins
+
+    pub returned_lists : (h : ℕ → Bag) → Joins (release_change g r).merges back h → is_dead (after.state r) ≡ true → HasChunksOfAll after (release_change g r).parts (h r)
+    returned_lists h joins dead =
+        let P : List MergePair → Type 0 = λ ms. Joins ms back h → HasChunksOfAll after (release_change g r).parts (h r) in
+        subst P (sym merges_are) (λ k. has_all h k dead) joins

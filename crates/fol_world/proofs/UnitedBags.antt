@@ -20,7 +20,8 @@ use Rattle.fol_world.specs.Bags.{Alike, AreInOrder, CanJoin, IsBagOf, Joins, Joi
 use Rattle.fol_world.specs.Begun.{Gathered}
 use Rattle.fol_world.proofs.ChunkLists.{kept_sorted, listed}
 use Rattle.fol_world.proofs.JoinedBags.{Apart, among}
-use Rattle.fol_world.proofs.KeptUp.{keeps_exact, keeps_like, same_list}
+use Rattle.fol_store.proofs.SameLists.{same_list}
+use Rattle.fol_world.proofs.KeptUp.{keeps_exact, keeps_like}
 
 empty_order : IsStrictlySortedBy chunk_cmp []
 unfolding IsStrictlySortedBy

@@ -1,11 +1,12 @@
 -- How the bags of the store follow a release.
-use Rattle.std.specs.Prelude.{ℕ, ◌≡◌, ◌+◌, ◌≤◌, ◌<◌, ◌^◌, true, false, ◌||◌, List, [], ◌∷◌, ◌++◌, ◌≢◌, filter, length, nat_eq, vec_len, vec_capacity, IsTrue, if◌then◌else◌}
+use Rattle.std.specs.Prelude.{ℕ, ◌≡◌, ◌+◌, ◌≤◌, ◌<◌, ◌^◌, true, false, ◌||◌, List, [], ◌∷◌, ◌++◌, ◌≢◌, filter, length, nat_eq, nat_lt, vec_len, vec_capacity, Bool, IsTrue, ◌&&◌, if◌then◌else◌}
 use Rattle.std.specs.List.{list_any}
 use Rattle.std.specs.Option.{ForSome, is_none, option_or}
 use Rattle.fol_model.specs.declared.regions.State.TheVariants.{Ticking}
 use Rattle.fol_model.specs.declared.tasks.Task.{Task}
 use Rattle.fol_model.specs.declared.places.ChunkPos.{ChunkPos}
 use Rattle.fol_model.specs.ActionStep.{at_id}
+use Rattle.fol_model.specs.Geometry.{section_of}
 use Rattle.fol_model.specs.GridState.{GridState, is_dead, is_loaded}
 use Rattle.fol_model.specs.Release.{release}
 use Rattle.fol_model.specs.Rules.{Rules}
@@ -42,6 +43,24 @@ pub record AreFresh (r : ℕ) (ids : List ℕ) (f : ℕ → Bag) : Type 0 where
   pub follow : Follow first ids
   pub below : r < first
   pub fresh : (q : ℕ) → list_any (nat_eq q) ids ≡ true → f q ≡ part_bag (f r).tick (f r).owed
+
+-- the chunk is in a section of the region
+abbrev pub is_within : GridState → ℕ → ChunkPos → Bool
+is_within g r c = nat_eq (g.owner (section_of g.grid c)) r
+
+-- those of the chunks that are in sections of the region are its loaded chunks, in order
+abbrev pub HasChunksOf : GridState → List ChunkPos → ℕ → Type 0
+HasChunksOf g chunks r = filter (is_within g r) chunks ≡ filter (is_chunk_of g r) all_chunks
+
+-- a loaded chunk of one of these regions
+abbrev pub is_chunk_among : GridState → List ℕ → ChunkPos → Bool
+is_chunk_among g ids c = nat_lt 0 (g.holds c) && list_any (nat_eq (g.owner (section_of g.grid c))) ids
+
+-- the bag is at home and notes no chunk, and where it is listed, its chunks are the loaded ones of these regions
+pub record HasChunksOfAll (g : GridState) (ids : List ℕ) (b : Bag) : Type 0 where
+  pub home : b.taken ≡ false
+  pub since : b.since ≡ []
+  pub listed : b.listed ≡ true → b.chunks ≡ filter (is_chunk_among g ids) all_chunks
 
 -- of a region that ticked: it came back with these numbers, and has to be gathered anew
 abbrev pub returned_bag : ℕ → ℕ → Bag → Bag
@@ -86,6 +105,8 @@ pub record CanRelease (k : Stock) (xs : List ℕ) (g : GridState) (r tick owed :
   pub order : (b : Bag) → IsReturned g r tick owed b → AreInOrder (at_id (bag_of k) r b)
   pub settles : (b : Bag) → IsReturned g r tick owed b → (h : ℕ → Bag) → Joins (release_change g r).merges (at_id (bag_of k) r b) h
       → ((h r).here ≡ true) × Settle (release g r) (released_bags (release g r) (release_change g r) r tick owed (bag_of k)) (parted_in (release g r) (release_change g r) r h)
+  pub lists : (b : Bag) → IsReturned g r tick owed b → (h : ℕ → Bag) → Joins (release_change g r).merges (at_id (bag_of k) r b) h
+      → is_dead ((release g r).state r) ≡ true → HasChunksOfAll (release g r) (release_change g r).parts (h r)
   pub follow : Follow (next_of k) (parts_in (release g r) (release_change g r) r)
   pub slots : length (parts_in (release g r) (release_change g r) r) ≤ k.slots
   pub bags : HaveBags (release g r) (released_bags (release g r) (release_change g r) r tick owed (bag_of k))
@@ -141,6 +162,7 @@ pub record BringsBack (old new : Tables) (r : ℕ) (body : RegionData) : Type 0 
 -- the region can be released, once its bag is back: whatever joins, the bags are these then, but that each may be listed
 pub record MayRelease (t : Tables) (r : ℕ) : Type 0 where
   pub ticks : (grid_state t.regions).state r ≡ Ticking
+  pub grid : t.grid ≡ (grid_state t.regions).grid
   pub spare : 1 ≤ t.regions.spare
   pub few_ids : (grid_state t.regions).next < 2 ^ 62
   pub after : ℕ → Bag
@@ -148,6 +170,8 @@ pub record MayRelease (t : Tables) (r : ℕ) : Type 0 where
   pub order : AreInOrder (bag_of t.store)
   pub settles : (h : ℕ → Bag) → Joins (release_change (grid_state t.regions) r).merges (bag_of t.store) h
       → ((h r).here ≡ true) × Settle (release (grid_state t.regions) r) after (parted_in (release (grid_state t.regions) r) (release_change (grid_state t.regions) r) r h)
+  pub lists : (h : ℕ → Bag) → Joins (release_change (grid_state t.regions) r).merges (bag_of t.store) h
+      → is_dead ((release (grid_state t.regions) r).state r) ≡ true → HasChunksOfAll (release (grid_state t.regions) r) (release_change (grid_state t.regions) r).parts (h r)
   pub follow : Follow (next_of t.store) (parts_in (release (grid_state t.regions) r) (release_change (grid_state t.regions) r) r)
   pub slots : length (parts_in (release (grid_state t.regions) r) (release_change (grid_state t.regions) r) r) ≤ t.store.slots
   pub bags : HaveBags (release (grid_state t.regions) r) after

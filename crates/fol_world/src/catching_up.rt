@@ -69,7 +69,7 @@ fn follow_chunk(regions: &Regions, store: &mut Store, grid: &Grid, region: u64, 
 }
 
 /// Whether the region has the section of the chunk.
-fn has_section(regions: &Regions, grid: &Grid, region: u64, c: ChunkPos) -> bool
+pub(crate) fn has_section(regions: &Regions, grid: &Grid, region: u64, c: ChunkPos) -> bool
     requires grid { grid.now ≡ (grid_state regions.now).grid }
     requires given { 0 < region }
     ensures { result

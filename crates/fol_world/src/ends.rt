@@ -176,6 +176,7 @@ fn release_region(alloc: Global, tables: &mut Tables, region: u64)
             part(
                 alloc,
                 &tables.regions,
+                &tables.grid,
                 &mut tables.store,
                 region,
                 change.parts(),

@@ -1,35 +1,48 @@
 //! A region is over, and its parts begin.
 
-ghost use Rattle.std.specs.Prelude.{◌≡◌, ◌⊎◌, ◌+◌, ◌<◌, ◌≤◌, ◌^◌, true, length, All};
-ghost use Rattle.std.specs.Option.{ForSome};
+ghost use Rattle.std.specs.Prelude.{◌≡◌, ◌≢◌, ◌+◌, ◌<◌, ◌≤◌, ◌^◌, ℕ, true, nat_eq, length, filter, All, IfOk, IfSome};
+ghost use Rattle.std.specs.List.{list_any};
 ghost use Rattle.fol_model.specs.ActionStep.{at_id};
+ghost use Rattle.fol_model.specs.Outputs.{is_chunk_of};
+ghost use Rattle.fol_model.specs.Universe.{all_chunks};
 ghost use Rattle.fol_regions.specs.Table.{grid_state};
 ghost use Rattle.fol_regions.specs.Answers.{IsGiven};
 ghost use Rattle.fol_store.specs.Bag.{no_bag};
+ghost use Rattle.fol_store.specs.Relisted.{IsInOrder, Stays};
 ghost use Rattle.fol_store.specs.Stock.{bag_of, next_of};
 ghost use Rattle.fol_world.specs.Bags.{Follow};
+ghost use Rattle.fol_world.specs.Begun.{Gathered};
 ghost use Rattle.fol_world.specs.Follows.{Settle};
-ghost use Rattle.fol_world.specs.Parts.{IsFreshPart, SharesBelow, Waits};
-ghost use Rattle.fol_world.specs.Released.{AreFresh, opened_parts, part_bag, parted};
+ghost use Rattle.fol_world.specs.Parts.{IsFreshPart, Leaves, SharesBelow};
+ghost use Rattle.fol_world.specs.Released.{AreFresh, HasChunksOf, HasChunksOfAll, is_within, opened_parts, part_bag, parted};
 ghost use Rattle.fol_world.specs.Same.{SameThings};
 
 use crate::bags::list_chunks;
-use fol_model::ChunkPos;
+use crate::catching_up::has_section;
+use fol_model::{ChunkPos, Grid};
 use fol_regions::Regions;
 use fol_store::Store;
-use std::alloc::Global;
+use std::alloc::{AllocError, Global};
 
-/// A part of a region, and its loaded chunks.
-#[derive(Drop)]
-struct Portion {
-    id: u64,
-    chunks: Vec<ChunkPos>,
-}
+/// The chunks of up to so many parts are looked for among those of the region.
+const FEW_PARTS: usize = 4;
+
+/// The chunks of parts are looked for among up to so many of the region.
+const FEW_CHUNKS: usize = 32;
 
 /// The region is over, and its parts begin with its numbers and with what lies on their chunks.
-pub(crate) fn part(alloc: Global, regions: &Regions, store: &mut Store, region: u64, parts: &[u64])
+pub(crate) fn part(
+    alloc: Global,
+    regions: &Regions,
+    grid: &Grid,
+    store: &mut Store,
+    region: u64,
+    parts: &[u64],
+)
+    requires grid { grid.now ≡ (grid_state regions.now).grid }
     requires given { All (IsGiven (grid_state regions.now)) parts.now }
     requires here { (bag_of store.old region).here ≡ true }
+    requires chunks { HasChunksOfAll (grid_state regions.now) parts.now (bag_of store.old region) }
     requires follow { Follow (next_of store.old) parts.now }
     requires slots { length parts.now ≤ store.old.slots }
     ensures bags { Settle (grid_state regions.now) (parted parts.now region (bag_of store.old))
@@ -40,7 +53,7 @@ pub(crate) fn part(alloc: Global, regions: &Regions, store: &mut Store, region: 
     let tick = store.tick(region);
     let owed = store.owed(region);
     open_parts(store, parts, tick, owed);
-    share_out(alloc, regions, store, region, parts);
+    share_out(alloc, regions, grid, store, region, parts);
 }
 
 /// The parts of a region get bags with its numbers, for which nothing was gathered.
@@ -71,93 +84,169 @@ fn open_part(store: &mut Store, id: u64, tick: u64, owed: u32)
     store.unsettle(id);
 }
 
-/// The region is over, and its parts get what lies on their chunks in its bag: the heir, which has the most chunks, takes over what the
+/// The region is over, and its parts get what lies on their chunks in its bag: the heir, which is the largest of them, takes over what the
 /// others leave.
-fn share_out(alloc: Global, regions: &Regions, store: &mut Store, region: u64, parts: &[u64])
+fn share_out(
+    alloc: Global,
+    regions: &Regions,
+    grid: &Grid,
+    store: &mut Store,
+    region: u64,
+    parts: &[u64],
+)
+    requires grid { grid.now ≡ (grid_state regions.now).grid }
     requires given { All (IsGiven (grid_state regions.now)) parts.now }
     requires fresh { AreFresh region parts.now (bag_of store.old) }
+    requires chunks { HasChunksOfAll (grid_state regions.now) parts.now (bag_of store.old region) }
     ensures bags { Settle (grid_state regions.now) (at_id (bag_of store.old) region no_bag)
         (bag_of store.new) }
     ensures things { SameThings store.old store.new }
     ensures next { next_of store.new ≡ next_of store.old }
 {
-    let mut heir = None;
-    for id in parts {
-        heir = share(alloc, regions, store, region, heir, *id);
-    }
-    match heir {
-        Some(part) => store.succeed(region, part.id, part.chunks),
+    match largest(regions, parts) {
+        Some(heir) => {
+            share_but(alloc, regions, grid, store, region, heir, parts);
+            store.succeed(region, heir);
+        }
         None => store.close(region),
     }
 }
 
-/// Of the heir so far and another part, the one with more chunks is the heir, and the other gets what lies on its chunks. If memory runs
-/// out, the bag of the part has to be gathered.
+/// One of these regions that has the most sections; `None` only where there is none.
+fn largest(regions: &Regions, ids: &[u64]) -> Option<u64>
+    requires given { All (IsGiven (grid_state regions.now)) ids.now }
+    ensures among { IfSome result (λ id. list_any (nat_eq id) ids.now ≡ true) }
+{
+    let mut largest = None;
+    let mut most = 0;
+    for id in ids {
+        let size = regions.sections(*id).len();
+        if size > most {
+            largest = Some(*id);
+            most = size;
+        }
+    }
+    largest
+}
+
+/// Each part of a region but the heir takes what lies on its chunks out of the region's bag.
+fn share_but(
+    alloc: Global,
+    regions: &Regions,
+    grid: &Grid,
+    store: &mut Store,
+    region: u64,
+    heir: u64,
+    parts: &[u64],
+)
+    requires grid { grid.now ≡ (grid_state regions.now).grid }
+    requires given { All (IsGiven (grid_state regions.now)) parts.now }
+    requires fresh { AreFresh region parts.now (bag_of store.old) }
+    requires heir { list_any (nat_eq heir) parts.now ≡ true }
+    requires chunks { HasChunksOfAll (grid_state regions.now) parts.now (bag_of store.old region) }
+    ensures shares { (n : ℕ) → Follow n parts.now → region < n
+        → SharesBelow (grid_state regions.now) region heir parts.now (n + length parts.now)
+        (bag_of store.old) (bag_of store.new) }
+    ensures things { SameThings store.old store.new }
+    ensures next { next_of store.new ≡ next_of store.old }
+{
+    let few = parts.len() <= FEW_PARTS;
+    for id in parts {
+        if *id != heir {
+            share(alloc, regions, grid, store, region, few, *id);
+        }
+    }
+}
+
+/// A part of a region takes what lies on its chunks out of the region's bag. If memory runs out, both bags have to be gathered.
 fn share(
     alloc: Global,
     regions: &Regions,
+    grid: &Grid,
     store: &mut Store,
     region: u64,
-    heir: Option<Portion>,
+    few: bool,
     id: u64,
-) -> Option<Portion>
+)
+    requires grid { grid.now ≡ (grid_state regions.now).grid }
     requires given { IsGiven (grid_state regions.now) id }
     requires here { (bag_of store.old region).here ≡ true }
-    requires heir { ForSome heir (Waits (grid_state regions.now) region (bag_of store.old)) }
-    requires before { ForSome heir (λ p. p.id < id) }
+    requires order { IsInOrder (bag_of store.old region) }
+    requires chunks { (bag_of store.old region).listed ≡ true
+        → HasChunksOf (grid_state regions.now) (bag_of store.old region).chunks id }
     requires fresh { IsFreshPart region (bag_of store.old) id }
-    ensures heir { ForSome result (Waits (grid_state regions.now) region (bag_of store.new)) }
-    ensures before { ForSome result (λ p. p.id < id + 1) }
-    ensures shares { SharesBelow (grid_state regions.now) region (id + 1) (bag_of store.old)
-        (bag_of store.new) }
+    ensures rest { Stays (bag_of store.old region) (bag_of store.new region) }
+    ensures left { Leaves (is_chunk_of (grid_state regions.now) id) (bag_of store.old region)
+        (bag_of store.new region) }
+    ensures own { Gathered (grid_state regions.now) id (bag_of store.old id)
+        (bag_of store.new id) }
+    ensures others { (u : ℕ) → u ≢ region → u ≢ id → bag_of store.new u ≡ bag_of store.old u }
     ensures things { SameThings store.old store.new }
     ensures next { next_of store.new ≡ next_of store.old }
 {
-    match list_chunks(alloc, regions, id) {
-        Ok(chunks) => Some(contend(regions, store, region, heir, Portion { id, chunks })),
-        Err(_) => heir,
+    regions.keeps_rules();
+    let few = few && has_few(store, region);
+    match list_part(alloc, regions, grid, store, region, few, id) {
+        Ok(chunks) => store.hand_over(region, id, chunks),
+        Err(_) => store.unsettle(region),
     }
 }
 
-/// The heir is the one of both parts that has more chunks. The other gets what lies on its chunks.
-fn contend(
+/// Whether the bag of a region is listed, and for few chunks.
+fn has_few(store: &Store, region: u64) -> bool
+    requires { (bag_of store.now region).here ≡ true }
+    ensures { result ≡ true → (bag_of store.now region).listed ≡ true }
+{
+    match store.chunks(region) {
+        Some(chunks) if chunks.len() <= FEW_CHUNKS => store.is_listed(region),
+        _ => false,
+    }
+}
+
+/// The loaded chunks of a part, in order. Where those of the region's bag are few, it goes over these alone.
+fn list_part(
+    alloc: Global,
     regions: &Regions,
-    store: &mut Store,
+    grid: &Grid,
+    store: &Store,
     region: u64,
-    heir: Option<Portion>,
-    part: Portion,
-) -> Portion
-    requires here { (bag_of store.old region).here ≡ true }
-    requires heir { ForSome heir (Waits (grid_state regions.now) region (bag_of store.old)) }
-    requires before { ForSome heir (λ p. p.id < part.id) }
-    requires waits { Waits (grid_state regions.now) region (bag_of store.old) part }
-    ensures waits { Waits (grid_state regions.now) region (bag_of store.new) result }
-    ensures before { result.id < part.id + 1 }
-    ensures shares { SharesBelow (grid_state regions.now) region (part.id + 1) (bag_of store.old)
-        (bag_of store.new) }
-    ensures things { SameThings store.old store.new }
-    ensures next { next_of store.new ≡ next_of store.old }
+    few: bool,
+    id: u64,
+) -> Result<Vec<ChunkPos>, AllocError>
+    requires grid { grid.now ≡ (grid_state regions.now).grid }
+    requires given { IsGiven (grid_state regions.now) id }
+    requires here { (bag_of store.now region).here ≡ true }
+    requires chunks { few ≡ true
+        → HasChunksOf (grid_state regions.now) (bag_of store.now region).chunks id }
+    ensures { IfOk result (λ chunks. chunks.items
+        ≡ filter (is_chunk_of (grid_state regions.now) id) all_chunks) }
 {
-    let _regions = regions;
-    match heir {
-        Some(other) => {
-            let (shorter, longer) = by_length(other, part);
-            store.hand_over(region, shorter.id, shorter.chunks);
-            longer
+    if few {
+        if let Some(chunks) = store.chunks(region) {
+            return list_within(alloc, regions, grid, chunks, id);
         }
-        None => part,
     }
+    list_chunks(alloc, regions, id)
 }
 
-/// Both parts, the one with more chunks last.
-fn by_length(one: Portion, other: Portion) -> (Portion, Portion)
-    ensures both { ((result.0 ≡ one) × (result.1 ≡ other))
-        ⊎ ((result.0 ≡ other) × (result.1 ≡ one)) }
-    ensures order { length result.0.chunks.items ≤ length result.1.chunks.items }
+/// Those of the chunks that are in sections of a region, in their order.
+fn list_within(
+    alloc: Global,
+    regions: &Regions,
+    grid: &Grid,
+    chunks: &[ChunkPos],
+    id: u64,
+) -> Result<Vec<ChunkPos>, AllocError>
+    requires grid { grid.now ≡ (grid_state regions.now).grid }
+    requires given { 0 < id }
+    ensures { IfOk result (λ own. own.items
+        ≡ filter (is_within (grid_state regions.now) id) chunks.now) }
 {
-    if one.chunks.len() < other.chunks.len() {
-        (one, other)
-    } else {
-        (other, one)
+    let mut own = Vec::with_capacity(alloc, chunks.len())?;
+    for c in chunks {
+        if has_section(regions, grid, id, *c) {
+            own.push_reserved(*c);
+        }
     }
+    Ok(own)
 }

@@ -11,7 +11,3 @@ gather-requires-clause-places c = two_chunks_are_chunks
 pub hand_over-requires-clause-order : goal.hand_over-requires-clause-order
 unfolding IsStrictlySortedBy
 hand_over-requires-clause-order c = rw c.in_ok-west.ensures.items (tt, tt)
-
-pub succeed-requires-clause-order : goal.succeed-requires-clause-order
-unfolding IsStrictlySortedBy
-succeed-requires-clause-order c = rw c.in_ok-east.ensures.items (tt, tt)

@@ -5,8 +5,8 @@ use Rattle.fol_store.specs.Bag.{Bag, no_bag}
 use Rattle.fol_store.specs.Stock.{bag_of, next_of}
 use Rattle.fol_store.proofs.BagSteps.{here_below}
 use Rattle.fol_world.specs.Follows.{Settle}
-use Rattle.fol_world.specs.Released.{AreFresh, opened_parts}
-use Rattle.fol_world.proofs.PartedBags.{are_fresh, parted_settles}
+use Rattle.fol_world.specs.Released.{AreFresh, HasChunksOfAll, opened_parts}
+use Rattle.fol_world.proofs.PartedBags.{are_fresh, parted_settles, same_r}
 use Rattle.fol_world.proofs.parts.part.Goals as goal
 
 -- the bags once those of the parts were opened
@@ -19,6 +19,13 @@ share_out-requires-clause-fresh c =
     let e = opened f (bag_of c.open_parts.new.store) c.args.region c.args.parts.now c.tick-tick.result c.owed-owed.result c.open_parts.ensures.bags c.tick-tick.ensures.value c.owed-owed.ensures in
     subst (AreFresh c.args.region c.args.parts.now) (sym e)
     (are_fresh (next_of c.args.store.now) c.args.parts.now c.args.region f c.requires.here c.requires.follow (here_below c.args.store.now c.args.region c.requires.here))
+
+pub share_out-requires-clause-chunks : goal.share_out-requires-clause-chunks
+share_out-requires-clause-chunks c =
+    let f = bag_of c.args.store.now in
+    let e = opened f (bag_of c.open_parts.new.store) c.args.region c.args.parts.now c.tick-tick.result c.owed-owed.result c.open_parts.ensures.bags c.tick-tick.ensures.value c.owed-owed.ensures in
+    let same = same_r (next_of c.args.store.now) c.args.parts.now c.args.region f c.requires.here c.requires.follow (here_below c.args.store.now c.args.region c.requires.here) in
+    subst (HasChunksOfAll (grid_state c.args.regions.now) c.args.parts.now) (sym (ap (λ (h : ℕ → Bag). h c.args.region) e ∙ same)) c.requires.chunks
 
 pub returns-clause-bags : goal.returns-clause-bags
 returns-clause-bags c =
