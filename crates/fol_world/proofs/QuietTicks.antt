@@ -7,7 +7,7 @@ use Rattle.fol_regions.specs.Table.{grid_state}
 use Rattle.fol_store.specs.Passing.{PassesOnce, PassesTimes}
 use Rattle.fol_store.specs.Stock.{Stock, bag_of}
 use Rattle.fol_world.specs.declared.tables.Tables.{Tables}
-use Rattle.fol_world.specs.Agenda.{GrowsBy, IsAgenda, owes}
+use Rattle.fol_world.specs.Agenda.{GrowsBy, IsAgenda}
 use Rattle.fol_world.specs.Quiet.{CanPass, PassesTicks}
 use Rattle.fol_world.proofs.QuietBags.{passed_agenda}
 
