@@ -1,21 +1,20 @@
 -- The answer to an added hold, by what a table keeps.
 use Rattle.std.proofs.Common.{◌≡◌, ℕ, ◌+◌, ◌≤◌, ◌<◌, refl, sym, ◌∙◌, ap, arith, Bool, true, false, not, ◌&&◌, ◌||◌, inl, inr, List, [], length}
-use Rattle.std.specs.Prelude.{ℤ, pos, ◌-ℤ◌, nat_abs, nat_eq, nat_lt, is_some, Some, None, Option}
-use Rattle.std.specs.List.{filter}
-use Rattle.std.proofs.lemmas.Bool.{and_parts, true≢false, leb-true, le-leb, lt-ltb, le-ltb, eq-eqb, ne_eqb, or_cases, or_right}
+use Rattle.std.specs.Prelude.{ℤ, nat_abs, nat_eq, nat_lt}
+use Rattle.std.specs.List.{count_by, filter}
+use Rattle.std.proofs.lemmas.Bool.{and_parts, leb-true, le-leb, lt-ltb, le-ltb, eq-eqb, ne_eqb, or_cases}
+use Rattle.std.proofs.lemmas.List.Sums.{length-filter}
 use Rattle.std.proofs.lemmas.List.Kept.{IsStrictlySortedBy-filter}
 use Rattle.fol_model.specs.declared.places.ChunkPos.{ChunkPos}
 use Rattle.fol_model.specs.declared.places.SectionPos.{SectionPos}
 use Rattle.fol_model.specs.declared.grids.Grid.{Grid}
-use Rattle.fol_model.specs.Geometry.{distance, is_chunk, is_section, is_within, section_of, is_among}
+use Rattle.fol_model.specs.Geometry.{is_chunk, is_section, is_within, section_of, is_among}
 use Rattle.fol_model.specs.Universe.{all_sections, count_sections, section_cmp, square}
 use Rattle.fol_laws.proofs.Distances.{self_distance}
 use Rattle.fol_laws.proofs.FloorDivision.{around_in_limits}
 use Rattle.fol_laws.proofs.SectionOrder.{section_rows_are, section_members, square_members, square_sorted}
-use Rattle.fol_pages.proofs.PagePlaces.{page_near, row_near}
 use Rattle.fol_sections.specs.declared.answers.Added.TheVariants.{Counted, Filled, Full}
-use Rattle.fol_sections.specs.Pages.{InNear, counts_at, is_here, page_of}
-use Rattle.fol_sections.specs.declared.pages.Counts.{Counts}
+use Rattle.fol_sections.specs.Pages.{is_here}
 use Rattle.fol_sections.specs.declared.pages.Page.{Page}
 use Rattle.fol_sections.specs.Table.{added, is_full_for, is_missing, missing_count, present_count}
 use Rattle.fol_sections.specs.Kept.{IsKept}
@@ -26,6 +25,10 @@ use Rattle.fol_sections.proofs.Tables.{table, table-presence}
 -- where all sections within a radius are present, none of them is missing
 pub none_missing : (pages : List ((ℤ × ℤ) × Page)) (n : SectionPos) (r : ℕ) → ((s : SectionPos) → is_within n r s ≡ true → is_here pages s ≡ true) → filter (λ s. not (is_here pages s)) (square n r) ≡ []
 none_missing pages n r here = square_none (λ s. not (is_here pages s)) n r (λ s k. ap not (here s k))
+
+-- a number of missing sections, by the list of them
+pub counted : (pages : List ((ℤ × ℤ) × Page)) (home s : SectionPos) (r radius n : ℕ) → home ≡ s → r ≡ radius → n ≡ count_by (λ q. not (is_here pages q)) (square home r) → n ≡ length (filter (λ q. not (is_here pages q)) (square s radius))
+counted pages home s r radius n e f is = is ∙ (λ i. count_by (λ q. not (is_here pages q)) (square (e i) (f i))) ∙ sym (length-filter (λ q. not (is_here pages q)) (square s radius))
 
 module _ (grid : Grid) (holds : List ((ℤ × ℤ) × ℕ)) (pages : List ((ℤ × ℤ) × Page)) (count : ℕ) (filled died : List SectionPos) (spare : ℕ) (kept : IsKept grid holds pages count) (c : ChunkPos) (limits : is_chunk c ≡ true) where
   near : (s : SectionPos) → is_within (section_of grid c) grid.create s ≡ true → is_section s ≡ true
@@ -49,6 +52,13 @@ module _ (grid : Grid) (holds : List ((ℤ × ℤ) × ℕ)) (pages : List ((ℤ 
   table-missing : is_missing (table grid holds pages filled died spare) c ≡ (λ s. not (is_here pages s) && is_within (section_of grid c) grid.create s)
   unfolding is_missing
   table-missing = ap (λ (f : SectionPos → Bool). λ (s : SectionPos). not (f s) && is_within (section_of grid c) grid.create s) (table-presence grid holds pages filled died spare kept.section_limits)
+
+  -- all that the chunk needs are within the limits
+  pub limits_more : (s : SectionPos) → (is_here pages s || is_within (section_of grid c) grid.create s) ≡ true → is_section s ≡ true
+  limits_more s h = elim (or_cases (is_here pages s) (is_within (section_of grid c) grid.create s) h) [
+    | inl e ↦ kept.section_limits s e
+    | inr e ↦ near s e
+  ]
 
   module _ (missing : List SectionPos) (found : missing ≡ filter (λ s. not (is_here pages s)) (square (section_of grid c) grid.create)) where
     pub missing_rows : missing ≡ filter (is_missing (table grid holds pages filled died spare) c) all_sections
@@ -99,14 +109,6 @@ module _ (grid : Grid) (holds : List ((ℤ × ℤ) × ℕ)) (pages : List ((ℤ 
     among-missing s = ap (λ xs. is_among xs s) found ∙ section_members (λ q. not (is_here pages q)) (square (section_of grid c) grid.create) s
         ∙ ap (λ b. not (is_here pages s) && b) (square_members (section_of grid c) grid.create s)
 
-    pub missing_absent : (s : SectionPos) → is_among missing s ≡ true → counts_at pages s ≡ None
-    unfolding is_here
-    missing_absent s h = none (counts_at pages s) (and_parts (not (is_some (counts_at pages s))) (is_within (section_of grid c) grid.create s) (sym (among-missing s) ∙ h)).0
-      where
-        none : (o : Option Counts) → not (is_some o) ≡ true → o ≡ None
-        none None e = refl
-        none (Some n) e = absurd (true≢false (sym e))
-
     pub here-more : (s : SectionPos) → (is_here pages s || is_among missing s) ≡ (is_here pages s || is_within (section_of grid c) grid.create s)
     here-more s = ap (λ b. is_here pages s || b) (among-missing s) ∙ either (is_here pages s) (is_within (section_of grid c) grid.create s)
       where
@@ -116,26 +118,3 @@ module _ (grid : Grid) (holds : List ((ℤ × ℤ) × ℕ)) (pages : List ((ℤ 
 
     pub presence-more : (s : SectionPos) → (is_here pages s || is_among missing s) ≡ (is_here pages s || is_missing (table grid holds pages filled died spare) c s)
     presence-more s = ap (λ b. is_here pages s || b) (among-missing s ∙ sym (ap (λ (f : SectionPos → Bool). f s) table-missing))
-
-    pub missing_pages : InNear missing
-    unfolding distance
-    missing_pages = record {
-      x = page_of ((section_of grid c).x -ℤ pos grid.create);
-      z = (section_of grid c).z -ℤ pos grid.create;
-      column = λ s h. let d = missing_near s h in page_near (section_of grid c).x s.x grid.create (omega arith) kept.numbers.create_high;
-      row = λ s h. let d = missing_near s h in row_near (section_of grid c).z s.z grid.create (omega arith) kept.numbers.create_high;
-    }
-      where
-        missing_near : (s : SectionPos) → is_among missing s ≡ true → distance (section_of grid c) s ≤ grid.create
-        missing_near s h = leb-true _ _ (and_parts (not (is_here pages s)) (is_within (section_of grid c) grid.create s) (sym (among-missing s) ∙ h)).1
-
-    -- after they came, all sections that the chunk needs are there
-    pub here_around : (s : SectionPos) → is_within (section_of grid c) grid.create s ≡ true → (is_here pages s || is_among missing s) ≡ true
-    here_around s w = here-more s ∙ or_right (is_here pages s) _ w
-
-    -- and all are within the limits
-    pub limits_more : (s : SectionPos) → (is_here pages s || is_among missing s) ≡ true → is_section s ≡ true
-    limits_more s h = elim (or_cases (is_here pages s) (is_within (section_of grid c) grid.create s) (sym (here-more s) ∙ h)) [
-      | inl e ↦ kept.section_limits s e
-      | inr e ↦ near s e
-    ]

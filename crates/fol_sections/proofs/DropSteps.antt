@@ -20,7 +20,7 @@ use Rattle.fol_sections.specs.declared.pages.Counts.{Counts}
 use Rattle.fol_sections.specs.declared.pages.Page.{Page}
 use Rattle.fol_sections.proofs.Margins.{count-like}
 use Rattle.fol_sections.proofs.NumberSteps.{all_among}
-use Rattle.fol_sections.proofs.PageRuns.{after_off, after_on, before_near, before_on, off_page, on_page}
+use Rattle.fol_sections.proofs.PageRuns.{after_off, after_on, before_near, before_on, kept_on, off_page, on_page}
 use Rattle.fol_sections.proofs.PageStretches.{filter_stretch, near_nowhere}
 
 -- ---- what is kept of a section that may leave
@@ -122,18 +122,21 @@ module _ (before after : List ((ℤ × ℤ) × Page)) (first : SectionPos) (old 
     (step : (a b : ℤ) → page_at after a b ≡ cond (is_same (page_of first.x) first.z a b) (Some new) (page_at before a b))
     (part : List SectionPos) (all : All (IsOnPage first) part)
     (out : (q : SectionPos) → All (IsOnPage q) part → counts_on new q ≡ cond (is_among part q && nat_eq (near_on old q) 0) None (counts_on old q)) where
+  kept : (q : SectionPos) → option_and_then (λ p. counts_on p q) (page_at before (page_of first.x) first.z) ≡ counts_on old q
+  kept = kept_on before first old was
+
   pub out_of_page : (q : SectionPos) → counts_at after q ≡ cond (is_among part q && nat_eq (near_at before q) 0) None (counts_at before q)
   out_of_page q = elim (cases_Bool (is_same (page_of first.x) first.z (page_of q.x) q.z)) [
     | inl e ↦
-        let on = on_page before after first old new was step q e in
-        after_on before after first old new was step q on ∙ out q (listed_on first part all q on)
-        ∙ (λ i. cond (is_among part q && nat_eq (sym (before_near before after first old new was step q on) i) 0) None (sym (before_on before after first old new was step q on) i))
+        let on = on_page first q e in
+        after_on before first old kept after new step q on ∙ out q (listed_on first part all q on)
+        ∙ (λ i. cond (is_among part q && nat_eq (sym (before_near before first old kept q on) i) 0) None (sym (before_on before first old kept q on) i))
     | inr e ↦
         let none : is_among part q ≡ false = elim (cases_Bool (is_among part q)) [
           | inr k ↦ k
-          | inl k ↦ absurd (off_page before after first old new was step q e (all_among (IsOnPage first) part q all k))
+          | inl k ↦ absurd (off_page first q e (all_among (IsOnPage first) part q all k))
         ] in
-        after_off before after first old new was step q e ∙ rw none refl
+        after_off before first old kept after new step q e ∙ rw none refl
   ]
 
 -- where the page is not there, all of them are dead, and nothing changes

@@ -33,14 +33,16 @@ module _ {X : Type 0} (at : ℤ → ℤ → X) where
   unfolding rows_of
   length-rows x z rows n = length-plane (from x n) (from z rows) ∙ (let a = length-from z rows in let b = length-from x n in λ i. a i * b i)
 
-pub length-square : (s : SectionPos) (r : ℕ) → r ≤ 8 → length (square s r) ≤ 289
+pub length-area : (s : SectionPos) (r side : ℕ) → side ≡ 2 * r + 1 → length (square s r) ≡ side * side
 unfolding square
-length-square s r h =
-    let a = length-from (s.z +ℤ neg_ℤ (pos r)) (r + r + 1) in
-    let b = length-from (s.x +ℤ neg_ℤ (pos r)) (r + r + 1) in
-    let all = length-plane (λ x z. let q : SectionPos = record { x = x; z = z } in q) (from (s.x +ℤ neg_ℤ (pos r)) (r + r + 1)) (from (s.z +ℤ neg_ℤ (pos r)) (r + r + 1)) in
-    let area = times_most (r + r + 1) (omega arith) in
-    omega (arith, all ∙ (λ i. a i * b i), area)
-  where
-    times_most : (n : ℕ) → n ≤ 17 → n * n ≤ 289
-    times_most n h = let m = mul-le-mul h h in omega (arith, m)
+length-area s r side e =
+    let row : r + r + 1 ≡ side = omega arith in
+    let a = length-from (s.z +ℤ neg_ℤ (pos r)) (r + r + 1) ∙ row in
+    let b = length-from (s.x +ℤ neg_ℤ (pos r)) (r + r + 1) ∙ row in
+    length-plane (λ x z. let q : SectionPos = record { x = x; z = z } in q) (from (s.x +ℤ neg_ℤ (pos r)) (r + r + 1)) (from (s.z +ℤ neg_ℤ (pos r)) (r + r + 1)) ∙ (λ i. a i * b i)
+
+pub area_most : (side : ℕ) → side ≤ 17 → side * side ≤ 289
+area_most side h = let m = mul-le-mul h h in omega (arith, m)
+
+pub length-square : (s : SectionPos) (r : ℕ) → r ≤ 8 → length (square s r) ≤ 289
+length-square s r h = omega (arith, length-area s r (2 * r + 1) refl, area_most (2 * r + 1) (omega arith))

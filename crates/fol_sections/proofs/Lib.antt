@@ -19,6 +19,6 @@ pub mod PageRuns
 pub mod NearPages
 pub mod PageStretches
 pub mod DropSteps
-pub mod MarkSteps
+pub mod FillSteps
 pub mod HeldChunks
 pub mod SquareWalks

@@ -1,6 +1,7 @@
 -- How many of the pages near a section are absent.
-use Rattle.std.proofs.Common.{◌≡◌, ℕ, ◌+◌, ◌<◌, ◌≤◌, arith, Bool, true, false, cond, ◌||◌, List}
-use Rattle.std.specs.Prelude.{ℤ}
+use Rattle.std.proofs.Common.{◌≡◌, ℕ, ◌+◌, ◌<◌, ◌≤◌, sym, ◌∙◌, arith, Bool, true, false, cond, ◌||◌, List}
+use Rattle.std.specs.Prelude.{ℤ, pos, ◌-ℤ◌}
+use Rattle.std.proofs.lemmas.Bool.{leb-true}
 use Rattle.std.specs.List.{count_by, list_any}
 use Rattle.std.proofs.lemmas.List.Sums.{count_by-le-length}
 use Rattle.fol_laws.proofs.SortedRows.{in_row, in_rows}
@@ -11,7 +12,10 @@ use Rattle.fol_pages.specs.Pages.{is_listed}
 use Rattle.fol_sections.specs.Pages.{InNear, has_page, page_of}
 use Rattle.fol_sections.specs.Places.{is_same}
 use Rattle.fol_sections.specs.Rows.{rows_of}
-use Rattle.fol_model.specs.Geometry.{is_among}
+use Rattle.fol_model.specs.Geometry.{distance, is_among}
+use Rattle.fol_model.specs.Universe.{square}
+use Rattle.fol_laws.proofs.SectionOrder.{square_members}
+use Rattle.fol_pages.proofs.PagePlaces.{page_near, row_near}
 use Rattle.fol_sections.specs.declared.pages.Page.{Page}
 use Rattle.fol_sections.proofs.Lengths.{length-rows}
 use Rattle.fol_sections.proofs.PageSteps.{page_self}
@@ -46,3 +50,16 @@ module _ (before after : List ((ℤ × ℤ) × Page)) (missing : List SectionPos
 
 pub near_few : (entries : List ((ℤ × ℤ) × Page)) (x z : ℤ) → count_by (is_absent entries) (near_from x z) ≤ 34
 near_few entries x z = omega (arith, count_by-le-length (is_absent entries) (near_from x z), length-rows pair x z 17 2)
+
+-- the sections within a radius lie in those pages
+pub square_near : (s : SectionPos) (r : ℕ) → r ≤ 8 → InNear (square s r)
+unfolding distance
+square_near s r few = record {
+  x = page_of (s.x -ℤ pos r);
+  z = s.z -ℤ pos r;
+  column = λ q h. let d = within q h in page_near s.x q.x r (omega arith) few;
+  row = λ q h. let d = within q h in row_near s.z q.z r (omega arith) few;
+}
+  where
+    within : (q : SectionPos) → is_among (square s r) q ≡ true → distance s q ≤ r
+    within q h = leb-true _ _ (sym (square_members s r q) ∙ h)

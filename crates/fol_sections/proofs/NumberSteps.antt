@@ -1,11 +1,10 @@
 -- The counts after the number of one place was changed.
-use Rattle.std.proofs.Common.{◌≡◌, ℕ, zero, suc, ◌-◌, ◌<◌, refl, sym, ◌∙◌, ap, arith, Bool, true, false, cond, ◌&&◌, ◌||◌, inl, inr, List, [], ◌∷◌, length, take, get_or}
+use Rattle.std.proofs.Common.{◌≡◌, ℕ, zero, suc, ◌-◌, ◌<◌, refl, sym, ◌∙◌, ap, arith, true, false, cond, ◌&&◌, inl, inr, List, [], ◌∷◌, length, take, get_or}
 use Rattle.std.specs.Prelude.{ℤ, Option, Some, None, is_some}
 use Rattle.std.specs.Option.{unwrap_or}
 use Rattle.std.specs.List.{All, IsDistinct}
 use Rattle.std.specs.Ordering.{int_eq}
 use Rattle.std.proofs.lemmas.Bool.{cases_Bool, or_cases, true≢false, and_from, and_parts}
-use Rattle.std.proofs.lemmas.List.Folds.{list_any_at}
 use Rattle.std.proofs.lemmas.Map.Keys.{apart_from_distinct, IsDistinct-tail}
 use Rattle.fol_model.specs.declared.places.ChunkPos.{ChunkPos}
 use Rattle.fol_model.specs.declared.places.SectionPos.{SectionPos}
@@ -97,41 +96,6 @@ chunks_here pages s h = there (counts_at pages s) h
     there : (o : Option Counts) → 0 < (unwrap_or o no_counts).loaded → is_some o ≡ true
     there None p = absurd (omega arith)
     there (Some n) p = refl
-
-pub among_at : (xs : List SectionPos) (k : ℕ) (d : SectionPos) → k < length xs → is_among xs (get_or xs k d) ≡ true
-among_at xs k d l = list_any_at (same_section (get_or xs k d)) xs k d l (same_section-self (get_or xs k d))
-
--- ---- after missing sections came
-module _ (before after : List ((ℤ × ℤ) × Page)) (missing : List SectionPos) (absent : (s : SectionPos) → is_among missing s ≡ true → counts_at before s ≡ None)
-    (filled : (s : SectionPos) → counts_at after s ≡ cond (is_among missing s) (Some no_counts) (counts_at before s)) where
-  pub here-filled : (s : SectionPos) → is_here after s ≡ (is_here before s || is_among missing s)
-  unfolding is_here
-  here-filled s = ap is_some (filled s) ∙ elim (cases_Bool (is_among missing s)) [
-    | inl e ↦ rw e (sym (right (is_some (counts_at before s))))
-    | inr e ↦ rw e (sym (none (is_some (counts_at before s))))
-  ]
-    where
-      right : (b : Bool) → (b || true) ≡ true
-      right true = refl
-      right false = refl
-
-      none : (b : Bool) → (b || false) ≡ b
-      none true = refl
-      none false = refl
-
-  pub chunks-filled : (s : SectionPos) → chunks_at after s ≡ chunks_at before s
-  unfolding chunks_at
-  chunks-filled s = ap (λ o. (unwrap_or o no_counts).loaded) (filled s) ∙ elim (cases_Bool (is_among missing s)) [
-    | inl e ↦ ap (λ b. (unwrap_or (cond b (Some no_counts) (counts_at before s)) no_counts).loaded) e ∙ sym (ap (λ o. (unwrap_or o no_counts).loaded) (absent s e))
-    | inr e ↦ ap (λ b. (unwrap_or (cond b (Some no_counts) (counts_at before s)) no_counts).loaded) e
-  ]
-
-  pub near-filled : (s : SectionPos) → near_at after s ≡ near_at before s
-  unfolding near_at
-  near-filled s = ap (λ o. (unwrap_or o no_counts).near) (filled s) ∙ elim (cases_Bool (is_among missing s)) [
-    | inl e ↦ ap (λ b. (unwrap_or (cond b (Some no_counts) (counts_at before s)) no_counts).near) e ∙ sym (ap (λ o. (unwrap_or o no_counts).near) (absent s e))
-    | inr e ↦ ap (λ b. (unwrap_or (cond b (Some no_counts) (counts_at before s)) no_counts).near) e
-  ]
 
 pub all_among : (P : SectionPos → Type 0) (xs : List SectionPos) (s : SectionPos) → All P xs → is_among xs s ≡ true → P s
 all_among P [] s all h = absurd (true≢false (sym h))

@@ -15,7 +15,7 @@ use Rattle.fol_sections.specs.Pages.{IsOnPage, chunks_at, chunks_on, counts_at, 
 use Rattle.fol_sections.specs.declared.pages.Page.{Page}
 use Rattle.fol_sections.proofs.DeadSteps.{filter-like}
 use Rattle.fol_sections.proofs.NumberSteps.{all_among}
-use Rattle.fol_sections.proofs.PageRuns.{before_near, same_page}
+use Rattle.fol_sections.proofs.PageRuns.{before_near, kept_on}
 use Rattle.fol_sections.proofs.PageSteps.{none_there}
 
 abbrev origin : SectionPos
@@ -34,7 +34,7 @@ stretch_on rest part n is some one = on part some (rw (← is) at one)
 module _ (entries : List ((ℤ × ℤ) × Page)) (first q : SectionPos) (on : IsOnPage first q) where
   -- what is near a section that lies in a page that is there
   pub near_there : (p : Page) → page_at entries (page_of first.x) first.z ≡ Some p → near_at entries q ≡ near_on p q
-  near_there p was = before_near entries entries first p p was (same_page entries first p was) q on
+  near_there p was = before_near entries first p (kept_on entries first p was) q on
 
   -- nothing is near a section whose page is not there
   pub near_nowhere : page_at entries (page_of first.x) first.z ≡ None → near_at entries q ≡ 0

@@ -1,5 +1,5 @@
 -- The sections of a square, row by row.
-use Rattle.std.proofs.Common.{◌≡◌, ℕ, ◌+◌, refl, ◌∙◌, ap, arith, false, cond, inl, inr, List, [], ◌∷◌, get_or}
+use Rattle.std.proofs.Common.{◌≡◌, ℕ, ◌+◌, ◌<◌, ◌≤◌, refl, ◌∙◌, ap, arith, Bool, true, false, cond, inl, inr, List, [], ◌∷◌, get_or}
 use Rattle.std.specs.Prelude.{pos, neg_ℤ, ◌+ℤ◌, ◌-ℤ◌, map, flat_map}
 use Rattle.std.specs.List.{AllByRecursion, IsDistinct, count_by, list_any}
 use Rattle.std.specs.List.Sorted.{IsStrictlySortedBy}
@@ -54,3 +54,12 @@ once_in (x ∷ xs) q h = count_by-cons (same_section q) x xs ∙ elim (cases_Boo
 -- each section of the square is there once
 pub once : (s : SectionPos) (r : ℕ) (q : SectionPos) → count_by (same_section q) (square s r) ≡ cond (is_within s r q) 1 0
 once s r q = once_in (square s r) q (rising_distinct (square s r) (square_sorted s r)) ∙ ap (λ b. cond b 1 0) (square_members s r q)
+
+-- ---- one or none
+pub one_most : (b : Bool) → cond b 1 0 ≤ 1
+one_most true = omega arith
+one_most false = omega arith
+
+pub one_is : (b : Bool) → 0 < cond b 1 0 → b ≡ true
+one_is true h = refl
+one_is false h = absurd (omega arith)

@@ -1,6 +1,6 @@
 //! How many sections within the create radius of a section are missing, without a list of them.
 
-ghost use Rattle.std.specs.Prelude.{◌≡◌, ◌+◌, ◌*◌, ◌<◌, ◌≤◌, not, pos, ◌+ℤ◌, nat_abs, is_some, IsTrue};
+ghost use Rattle.std.specs.Prelude.{◌≡◌, ◌+◌, ◌*◌, ◌<◌, ◌≤◌, not, pos, ◌+ℤ◌, nat_abs, is_some, IfNone, IfSome, IsTrue};
 ghost use Rattle.std.specs.Int.{int_rem_euclid};
 ghost use Rattle.std.specs.List.{count_by};
 ghost use Rattle.fol_model.specs.declared.places.SectionPos.{SectionPos};
@@ -11,7 +11,7 @@ ghost use Rattle.fol_sections.specs.Rows.{row_of, section_at};
 
 use crate::pages::{Page, Pages, loaded};
 use crate::walks::SquareRuns;
-use fol_model::SectionPos;
+use fol_model::{MOST_SECTIONS, SectionPos};
 use fol_pages::{page_of, place_of};
 
 /// How many of the sections from one on are missing, by what their page keeps of them.
@@ -62,4 +62,31 @@ pub fn count_missing(pages: &Pages, s: SectionPos, radius: u8) -> u32
         count += count_run(pages, first, len);
     }
     count
+}
+
+/// How many sections within a radius of one are missing, if they and the present ones are more than 16,384. They are not looked up where
+/// there is room for all within the radius.
+pub fn find_excess(pages: &Pages, present: u32, s: SectionPos, radius: u8) -> Option<u32>
+    requires near { (nat_abs s.x ≤ 1000008) × (nat_abs s.z ≤ 1000008) }
+    requires few { radius ≤ 8 }
+    requires around { 0 < chunks_at pages.now.entries s → (q : SectionPos)
+        → IsTrue (is_within s radius q) → IsTrue (is_here pages.now.entries q) }
+    requires present { present ≤ MOST_SECTIONS }
+    ensures some { IfSome result (λ n. n
+        ≡ count_by (λ q. not (is_here pages.now.entries q)) (square s radius)) }
+    ensures excess { IfSome result (λ n. MOST_SECTIONS < present + n) }
+    ensures none { IfNone result
+        (present + count_by (λ q. not (is_here pages.now.entries q)) (square s radius)
+        ≤ MOST_SECTIONS) }
+{
+    let side = 2 * radius as u32 + 1;
+    if present + side * side <= MOST_SECTIONS as u32 {
+        return None;
+    }
+    let wanted = count_missing(pages, s, radius);
+    if present + wanted > MOST_SECTIONS as u32 {
+        Some(wanted)
+    } else {
+        None
+    }
 }

@@ -2,7 +2,7 @@
 
 ghost use Rattle.std.specs.Prelude.{◌≡◌, ◌+◌, ◌<◌, ◌≤◌, ◌^◌, not, IsTrue, None, Some, is_some};
 ghost use Rattle.std.specs.Option.{unwrap_or};
-ghost use Rattle.fol_sections.specs.Pages.{no_counts};
+ghost use Rattle.fol_sections.specs.Pages.{no_counts, reached};
 ghost use Rattle.fol_sections.specs.Turns.{fall, rise, turned};
 
 use crate::pages::Counts;
@@ -47,17 +47,6 @@ impl PackedCounts {
         }
     }
 
-    /// The section is present, with these numbers.
-    pub fn of(counts: Counts) -> PackedCounts
-        requires { counts.loaded + 1 < 2 ^ 16 }
-        ensures { result ≡ Some counts }
-    {
-        PackedCounts {
-            loaded: counts.loaded,
-            near: counts.near,
-        }
-    }
-
     /// The numbers, if the section is present.
     pub fn counts(self) -> Option<Counts>
         ensures value { result ≡ self }
@@ -97,6 +86,20 @@ impl PackedCounts {
     {
         self.near = turned(self.near, turn);
         self.near
+    }
+
+    /// Counts a section more with a loaded chunk near the section, which is made present where it is not, and says whether it was made.
+    pub fn reach(&mut self) -> bool
+        requires few { (unwrap_or self.old no_counts).near + 1 < 2 ^ 16 }
+        ensures made { result ≡ not (is_some self.old) }
+        ensures reached { self.new ≡ Some (reached self.old) }
+    {
+        let is_made = self.is_absent();
+        if is_made {
+            self.loaded = 0;
+        }
+        self.near = turned(self.near, Turn::Filled);
+        is_made
     }
 
     /// Changes the number of loaded chunks of the section, which is present, by one, and gives the number after.

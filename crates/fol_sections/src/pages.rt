@@ -5,7 +5,7 @@ ghost use Rattle.std.specs.Option.{unwrap_or};
 ghost use Rattle.std.specs.List.{All, list_all};
 ghost use Rattle.fol_model.specs.declared.places.SectionPos.{SectionPos};
 ghost use Rattle.fol_model.specs.Geometry.{is_among, same_section};
-ghost use Rattle.fol_sections.specs.Pages.{IsOnPage, counts_at, has_page, is_here, chunks_at, chunks_on, counts_on, near_at, near_on, no_counts, page_of as page};
+ghost use Rattle.fol_sections.specs.Pages.{IsOnPage, counts_at, has_page, is_here, chunks_at, chunks_on, counts_on, near_at, near_on, no_counts, page_of as page, reached};
 ghost use Rattle.fol_sections.specs.Places.{is_same};
 ghost use Rattle.fol_sections.specs.Turns.{fall, rise, turned};
 
@@ -76,6 +76,22 @@ impl Page {
         self.sections[place].turn(turn)
     }
 
+    /// Counts a section more with a loaded chunk near the section at a place, which is made present where it is not, and says whether
+    /// it was made.
+    pub fn reach(&mut self, place: usize) -> bool
+        requires place { place < 32 }
+        requires few { (unwrap_or (slice_index_or self.old.sections place None) no_counts).near + 1
+            < 2 ^ 16 }
+        ensures made { result ≡ not (is_some (slice_index_or self.old.sections place None)) }
+        ensures reached { self.new ≡ record {
+          sections = slice_set self.old.sections place
+              (Some (reached (slice_index_or self.old.sections place None)));
+        } }
+        ensures whole { length self.old.sections ≡ 32 }
+    {
+        self.sections[place].reach()
+    }
+
     /// Changes the number of loaded chunks of the section at a place, which is present, by one, and gives the number after.
     pub fn count(&mut self, place: usize, turn: Turn) -> u16
         requires place { place < 32 }
@@ -97,17 +113,6 @@ impl Page {
         ensures whole { length self.old.sections ≡ 32 }
     {
         self.sections[place].count(turn)
-    }
-
-    /// Makes the section at a place present, with these numbers.
-    pub fn keep(&mut self, place: usize, counts: Counts)
-        requires place { place < 32 }
-        requires few { counts.loaded + 1 < 2 ^ 16 }
-        ensures kept { self.new
-            ≡ record { sections = slice_set self.old.sections place (Some counts) } }
-        ensures whole { length self.old.sections ≡ 32 }
-    {
-        self.sections[place] = PackedCounts::of(counts);
     }
 }
 
@@ -177,46 +182,6 @@ pub fn near(pages: &Pages, s: SectionPos) -> u32
     match find(pages, s) {
         Some(counts) => counts.near as u32,
         None => 0,
-    }
-}
-
-/// Makes sections of a page present, with no loaded chunk near them.
-fn mark_on(page: &mut Page, part: &[SectionPos])
-    ensures { (q : SectionPos) → All (IsOnPage q) part.now → counts_on page.new q
-        ≡ cond (is_among part.now q) (Some no_counts) (counts_on page.old q) }
-{
-    for s in part {
-        page.keep(place_of(*s), Counts { loaded: 0, near: 0 });
-    }
-}
-
-/// A page with these sections alone, and no loaded chunk near them.
-fn page_with(part: &[SectionPos]) -> Page
-    ensures { (q : SectionPos) → All (IsOnPage q) part.now → counts_on result q
-        ≡ cond (is_among part.now q) (Some no_counts) None }
-{
-    let mut page = empty_page();
-    mark_on(&mut page, part);
-    page
-}
-
-/// Makes sections present that all lie in the page of `first`, with no loaded chunk near them.
-pub fn put_stretch(pages: &mut Pages, first: SectionPos, part: &[SectionPos])
-    requires page { All (IsOnPage first) part.now }
-    requires room { has_page pages.old.entries (page first.x) first.z ≡ false
-        → 0 < pages.old.spare }
-    ensures put { (q : SectionPos) → counts_at pages.new.entries q
-        ≡ cond (is_among part.now q) (Some no_counts) (counts_at pages.old.entries q) }
-    ensures pages { (x z : ℤ) → has_page pages.new.entries x z
-        ≡ (is_same (page first.x) first.z x z || has_page pages.old.entries x z) }
-    ensures room { pages.old.spare ≤ pages.new.spare
-        + cond (has_page pages.old.entries (page first.x) first.z) 0 1 }
-{
-    match pages.get_mut(page_of(first)) {
-        Some(page) => mark_on(page, part),
-        None => {
-            let _ = pages.insert(page_of(first), page_with(part));
-        }
     }
 }
 

@@ -1,16 +1,17 @@
 //! Sections side by side in one page, for which the page is looked up once.
 
-ghost use Rattle.std.specs.Prelude.{◌≡◌, ◌+◌, ◌<◌, ◌≤◌, ◌^◌, not, ◌++◌, IsTrue, is_some, length, nat_abs, pos, ◌+ℤ◌};
+ghost use Rattle.std.specs.Prelude.{◌≡◌, ℤ, ◌+◌, ◌<◌, ◌≤◌, ◌^◌, not, ◌||◌, false, cond, ◌++◌, IsTrue, is_some, length, nat_abs, nat_lt, pos, ◌+ℤ◌};
 ghost use Rattle.std.specs.Int.{int_rem_euclid};
 ghost use Rattle.std.specs.List.{count_by, filter};
 ghost use Rattle.std.specs.Vec.{vec_capacity};
 ghost use Rattle.fol_model.specs.declared.places.SectionPos.{SectionPos};
 ghost use Rattle.fol_model.specs.Geometry.{same_section};
-ghost use Rattle.fol_sections.specs.Pages.{IsOnPage, KeepsOthers, chunks_at, counts_on, is_here, near_at, near_on};
+ghost use Rattle.fol_sections.specs.Pages.{IsOnPage, KeepsOthers, chunks_at, chunks_on, counts_on, has_page, is_here, near_at, near_on, page_of as page};
+ghost use Rattle.fol_sections.specs.Places.{is_same};
 ghost use Rattle.fol_sections.specs.Rows.{row_of, section_at};
 ghost use Rattle.fol_sections.specs.Turns.{fall, leaves_none, rise};
 
-use crate::pages::{Page, Pages};
+use crate::pages::{Page, Pages, empty_page};
 use crate::turns::Turn;
 use fol_model::SectionPos;
 use fol_pages::{page_of, place_of};
@@ -27,51 +28,63 @@ fn behind(s: SectionPos, columns: u32) -> SectionPos
     }
 }
 
-/// Adds those of the sections from one on that are missing, by what their page keeps of them.
-fn find_on(page: &Page, missing: &mut Vec<SectionPos>, s: SectionPos, len: u32)
-    requires near { nat_abs s.x ≤ 1000040 }
+/// Counts a section more with a loaded chunk near the sections from one on, by what their page keeps of them. Those that are missing
+/// are made present, and added to a list.
+fn fill_on(page: &mut Page, filled: &mut Vec<SectionPos>, s: SectionPos, len: u32)
+    requires place { nat_abs s.x ≤ 1000040 }
     requires run { nat_abs (int_rem_euclid s.x (pos 32)) + len ≤ 32 }
-    requires room { length missing.old.items + len ≤ vec_capacity missing.old }
-    ensures found { missing.new.items ≡ missing.old.items
-        ++ filter (λ q. not (is_some (counts_on page.now q))) (row_of section_at s.x s.z len) }
-    ensures few { length missing.new.items ≤ length missing.old.items + len }
-    ensures room { vec_capacity missing.old ≤ vec_capacity missing.new }
+    requires high { (q : SectionPos) → IsOnPage s q → near_on page.old q + 1 < 2 ^ 16 }
+    requires space { length filled.old.items + len ≤ vec_capacity filled.old }
+    ensures near { (q : SectionPos) → IsOnPage s q → near_on page.new q
+        ≡ near_on page.old q + count_by (same_section q) (row_of section_at s.x s.z len) }
+    ensures here { (q : SectionPos) → IsOnPage s q → is_some (counts_on page.new q)
+        ≡ (is_some (counts_on page.old q)
+        || nat_lt 0 (count_by (same_section q) (row_of section_at s.x s.z len))) }
+    ensures chunks { (q : SectionPos) → chunks_on page.new q ≡ chunks_on page.old q }
+    ensures filled { filled.new.items ≡ filled.old.items
+        ++ filter (λ q. not (is_some (counts_on page.old q))) (row_of section_at s.x s.z len) }
+    ensures few { length filled.new.items ≤ length filled.old.items + len }
+    ensures space { vec_capacity filled.old ≤ vec_capacity filled.new }
 {
     let place = place_of(s);
     for i in 0..len {
-        if page.is_absent(place + i as usize) {
-            missing.push_reserved(behind(s, i));
+        if page.reach(place + i as usize) {
+            filled.push_reserved(behind(s, i));
         }
     }
 }
 
-/// Adds the sections from one on, all of which are missing.
-fn find_off(missing: &mut Vec<SectionPos>, s: SectionPos, len: u32)
-    requires near { nat_abs s.x ≤ 1000040 }
-    requires few { len ≤ 32 }
-    requires room { length missing.old.items + len ≤ vec_capacity missing.old }
-    ensures found { missing.new.items ≡ missing.old.items ++ row_of section_at s.x s.z len }
-    ensures few { length missing.new.items ≤ length missing.old.items + len }
-    ensures room { vec_capacity missing.old ≤ vec_capacity missing.new }
-{
-    for i in 0..len {
-        missing.push_reserved(behind(s, i));
-    }
-}
-
-/// Adds those of the sections from one on, all in one page, that are missing.
-pub fn find_run(pages: &Pages, missing: &mut Vec<SectionPos>, s: SectionPos, len: u32)
-    requires near { nat_abs s.x ≤ 1000040 }
+/// Counts a section more with a loaded chunk near the sections from one on, all in one page. Those that are missing are made present,
+/// and added to a list.
+pub fn fill_run(pages: &mut Pages, filled: &mut Vec<SectionPos>, s: SectionPos, len: u32)
+    requires place { nat_abs s.x ≤ 1000040 }
     requires run { nat_abs (int_rem_euclid s.x (pos 32)) + len ≤ 32 }
-    requires room { length missing.old.items + len ≤ vec_capacity missing.old }
-    ensures found { missing.new.items ≡ missing.old.items
-        ++ filter (λ q. not (is_here pages.now.entries q)) (row_of section_at s.x s.z len) }
-    ensures few { length missing.new.items ≤ length missing.old.items + len }
-    ensures room { vec_capacity missing.old ≤ vec_capacity missing.new }
+    requires high { (q : SectionPos) → near_at pages.old.entries q + 1 < 2 ^ 16 }
+    requires room { has_page pages.old.entries (page s.x) s.z ≡ false → 0 < pages.old.spare }
+    requires space { length filled.old.items + len ≤ vec_capacity filled.old }
+    ensures near { (q : SectionPos) → near_at pages.new.entries q
+        ≡ near_at pages.old.entries q + count_by (same_section q) (row_of section_at s.x s.z len) }
+    ensures here { (q : SectionPos) → is_here pages.new.entries q
+        ≡ (is_here pages.old.entries q
+        || nat_lt 0 (count_by (same_section q) (row_of section_at s.x s.z len))) }
+    ensures chunks { (q : SectionPos) → chunks_at pages.new.entries q
+        ≡ chunks_at pages.old.entries q }
+    ensures pages { (x z : ℤ) → has_page pages.new.entries x z
+        ≡ (is_same (page s.x) s.z x z || has_page pages.old.entries x z) }
+    ensures room { pages.old.spare ≤ pages.new.spare
+        + cond (has_page pages.old.entries (page s.x) s.z) 0 1 }
+    ensures filled { filled.new.items ≡ filled.old.items
+        ++ filter (λ q. not (is_here pages.old.entries q)) (row_of section_at s.x s.z len) }
+    ensures few { length filled.new.items ≤ length filled.old.items + len }
+    ensures space { vec_capacity filled.old ≤ vec_capacity filled.new }
 {
-    match pages.get(page_of(s)) {
-        Some(page) => find_on(page, missing, s, len),
-        None => find_off(missing, s, len),
+    match pages.get_mut(page_of(s)) {
+        Some(page) => fill_on(page, filled, s, len),
+        None => {
+            let mut page = empty_page();
+            fill_on(&mut page, filled, s, len);
+            let _ = pages.insert(page_of(s), page);
+        }
     }
 }
 

@@ -15,15 +15,15 @@ ghost use Rattle.fol_model.specs.Universe.{square};
 
 use crate::drops::drop_list;
 use crate::listings::list_all;
-use crate::missing::count_missing;
-use crate::pages::{self, Pages, is_present, loaded, make_room, near, put_stretch};
+use crate::missing::{count_missing, find_excess};
+use crate::pages::{self, Pages, is_present, loaded, make_room, near};
 use crate::places::{self, Numbers, number};
-use crate::squares::find_missing;
+use crate::squares::fill_around;
 use crate::stretches::{count_list, split_list};
 use crate::turns::{Turn, turn_square};
 use crate::{Added, Removed};
 use fol_model::{ChunkPos, Grid, MOST_SECTIONS, SectionPos, section_of};
-use fol_pages::{NEAR_PAGES, PageTable, stretch_len};
+use fol_pages::{NEAR_PAGES, PageTable};
 use std::alloc::{AllocError, Global};
 use std::collections::HashMap;
 use std::marker::Model;
@@ -207,7 +207,7 @@ impl Sections {
         Ok(())
     }
 
-    /// Adds a hold on a chunk, which is within the limits and has at most 2^62 holds. `spare` is at least 1.
+    /// Adds a hold on a chunk, which is within the limits and has fewer than 2^62 holds. `spare` is at least 1.
     ///
     /// The answer is `Full` exactly where the present sections and the missing ones that the chunk needs are more than 16,384;
     /// then nothing changes. Else the missing ones are present now, and one spare is used. Takes no memory.
@@ -233,22 +233,13 @@ impl Sections {
         }
         let home = section_of(&self.grid, c);
         let radius = create_radius(&self.grid);
-        find_missing(&self.pages, &mut self.filled, home, radius);
         let present = self.count;
-        let wanted = self.filled.len() as u32;
-        if present + wanted > MOST_SECTIONS as u32 {
-            self.filled.clear();
+        if let Some(wanted) = find_excess(&self.pages, present, home, radius) {
             return Added::Full { present, wanted };
         }
-        take_hold(
-            &mut self.holds,
-            &mut self.pages,
-            &mut self.died,
-            &self.filled,
-            home,
-            radius,
-            c,
-        );
+        hold_first(&mut self.holds, c);
+        add_chunk(&mut self.pages, &mut self.filled, home, radius);
+        let wanted = self.filled.len() as u32;
         self.count += wanted;
         self.spare -= 1;
         if wanted == 0 {
@@ -258,7 +249,7 @@ impl Sections {
         }
     }
 
-    /// Adds a hold on a chunk that has one, and at most 2^62, and says whether it has. No section is looked up, and none changes. Takes
+    /// Adds a hold on a chunk that has one, and fewer than 2^62, and says whether it has. No section is looked up, and none changes. Takes
     /// no memory.
     pub fn add_again(&mut self, c: ChunkPos) -> bool
         requires { holds_of self.old c < 2 ^ 62 }
@@ -395,69 +386,11 @@ fn answer_for(count: u64) -> Removed
     }
 }
 
-/// Makes the missing sections present that a chunk of the section `home` needs, and adds the first hold on the chunk.
-fn take_hold(
-    holds: &mut Numbers,
-    pages: &mut Pages,
-    died: &mut Vec<SectionPos>,
-    missing: &[SectionPos],
-    home: SectionPos,
-    radius: u8,
-    c: ChunkPos,
-)
-    requires hold { 1 ≤ room_of holds.old }
-    requires room { 34 ≤ pages.old.spare }
-    requires pages { InNear missing.now }
-    requires near { (nat_abs home.x ≤ 1000008) × (nat_abs home.z ≤ 1000008) }
-    requires few { radius ≤ 8 }
-    requires absent { (s : SectionPos) → IsTrue (is_among missing.now s)
-        → counts_at pages.old.entries s ≡ None }
-    requires around { (s : SectionPos) → IsTrue (is_within home radius s)
-        → IsTrue (is_here pages.old.entries s || is_among missing.now s) }
-    requires chunks_high { chunks_at pages.old.entries home ≤ 1024 }
-    requires near_high { (s : SectionPos) → near_at pages.old.entries s ≤ 289 }
-    requires none { died.old.items ≡ [] }
-    requires space { 289 ≤ vec_capacity died.old }
-    ensures counts { (q : ChunkPos) → count_at holds.new.entries q
-        ≡ at_chunk (count_at holds.old.entries) c 1 q }
-    ensures here { (s : SectionPos) → is_here pages.new.entries s
-        ≡ (is_here pages.old.entries s || is_among missing.now s) }
-    ensures chunks { (s : SectionPos) → chunks_at pages.new.entries s
-        ≡ cond (same_section home s) 1 0 + chunks_at pages.old.entries s }
-    ensures near { (s : SectionPos) → near_at pages.new.entries s
-        ≡ near_at pages.old.entries s + cond (nat_eq (chunks_at pages.old.entries home) 0
-        && is_within home radius s) 1 0 }
-    ensures rooms { (room_of holds.old ≤ room_of holds.new + 1)
-        × (pages.old.spare ≤ pages.new.spare + 34) }
-    ensures died { died.new.items ≡ [] }
-    ensures space { vec_capacity died.old ≤ vec_capacity died.new }
-{
-    fill(pages, missing);
-    hold_first(holds, c);
-    add_chunk(pages, died, home, radius);
-}
-
 /// How far the margin reaches round a loaded chunk's section.
 fn create_radius(grid: &Grid) -> u8
     ensures { result ≡ grid.now.create }
 {
     grid.create
-}
-
-/// Makes missing sections present, with no loaded chunk near them.
-fn fill(pages: &mut Pages, missing: &[SectionPos])
-    requires room { 34 ≤ pages.old.spare }
-    requires near { InNear missing.now }
-    ensures filled { (s : SectionPos) → counts_at pages.new.entries s
-        ≡ cond (is_among missing.now s) (Some no_counts) (counts_at pages.old.entries s) }
-    ensures room { pages.old.spare ≤ pages.new.spare + 34 }
-{
-    let mut rest = missing;
-    while !rest.is_empty() {
-        let (part, after) = rest.split_at(stretch_len(rest));
-        put_stretch(pages, part[0], part);
-        rest = after;
-    }
 }
 
 /// Adds a hold on a chunk in a table of such counts, and gives the count before. Takes no memory.
@@ -524,29 +457,32 @@ fn count_chunk(pages: &mut Pages, home: SectionPos, turn: Turn) -> u16
     pages::count(pages, home, turn)
 }
 
-/// Counts a loaded chunk more of a section round which all are present. None of them is dead since.
-fn add_chunk(pages: &mut Pages, died: &mut Vec<SectionPos>, home: SectionPos, radius: u8)
+/// Counts a loaded chunk more of a section. The missing sections within the radius are made present, and listed.
+fn add_chunk(pages: &mut Pages, filled: &mut Vec<SectionPos>, home: SectionPos, radius: u8)
     requires near { (nat_abs home.x ≤ 1000008) × (nat_abs home.z ≤ 1000008) }
     requires few { radius ≤ 8 }
-    requires here { (s : SectionPos) → IsTrue (is_within home radius s)
-        → IsTrue (is_here pages.old.entries s) }
+    requires around { 0 < chunks_at pages.old.entries home → (s : SectionPos)
+        → IsTrue (is_within home radius s) → IsTrue (is_here pages.old.entries s) }
     requires chunks_high { chunks_at pages.old.entries home ≤ 1024 }
     requires near_high { (s : SectionPos) → near_at pages.old.entries s ≤ 289 }
-    requires none { died.old.items ≡ [] }
-    requires space { 289 ≤ vec_capacity died.old }
+    requires room { 34 ≤ pages.old.spare }
+    requires none { filled.old.items ≡ [] }
+    requires space { 289 ≤ vec_capacity filled.old }
     ensures chunks { (s : SectionPos) → chunks_at pages.new.entries s
         ≡ cond (same_section home s) 1 0 + chunks_at pages.old.entries s }
     ensures near { (s : SectionPos) → near_at pages.new.entries s
         ≡ near_at pages.old.entries s + cond (nat_eq (chunks_at pages.old.entries home) 0
         && is_within home radius s) 1 0 }
-    ensures here { (s : SectionPos) → is_here pages.new.entries s ≡ is_here pages.old.entries s }
-    ensures room { pages.new.spare ≡ pages.old.spare }
-    ensures died { died.new.items ≡ [] }
-    ensures space { vec_capacity died.old ≤ vec_capacity died.new }
+    ensures here { (s : SectionPos) → is_here pages.new.entries s
+        ≡ (is_here pages.old.entries s || is_within home radius s) }
+    ensures room { pages.old.spare ≤ pages.new.spare + 34 }
+    ensures filled { filled.new.items ≡ filter (λ q. not (is_here pages.old.entries q))
+        (square home radius) }
+    ensures few { length filled.new.items ≤ 289 }
+    ensures space { vec_capacity filled.old ≤ vec_capacity filled.new }
 {
-    if count_chunk(pages, home, Turn::Filled) == 1 {
-        turn_square(pages, died, home, radius, Turn::Filled);
-    }
+    fill_around(pages, filled, home, radius);
+    let _ = count_chunk(pages, home, Turn::Filled);
 }
 
 /// Counts a loaded chunk less of a section that has one, and round which all are present, and finds those of them that are dead since.

@@ -1,50 +1,70 @@
-//! The sections within the create radius of a section, and which of them are missing.
+//! A section that came to hold its first loaded chunk is counted by the sections near it, and the missing ones of those are made present.
 
-ghost use Rattle.std.specs.Prelude.{◌≡◌, ◌+◌, ◌<◌, ◌≤◌, not, ◌++◌, [], length, pos, ◌+ℤ◌, nat_abs, IsTrue};
+ghost use Rattle.std.specs.Prelude.{◌≡◌, ◌+◌, ◌<◌, ◌≤◌, not, ◌||◌, ◌&&◌, [], cond, length, nat_abs, nat_eq, IsTrue};
 ghost use Rattle.std.specs.List.{filter};
 ghost use Rattle.std.specs.Vec.{vec_capacity};
 ghost use Rattle.fol_model.specs.declared.places.SectionPos.{SectionPos};
 ghost use Rattle.fol_model.specs.Geometry.{is_within};
 ghost use Rattle.fol_model.specs.Universe.{square};
-ghost use Rattle.fol_sections.specs.Pages.{chunks_at, is_here};
-ghost use Rattle.fol_sections.specs.Rows.{row_of, section_at};
+ghost use Rattle.fol_sections.specs.Pages.{chunks_at, is_here, near_at};
 
 use crate::pages::{Pages, loaded};
-use crate::runs::find_run;
+use crate::runs::fill_run;
 use crate::walks::SquareRuns;
 use fol_model::SectionPos;
 
-/// Finds the sections within a radius that are missing.
-fn find_square(pages: &Pages, missing: &mut Vec<SectionPos>, s: SectionPos, radius: u8)
+/// Counts a section more with a loaded chunk near all sections within the radius of it. Those that are missing are made present, and
+/// listed.
+fn fill_square(pages: &mut Pages, filled: &mut Vec<SectionPos>, s: SectionPos, radius: u8)
     requires near { (nat_abs s.x ≤ 1000008) × (nat_abs s.z ≤ 1000008) }
     requires few { radius ≤ 8 }
-    requires none { missing.old.items ≡ [] }
-    requires room { 289 ≤ vec_capacity missing.old }
-    ensures found { missing.new.items ≡ filter (λ q. not (is_here pages.now.entries q))
+    requires high { (q : SectionPos) → near_at pages.old.entries q ≤ 289 }
+    requires room { 34 ≤ pages.old.spare }
+    requires none { filled.old.items ≡ [] }
+    requires space { 289 ≤ vec_capacity filled.old }
+    ensures near { (q : SectionPos) → near_at pages.new.entries q
+        ≡ near_at pages.old.entries q + cond (is_within s radius q) 1 0 }
+    ensures here { (q : SectionPos) → is_here pages.new.entries q
+        ≡ (is_here pages.old.entries q || is_within s radius q) }
+    ensures chunks { (q : SectionPos) → chunks_at pages.new.entries q
+        ≡ chunks_at pages.old.entries q }
+    ensures room { pages.old.spare ≤ pages.new.spare + 34 }
+    ensures filled { filled.new.items ≡ filter (λ q. not (is_here pages.old.entries q))
         (square s radius) }
-    ensures few { length missing.new.items ≤ 289 }
-    ensures room { vec_capacity missing.old ≤ vec_capacity missing.new }
+    ensures few { length filled.new.items ≤ 289 }
+    ensures space { vec_capacity filled.old ≤ vec_capacity filled.new }
 {
     let mut runs = SquareRuns::new(s, radius);
     while let Some((first, len)) = runs.next_run() {
-        find_run(pages, missing, first, len);
+        fill_run(pages, filled, first, len);
     }
 }
 
-/// Finds the sections within a radius of one that are missing. If that one holds a loaded chunk, none is, and it alone is looked up.
-pub fn find_missing(pages: &Pages, missing: &mut Vec<SectionPos>, s: SectionPos, radius: u8)
+/// Counts a section that holds no loaded chunk yet at all sections within the radius. Those that are missing are made present, and listed.
+/// If it holds one, none is missing, and it alone is looked up.
+pub fn fill_around(pages: &mut Pages, filled: &mut Vec<SectionPos>, s: SectionPos, radius: u8)
     requires near { (nat_abs s.x ≤ 1000008) × (nat_abs s.z ≤ 1000008) }
     requires few { radius ≤ 8 }
-    requires around { 0 < chunks_at pages.now.entries s → (q : SectionPos)
-        → IsTrue (is_within s radius q) → IsTrue (is_here pages.now.entries q) }
-    requires none { missing.old.items ≡ [] }
-    requires room { 289 ≤ vec_capacity missing.old }
-    ensures found { missing.new.items ≡ filter (λ q. not (is_here pages.now.entries q))
+    requires around { 0 < chunks_at pages.old.entries s → (q : SectionPos)
+        → IsTrue (is_within s radius q) → IsTrue (is_here pages.old.entries q) }
+    requires high { (q : SectionPos) → near_at pages.old.entries q ≤ 289 }
+    requires room { 34 ≤ pages.old.spare }
+    requires none { filled.old.items ≡ [] }
+    requires space { 289 ≤ vec_capacity filled.old }
+    ensures near { (q : SectionPos) → near_at pages.new.entries q
+        ≡ near_at pages.old.entries q
+        + cond (nat_eq (chunks_at pages.old.entries s) 0 && is_within s radius q) 1 0 }
+    ensures here { (q : SectionPos) → is_here pages.new.entries q
+        ≡ (is_here pages.old.entries q || is_within s radius q) }
+    ensures chunks { (q : SectionPos) → chunks_at pages.new.entries q
+        ≡ chunks_at pages.old.entries q }
+    ensures room { pages.old.spare ≤ pages.new.spare + 34 }
+    ensures filled { filled.new.items ≡ filter (λ q. not (is_here pages.old.entries q))
         (square s radius) }
-    ensures few { length missing.new.items ≤ 289 }
-    ensures room { vec_capacity missing.old ≤ vec_capacity missing.new }
+    ensures few { length filled.new.items ≤ 289 }
+    ensures space { vec_capacity filled.old ≤ vec_capacity filled.new }
 {
     if loaded(pages, s) == 0 {
-        find_square(pages, missing, s, radius);
+        fill_square(pages, filled, s, radius);
     }
 }

@@ -92,8 +92,8 @@ loop-i-preserved c =
     let had : counts_on c.loop-i.page place ≡ Some was
     = ap (λ n. slice_index_or c.loop-i.page.sections n None) (sym same) ∙ some_is (slice_index_or c.loop-i.page.sections (c.place_of-place.result + c.loop-i.i) None) (ap (λ n. is_some (slice_index_or c.loop-i.page.sections n None)) same ∙ needs.0) in
     let whole : 32 ≤ length c.loop-i.page.sections = omega (arith, c.turn.ensures.whole) in
-    let turns = step_turns c.loop-i.page whole c.args.s place on (c.place_of-place.result + c.loop-i.i) same was (turned c.args.turn was) had c.args.turn (turned_by c.args.turn was (omega (arith, near, needs.1))) in
-    let keeps = step_keeps c.loop-i.page whole c.args.s place on (c.place_of-place.result + c.loop-i.i) same was (turned c.args.turn was) had refl in
+    let turns = step_turns c.loop-i.page whole c.args.s place on (c.place_of-place.result + c.loop-i.i) same (Some was) (turned c.args.turn was) had c.args.turn (turned_by c.args.turn was (omega (arith, near, needs.1))) in
+    let keeps = step_keeps c.loop-i.page whole c.args.s place on (c.place_of-place.result + c.loop-i.i) same (Some was) (turned c.args.turn was) had refl refl in
     let after : Page = record { sections = slice_set c.loop-i.page.sections (c.place_of-place.result + c.loop-i.i) (Some (turned c.args.turn was)) } in
     let near_more : (q : SectionPos) → IsOnPage c.args.s q → near_on after q + fall c.args.turn (count_by (same_section q) (row_of section_at c.args.s.x c.args.s.z (c.loop-i.i + 1)))
     ≡ near_on c.args.page.now q + rise c.args.turn (count_by (same_section q) (row_of section_at c.args.s.x c.args.s.z (c.loop-i.i + 1)))

@@ -1,28 +1,22 @@
-use Rattle.std.proofs.Common.{◌≡◌, ℕ, ◌+◌, ◌∙◌, ap, arith, true, false, cond}
-use Rattle.std.specs.Prelude.{nat_eq}
-use Rattle.std.proofs.lemmas.Bool.{eq-eqb, ne_eqb, le-leb}
+use Rattle.std.proofs.Common.{◌∙◌, arith}
+use Rattle.std.proofs.lemmas.Bool.{le-leb, or_right}
+use Rattle.fol_model.specs.Geometry.{is_within}
 use Rattle.fol_laws.proofs.Distances.{self_distance}
-use Rattle.fol_laws.proofs.SamePlaces.{same_section-self}
-use Rattle.fol_sections.specs.Pages.{chunks_at, near_at}
-use Rattle.fol_sections.proofs.DeadSteps.{square_none}
+use Rattle.fol_sections.specs.Pages.{is_here}
 use Rattle.fol_sections.proofs.sections.add_chunk.Goals as goal
 
 pub count_chunk-requires-clause-here : goal.count_chunk-requires-clause-here
-count_chunk-requires-clause-here c = c.requires.here c.args.home (le-leb _ _ (omega (arith, self_distance c.args.home)))
+count_chunk-requires-clause-here c =
+    c.fill_around.ensures.here c.args.home ∙ or_right (is_here c.args.pages.now.entries c.args.home) (is_within c.args.home c.args.radius c.args.home) (le-leb _ _ (omega (arith, self_distance c.args.home)))
 
-pub returns-then-count_chunk-eq1-clause-near : goal.returns-then-count_chunk-eq1-clause-near
-returns-then-count_chunk-eq1-clause-near c = λ s.
-    let home = c.count_chunk.ensures.chunks c.args.home ∙ ap (λ b. chunks_at c.args.pages.now.entries c.args.home + cond b 1 0) (same_section-self c.args.home) in
-    let first : nat_eq (chunks_at c.args.pages.now.entries c.args.home) 0 ≡ true = eq-eqb _ _ (omega (arith, home, c.count_chunk.ensures.after, c.if-count_chunk-eq1.true)) in
-    rw first (omega (arith, c.turn_square.ensures.near s, c.count_chunk.ensures.near s))
+pub count_chunk-requires-clause-high : goal.count_chunk-requires-clause-high
+count_chunk-requires-clause-high c = omega (arith, c.fill_around.ensures.chunks c.args.home, c.requires.chunks_high)
 
-pub returns-else-count_chunk-eq1-clause-near : goal.returns-else-count_chunk-eq1-clause-near
-returns-else-count_chunk-eq1-clause-near c = λ s.
-    let home = c.count_chunk.ensures.chunks c.args.home ∙ ap (λ b. chunks_at c.args.pages.now.entries c.args.home + cond b 1 0) (same_section-self c.args.home) in
-    let other : nat_eq (chunks_at c.args.pages.now.entries c.args.home) 0 ≡ false = ne_eqb _ _ (λ e. c.if-count_chunk-eq1.false (omega (arith, home, c.count_chunk.ensures.after, e))) in
-    rw other (omega (arith, c.count_chunk.ensures.near s))
+pub returns-clause-chunks : goal.returns-clause-chunks
+returns-clause-chunks c = λ s. omega (arith, c.count_chunk.ensures.chunks s, c.fill_around.ensures.chunks s)
 
-pub returns-then-count_chunk-eq1-clause-died : goal.returns-then-count_chunk-eq1-clause-died
-returns-then-count_chunk-eq1-clause-died c =
-    c.turn_square.ensures.died ∙ square_none (λ q. nat_eq (near_at c.turn_square.new.pages.entries q) 0) c.args.home c.args.radius (λ q w.
-    ne_eqb _ _ (λ e. absurd (omega (arith, e, c.turn_square.ensures.near q, ap (λ b. cond {A = ℕ} b 1 0) w))))
+pub returns-clause-near : goal.returns-clause-near
+returns-clause-near c = λ s. c.count_chunk.ensures.near s ∙ c.fill_around.ensures.near s
+
+pub returns-clause-here : goal.returns-clause-here
+returns-clause-here c = λ s. c.count_chunk.ensures.here s ∙ c.fill_around.ensures.here s

@@ -1,4 +1,4 @@
-use Rattle.std.proofs.Common.{◌≡◌, ℕ, ◌+◌, ◌-◌, ◌<◌, ◌≤◌, refl, sym, ◌∙◌, ap, arith, Bool, true, false, cond, List, ◌++◌, append_assoc, length}
+use Rattle.std.proofs.Common.{◌≡◌, ℕ, ◌+◌, ◌-◌, ◌≤◌, refl, sym, ◌∙◌, ap, arith, Bool, cond, List, ◌++◌, append_assoc, length}
 use Rattle.std.specs.Prelude.{ℤ, nat_eq, pos, ◌+ℤ◌}
 use Rattle.std.specs.List.{count_by, filter}
 use Rattle.std.proofs.lemmas.List.Elements.{filter-append}
@@ -17,7 +17,7 @@ use Rattle.fol_sections.proofs.DeadSteps.{filter-like}
 use Rattle.fol_sections.proofs.Lengths.{length-square}
 use Rattle.fol_sections.proofs.PageRuns.{filter_row, row_has}
 use Rattle.fol_sections.proofs.Rows.{append-none}
-use Rattle.fol_sections.proofs.SquareRows.{once}
+use Rattle.fol_sections.proofs.SquareRows.{once, one_is, one_most}
 use Rattle.fol_sections.proofs.SquareWalks.{run_shorter}
 use Rattle.fol_sections.proofs.TurnSteps.{rise_none, fall_none, rise_more, fall_more, rise_few, fall_rises}
 use Rattle.fol_sections.proofs.turns.turn_square.Goals as goal
@@ -30,14 +30,6 @@ next : (q : SectionPos) (x z : ℤ) (len : ℕ) (all before after : List Section
 next q x z len all before after e few =
     let split = ap (count_by (same_section q)) e ∙ count_by-append (same_section q) (row_of section_at x z len) after in
     (omega arith, omega arith, omega arith)
-
-one_most : (b : Bool) → cond b 1 0 ≤ 1
-one_most true = omega arith
-one_most false = omega arith
-
-some_is : (b : Bool) → 0 < cond b 1 0 → b ≡ true
-some_is true h = refl
-some_is false h = absurd (omega arith)
 
 pub loop-first-init : goal.loop-first-init
 loop-first-init c = record {
@@ -56,7 +48,7 @@ loop-first-init c = record {
 pub turn_run-requires-clause-here : goal.turn_run-requires-clause-here
 turn_run-requires-clause-here c = λ q some.
     let n = next q c.in-Some.first.x c.in-Some.first.z c.in-Some.len (square c.args.s c.args.radius) _ _ c.in-Some.ensures.run (c.loop-first.invariant.few q) in
-    c.loop-first.invariant.here q ∙ c.requires.here q (some_is (is_within c.args.s c.args.radius q) (omega (arith, n.1, once c.args.s c.args.radius q, some)))
+    c.loop-first.invariant.here q ∙ c.requires.here q (one_is (is_within c.args.s c.args.radius q) (omega (arith, n.1, once c.args.s c.args.radius q, some)))
 
 pub turn_run-requires-clause-low : goal.turn_run-requires-clause-low
 turn_run-requires-clause-low c = λ q.

@@ -1,15 +1,12 @@
-use Rattle.std.proofs.Common.{◌≡◌, ℕ, ◌+◌, ◌<◌, ◌≤◌, refl, sym, ◌∙◌, ap, arith, Bool, not, List, ◌&&◌, length, inl, inr}
-use Rattle.std.specs.Prelude.{ℤ, nat_eq, nat_le, nat_lt}
-use Rattle.std.specs.List.{count_by, filter}
+use Rattle.std.proofs.Common.{◌≡◌, ℕ, ◌+◌, ◌<◌, ◌≤◌, refl, sym, ◌∙◌, ap, arith, Bool, not, ◌&&◌, length, inl, inr}
+use Rattle.std.specs.Prelude.{nat_eq, nat_le, nat_lt}
+use Rattle.std.specs.List.{filter}
 use Rattle.std.proofs.Math.Bool.{and-false}
 use Rattle.std.proofs.lemmas.Bool.{cases_lt, eq-eqb, ne_eqb, le-leb, lt-leb, lt-ltb, le-ltb}
-use Rattle.std.proofs.lemmas.List.Sums.{length-filter}
-use Rattle.fol_model.specs.declared.places.SectionPos.{SectionPos}
 use Rattle.fol_model.specs.Geometry.{section_of}
 use Rattle.fol_model.specs.Universe.{square}
 use Rattle.fol_sections.specs.Pages.{is_here}
-use Rattle.fol_sections.specs.declared.pages.Page.{Page}
-use Rattle.fol_sections.proofs.AddTable.{fills-is, home_near}
+use Rattle.fol_sections.proofs.AddTable.{counted, fills-is, home_near}
 use Rattle.fol_sections.proofs.NumberSteps.{filled_around}
 use Rattle.fol_sections.proofs.sections.Sections.will_fill.Goals as goal
 
@@ -31,10 +28,6 @@ some_fill count n some =
 -- and where none is missing, none does
 none_fill : (b : Bool) (n : ℕ) → n ≤ 0 → nat_lt 0 n ≡ (b && not (nat_eq n 0))
 none_fill b n l = let z = eq-eqb n 0 (omega arith) in le-ltb 0 n l ∙ rw z (sym (and-false b))
-
--- what is counted, by the list of what is missing
-counted : (pages : List ((ℤ × ℤ) × Page)) (home s : SectionPos) (r radius n : ℕ) → home ≡ s → r ≡ radius → n ≡ count_by (λ q. not (is_here pages q)) (square home r) → n ≡ length (filter (λ q. not (is_here pages q)) (square s radius))
-counted pages home s r radius n e f is = is ∙ (λ i. count_by (λ q. not (is_here pages q)) (square (e i) (f i))) ∙ sym (length-filter (λ q. not (is_here pages q)) (square s radius))
 
 pub returns-then-wanted-gt0 : goal.returns-then-wanted-gt0
 returns-then-wanted-gt0 c =
