@@ -1,9 +1,12 @@
 -- What is still to come of a walk over a square.
 use Rattle.std.proofs.Common.{◌≡◌, ℕ, ◌+◌, ◌-◌, ◌*◌, ◌<◌, ◌≤◌, sym, ◌∙◌, ap, arith, List, [], ◌++◌, append_assoc, length, length-append}
 use Rattle.std.specs.Prelude.{ℤ, pos, ◌+ℤ◌, ◌-ℤ◌}
+use Rattle.std.specs.List.{count_by}
 use borrow.Author.Differences.{ints}
 use Rattle.fol_model.specs.declared.places.SectionPos.{SectionPos}
+use Rattle.fol_model.specs.Geometry.{same_section}
 use Rattle.fol_model.specs.Universe.{square}
+use Rattle.fol_laws.proofs.Coordinates.{count_by-append}
 use Rattle.fol_sections.specs.Rows.{row_of, rows_of, section_at}
 use Rattle.fol_sections.proofs.Lengths.{length-row}
 use Rattle.fol_sections.proofs.Rows.{row-none, row-split, rows-first, rows-none}
@@ -62,3 +65,8 @@ come_square s r side e =
 -- a run makes what is to come shorter
 pub run_shorter : (x z : ℤ) (len : ℕ) (before after : List SectionPos) → before ≡ row_of section_at x z len ++ after → length before ≡ len + length after
 run_shorter x z len before after e = omega (arith, ap length e, length-append (row_of section_at x z len) after, length-row section_at x z len)
+
+-- how often a section comes with a run and behind it
+pub run_counts : (q : SectionPos) (x z : ℤ) (len : ℕ) (before after : List SectionPos) → before ≡ row_of section_at x z len ++ after
+    → count_by (same_section q) before ≡ count_by (same_section q) (row_of section_at x z len) + count_by (same_section q) after
+run_counts q x z len before after e = ap (count_by (same_section q)) e ∙ count_by-append (same_section q) (row_of section_at x z len) after

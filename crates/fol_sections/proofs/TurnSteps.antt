@@ -1,12 +1,12 @@
 -- Numbers over the turn of a section.
-use Rattle.std.proofs.Common.{◌≡◌, ℕ, ◌+◌, ◌≤◌, refl, sym, ◌∙◌, ap, arith, cond, inl, inr, List}
+use Rattle.std.proofs.Common.{◌≡◌, ◌+◌, refl, sym, ◌∙◌, ap, arith, cond, inl, inr, List}
 use Rattle.std.specs.Prelude.{ℤ, Some}
 use Rattle.std.proofs.lemmas.Bool.{cases_Bool}
 use Rattle.fol_model.specs.declared.places.SectionPos.{SectionPos}
 use Rattle.fol_model.specs.Geometry.{same_section}
 use Rattle.fol_laws.proofs.SamePlaces.{same_section-true}
 use Rattle.fol_sections.specs.Pages.{chunks_at, counts_at, near_at}
-use Rattle.fol_sections.specs.Turns.{fall, rise, turned}
+use Rattle.fol_sections.specs.Turns.{fall, rise}
 use Rattle.fol_sections.specs.declared.pages.Counts.{Counts}
 use Rattle.fol_sections.specs.declared.pages.Page.{Page}
 use Rattle.fol_sections.specs.declared.turns.Turn.{Turn}
@@ -20,26 +20,6 @@ rise_none Emptied = refl
 pub fall_none : (turn : Turn) → fall turn 0 ≡ 0
 fall_none Filled = refl
 fall_none Emptied = refl
-
-pub rise_more : (turn : Turn) (a b : ℕ) → rise turn (a + b) ≡ rise turn a + rise turn b
-rise_more Filled a b = refl
-rise_more Emptied a b = refl
-
-pub fall_more : (turn : Turn) (a b : ℕ) → fall turn (a + b) ≡ fall turn a + fall turn b
-fall_more Filled a b = refl
-fall_more Emptied a b = refl
-
-pub rise_few : (turn : Turn) (a : ℕ) → rise turn a ≤ a
-rise_few Filled a = omega arith
-rise_few Emptied a = omega arith
-
-pub fall_rises : (turn : Turn) (a b : ℕ) → a ≤ b → fall turn a ≤ fall turn b
-fall_rises Filled a b h = omega arith
-fall_rises Emptied a b h = h
-
--- what is kept after a turn is one more or less
-pub turned_by : (turn : Turn) (counts : Counts) → fall turn 1 ≤ counts.near → (turned turn counts).near + fall turn 1 ≡ counts.near + rise turn 1
-turned_by turn counts low = omega (arith, low)
 
 module _ (before after : List ((ℤ × ℤ) × Page)) (s : SectionPos) (was now : Counts) (turn : Turn) (is : counts_at before s ≡ Some was)
     (step : (q : SectionPos) → counts_at after q ≡ cond (same_section s q) (Some now) (counts_at before q)) where

@@ -1,5 +1,5 @@
 -- Sections by page: 32 of them side by side in a row.
-use Rattle.std.specs.Prelude.{◌≡◌, ℕ, ℤ, pos, ◌+◌, ◌<◌, ◌+ℤ◌, Bool, true, Option, None, List, is_some, slice_index_or}
+use Rattle.std.specs.Prelude.{◌≡◌, ℕ, ℤ, pos, ◌+◌, ◌-◌, ◌<◌, ◌+ℤ◌, Bool, true, Option, None, List, is_some, slice_index_or}
 use Rattle.std.specs.Option.{option_and_then, unwrap_or}
 use Rattle.fol_model.specs.declared.places.SectionPos.{SectionPos}
 use Rattle.fol_model.specs.Geometry.{is_among}
@@ -15,6 +15,10 @@ no_counts = record { loaded = 0; near = 0 }
 -- what is kept of a section, present or not, with one section more near it that holds a loaded chunk
 abbrev pub reached : Option Counts → Counts
 reached kept = record { loaded = (unwrap_or kept no_counts).loaded; near = (unwrap_or kept no_counts).near + 1 }
+
+-- what is kept of a section with one section less near it that holds a loaded chunk
+abbrev pub left : Counts → Counts
+left counts = record { loaded = counts.loaded; near = counts.near - 1 }
 
 -- what a page keeps of a section that lies in it, if that is present
 abbrev pub counts_on : Page → SectionPos → Option Counts

@@ -2,8 +2,8 @@
 
 ghost use Rattle.std.specs.Prelude.{◌≡◌, ◌+◌, ◌<◌, ◌≤◌, ◌^◌, not, IsTrue, None, Some, is_some};
 ghost use Rattle.std.specs.Option.{unwrap_or};
-ghost use Rattle.fol_sections.specs.Pages.{no_counts, reached};
-ghost use Rattle.fol_sections.specs.Turns.{fall, rise, turned};
+ghost use Rattle.fol_sections.specs.Pages.{left, no_counts, reached};
+ghost use Rattle.fol_sections.specs.Turns.{fall, rise};
 
 use crate::pages::Counts;
 use crate::turns::{Turn, turned};
@@ -76,18 +76,6 @@ impl PackedCounts {
         self.near
     }
 
-    /// Counts a turn near the section, which is present, and gives the number after.
-    pub fn turn(&mut self, turn: Turn) -> u16
-        requires here { IsTrue (is_some self.old) }
-        requires low { fall turn 1 ≤ (unwrap_or self.old no_counts).near }
-        requires few { (unwrap_or self.old no_counts).near + 1 < 2 ^ 16 }
-        ensures after { result ≡ (turned turn (unwrap_or self.old no_counts)).near }
-        ensures turned { self.new ≡ Some (turned turn (unwrap_or self.old no_counts)) }
-    {
-        self.near = turned(self.near, turn);
-        self.near
-    }
-
     /// Counts a section more with a loaded chunk near the section, which is made present where it is not, and says whether it was made.
     pub fn reach(&mut self) -> bool
         requires few { (unwrap_or self.old no_counts).near + 1 < 2 ^ 16 }
@@ -98,8 +86,19 @@ impl PackedCounts {
         if is_made {
             self.loaded = 0;
         }
-        self.near = turned(self.near, Turn::Filled);
+        self.near += 1;
         is_made
+    }
+
+    /// Counts a section less with a loaded chunk near the section, which is present, and gives the number after.
+    pub fn leave(&mut self) -> u16
+        requires here { IsTrue (is_some self.old) }
+        requires low { 0 < (unwrap_or self.old no_counts).near }
+        ensures after { result ≡ (left (unwrap_or self.old no_counts)).near }
+        ensures left { self.new ≡ Some (left (unwrap_or self.old no_counts)) }
+    {
+        self.near -= 1;
+        self.near
     }
 
     /// Changes the number of loaded chunks of the section, which is present, by one, and gives the number after.

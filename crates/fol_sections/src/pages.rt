@@ -5,9 +5,9 @@ ghost use Rattle.std.specs.Option.{unwrap_or};
 ghost use Rattle.std.specs.List.{All, list_all};
 ghost use Rattle.fol_model.specs.declared.places.SectionPos.{SectionPos};
 ghost use Rattle.fol_model.specs.Geometry.{is_among, same_section};
-ghost use Rattle.fol_sections.specs.Pages.{IsOnPage, counts_at, has_page, is_here, chunks_at, chunks_on, counts_on, near_at, near_on, no_counts, page_of as page, reached};
+ghost use Rattle.fol_sections.specs.Pages.{IsOnPage, counts_at, has_page, is_here, chunks_at, chunks_on, counts_on, left, near_at, near_on, no_counts, page_of as page, reached};
 ghost use Rattle.fol_sections.specs.Places.{is_same};
-ghost use Rattle.fol_sections.specs.Turns.{fall, rise, turned};
+ghost use Rattle.fol_sections.specs.Turns.{fall, rise};
 
 use crate::packed::PackedCounts;
 use crate::turns::Turn;
@@ -57,25 +57,6 @@ impl Page {
         self.sections[place].is_absent()
     }
 
-    /// Counts a turn near the section at a place, which is present, and gives the number after.
-    pub fn turn(&mut self, place: usize, turn: Turn) -> u16
-        requires place { place < 32 }
-        requires here { IsTrue (is_some (slice_index_or self.old.sections place None)) }
-        requires low { fall turn 1
-            ≤ (unwrap_or (slice_index_or self.old.sections place None) no_counts).near }
-        requires few { (unwrap_or (slice_index_or self.old.sections place None) no_counts).near + 1
-            < 2 ^ 16 }
-        ensures after { result
-            ≡ (turned turn (unwrap_or (slice_index_or self.old.sections place None) no_counts)).near }
-        ensures turned { self.new ≡ record {
-          sections = slice_set self.old.sections place
-              (Some (turned turn (unwrap_or (slice_index_or self.old.sections place None) no_counts)));
-        } }
-        ensures whole { length self.old.sections ≡ 32 }
-    {
-        self.sections[place].turn(turn)
-    }
-
     /// Counts a section more with a loaded chunk near the section at a place, which is made present where it is not, and says whether
     /// it was made.
     pub fn reach(&mut self, place: usize) -> bool
@@ -90,6 +71,22 @@ impl Page {
         ensures whole { length self.old.sections ≡ 32 }
     {
         self.sections[place].reach()
+    }
+
+    /// Counts a section less with a loaded chunk near the section at a place, which is present, and gives the number after.
+    pub fn leave(&mut self, place: usize) -> u16
+        requires place { place < 32 }
+        requires here { IsTrue (is_some (slice_index_or self.old.sections place None)) }
+        requires low { 0 < (unwrap_or (slice_index_or self.old.sections place None) no_counts).near }
+        ensures after { result
+            ≡ (left (unwrap_or (slice_index_or self.old.sections place None) no_counts)).near }
+        ensures left { self.new ≡ record {
+          sections = slice_set self.old.sections place
+              (Some (left (unwrap_or (slice_index_or self.old.sections place None) no_counts)));
+        } }
+        ensures whole { length self.old.sections ≡ 32 }
+    {
+        self.sections[place].leave()
     }
 
     /// Changes the number of loaded chunks of the section at a place, which is present, by one, and gives the number after.

@@ -1,6 +1,6 @@
 //! Sections side by side in one page, for which the page is looked up once.
 
-ghost use Rattle.std.specs.Prelude.{◌≡◌, ℤ, ◌+◌, ◌<◌, ◌≤◌, ◌^◌, not, ◌||◌, false, cond, ◌++◌, IsTrue, is_some, length, nat_abs, nat_lt, pos, ◌+ℤ◌};
+ghost use Rattle.std.specs.Prelude.{◌≡◌, ℤ, ◌+◌, ◌-◌, ◌<◌, ◌≤◌, ◌^◌, not, ◌||◌, false, cond, ◌++◌, IsTrue, is_some, length, nat_abs, nat_eq, nat_lt, pos, ◌+ℤ◌};
 ghost use Rattle.std.specs.Int.{int_rem_euclid};
 ghost use Rattle.std.specs.List.{count_by, filter};
 ghost use Rattle.std.specs.Vec.{vec_capacity};
@@ -9,10 +9,8 @@ ghost use Rattle.fol_model.specs.Geometry.{same_section};
 ghost use Rattle.fol_sections.specs.Pages.{IsOnPage, KeepsOthers, chunks_at, chunks_on, counts_on, has_page, is_here, near_at, near_on, page_of as page};
 ghost use Rattle.fol_sections.specs.Places.{is_same};
 ghost use Rattle.fol_sections.specs.Rows.{row_of, section_at};
-ghost use Rattle.fol_sections.specs.Turns.{fall, leaves_none, rise};
 
 use crate::pages::{Page, Pages, empty_page};
-use crate::turns::Turn;
 use fol_model::SectionPos;
 use fol_pages::{page_of, place_of};
 
@@ -88,62 +86,56 @@ pub fn fill_run(pages: &mut Pages, filled: &mut Vec<SectionPos>, s: SectionPos, 
     }
 }
 
-/// Counts a turn at the sections from one on, which are present in their page, and adds those to a list near which no section holds a
-/// loaded chunk after it.
-fn turn_on(page: &mut Page, died: &mut Vec<SectionPos>, s: SectionPos, len: u32, turn: Turn)
+/// Counts a section less with a loaded chunk near the sections from one on, which are present in their page. Those near which no section
+/// holds one after it are added to a list.
+fn empty_on(page: &mut Page, died: &mut Vec<SectionPos>, s: SectionPos, len: u32)
     requires place { nat_abs s.x ≤ 1000040 }
     requires run { nat_abs (int_rem_euclid s.x (pos 32)) + len ≤ 32 }
     requires here { (q : SectionPos) → 0 < count_by (same_section q) (row_of section_at s.x s.z len)
         → IsTrue (is_some (counts_on page.old q)) }
     requires low { (q : SectionPos) → IsOnPage s q
-        → fall turn (count_by (same_section q) (row_of section_at s.x s.z len)) ≤ near_on page.old q }
-    requires high { (q : SectionPos) → IsOnPage s q
-        → near_on page.old q + count_by (same_section q) (row_of section_at s.x s.z len) < 2 ^ 16 }
+        → count_by (same_section q) (row_of section_at s.x s.z len) ≤ near_on page.old q }
     requires space { length died.old.items + len ≤ vec_capacity died.old }
-    ensures near { (q : SectionPos) → IsOnPage s q
-        → near_on page.new q + fall turn (count_by (same_section q) (row_of section_at s.x s.z len))
-        ≡ near_on page.old q + rise turn (count_by (same_section q) (row_of section_at s.x s.z len)) }
+    ensures near { (q : SectionPos) → IsOnPage s q → near_on page.old q
+        ≡ near_on page.new q + count_by (same_section q) (row_of section_at s.x s.z len) }
     ensures kept { KeepsOthers page.old page.new }
     ensures died { died.new.items ≡ died.old.items
-        ++ filter (λ q. leaves_none turn (near_on page.old q)) (row_of section_at s.x s.z len) }
+        ++ filter (λ q. nat_eq (near_on page.old q - 1) 0) (row_of section_at s.x s.z len) }
     ensures few { length died.new.items ≤ length died.old.items + len }
     ensures space { vec_capacity died.old ≤ vec_capacity died.new }
 {
     let place = place_of(s);
     for i in 0..len {
-        if page.turn(place + i as usize, turn) == 0 {
+        if page.leave(place + i as usize) == 0 {
             died.push_reserved(behind(s, i));
         }
     }
 }
 
-/// Counts a turn at the sections from one on, which are present and all in one page, and adds those to a list near which no section
-/// holds a loaded chunk after it.
-pub fn turn_run(pages: &mut Pages, died: &mut Vec<SectionPos>, s: SectionPos, len: u32, turn: Turn)
+/// Counts a section less with a loaded chunk near the sections from one on, which are present and all in one page. Those near which no
+/// section holds one after it are added to a list.
+pub fn empty_run(pages: &mut Pages, died: &mut Vec<SectionPos>, s: SectionPos, len: u32)
     requires place { nat_abs s.x ≤ 1000040 }
     requires run { nat_abs (int_rem_euclid s.x (pos 32)) + len ≤ 32 }
     requires here { (q : SectionPos) → 0 < count_by (same_section q) (row_of section_at s.x s.z len)
         → IsTrue (is_here pages.old.entries q) }
     requires low { (q : SectionPos)
-        → fall turn (count_by (same_section q) (row_of section_at s.x s.z len)) ≤ near_at pages.old.entries q }
-    requires high { (q : SectionPos) → near_at pages.old.entries q
-        + count_by (same_section q) (row_of section_at s.x s.z len) < 2 ^ 16 }
+        → count_by (same_section q) (row_of section_at s.x s.z len) ≤ near_at pages.old.entries q }
     requires space { length died.old.items + len ≤ vec_capacity died.old }
-    ensures near { (q : SectionPos)
-        → near_at pages.new.entries q + fall turn (count_by (same_section q) (row_of section_at s.x s.z len))
-        ≡ near_at pages.old.entries q + rise turn (count_by (same_section q) (row_of section_at s.x s.z len)) }
+    ensures near { (q : SectionPos) → near_at pages.old.entries q
+        ≡ near_at pages.new.entries q + count_by (same_section q) (row_of section_at s.x s.z len) }
     ensures here { (q : SectionPos) → is_here pages.new.entries q ≡ is_here pages.old.entries q }
     ensures chunks { (q : SectionPos) → chunks_at pages.new.entries q
         ≡ chunks_at pages.old.entries q }
     ensures room { pages.new.spare ≡ pages.old.spare }
     ensures died { died.new.items ≡ died.old.items
-        ++ filter (λ q. leaves_none turn (near_at pages.old.entries q))
+        ++ filter (λ q. nat_eq (near_at pages.old.entries q - 1) 0)
         (row_of section_at s.x s.z len) }
     ensures few { length died.new.items ≤ length died.old.items + len }
     ensures space { vec_capacity died.old ≤ vec_capacity died.new }
 {
     match pages.get_mut(page_of(s)) {
-        Some(page) => turn_on(page, died, s, len, turn),
+        Some(page) => empty_on(page, died, s, len),
         None => {}
     }
 }

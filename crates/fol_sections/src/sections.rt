@@ -18,9 +18,9 @@ use crate::listings::list_all;
 use crate::missing::{count_missing, find_excess};
 use crate::pages::{self, Pages, is_present, loaded, make_room, near};
 use crate::places::{self, Numbers, number};
-use crate::squares::fill_around;
+use crate::squares::{empty_square, fill_around};
 use crate::stretches::{count_list, split_list};
-use crate::turns::{Turn, turn_square};
+use crate::turns::Turn;
 use crate::{Added, Removed};
 use fol_model::{ChunkPos, Grid, MOST_SECTIONS, SectionPos, section_of};
 use fol_pages::{NEAR_PAGES, PageTable};
@@ -495,7 +495,6 @@ fn drop_chunk(pages: &mut Pages, died: &mut Vec<SectionPos>, home: SectionPos, r
     requires chunks_high { chunks_at pages.old.entries home ≤ 1024 }
     requires near_low { (s : SectionPos)
         → cond (is_within home radius s) 1 0 ≤ near_at pages.old.entries s }
-    requires near_high { (s : SectionPos) → near_at pages.old.entries s ≤ 289 }
     requires none { died.old.items ≡ [] }
     requires space { 289 ≤ vec_capacity died.old }
     ensures chunks { (s : SectionPos) → chunks_at pages.old.entries s
@@ -510,6 +509,6 @@ fn drop_chunk(pages: &mut Pages, died: &mut Vec<SectionPos>, home: SectionPos, r
     ensures space { vec_capacity died.old ≤ vec_capacity died.new }
 {
     if count_chunk(pages, home, Turn::Emptied) == 0 {
-        turn_square(pages, died, home, radius, Turn::Emptied);
+        empty_square(pages, died, home, radius);
     }
 }

@@ -14,7 +14,7 @@ pub returns-then-count_chunk-eq0-clause-near : goal.returns-then-count_chunk-eq0
 returns-then-count_chunk-eq0-clause-near c = λ s.
     let home = ap (λ b. chunks_at c.count_chunk.new.pages.entries c.args.home + cond b 1 0) (sym (same_section-self c.args.home)) ∙ c.count_chunk.ensures.chunks c.args.home in
     let last : nat_eq (chunks_at c.args.pages.now.entries c.args.home) 1 ≡ true = eq-eqb _ _ (omega (arith, home, c.count_chunk.ensures.after, c.if-count_chunk-eq0.true)) in
-    rw last (omega (arith, c.turn_square.ensures.near s, c.count_chunk.ensures.near s))
+    rw last (omega (arith, c.empty_square.ensures.near s, c.count_chunk.ensures.near s))
 
 pub returns-else-count_chunk-eq0-clause-near : goal.returns-else-count_chunk-eq0-clause-near
 returns-else-count_chunk-eq0-clause-near c = λ s.

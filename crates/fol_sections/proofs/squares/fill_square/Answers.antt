@@ -1,11 +1,10 @@
 use Rattle.std.proofs.Common.{◌≡◌, ℕ, ◌+◌, ◌<◌, ◌≤◌, refl, sym, ◌∙◌, ap, arith, Bool, true, cond, not, ◌||◌, List, ◌++◌, append_assoc, length}
-use Rattle.std.specs.Prelude.{ℤ, nat_lt, pos, ◌+ℤ◌}
+use Rattle.std.specs.Prelude.{nat_lt, pos, ◌+ℤ◌}
 use Rattle.std.specs.List.{count_by, filter}
 use Rattle.std.proofs.lemmas.List.Elements.{filter-append}
 use Rattle.fol_model.specs.declared.places.SectionPos.{SectionPos}
 use Rattle.fol_model.specs.Geometry.{is_among, is_within, same_section}
 use Rattle.fol_model.specs.Universe.{square}
-use Rattle.fol_laws.proofs.Coordinates.{count_by-append}
 use Rattle.fol_laws.proofs.SectionOrder.{square_members}
 use Rattle.fol_sections.specs.Pages.{InNear, is_here}
 use Rattle.fol_sections.specs.Rows.{row_of, section_at}
@@ -16,19 +15,14 @@ use Rattle.fol_sections.proofs.NearPages.{near_few, room_left, some_absent, squa
 use Rattle.fol_sections.proofs.PageRuns.{filter_row, row_first, row_has}
 use Rattle.fol_sections.proofs.Rows.{append-none}
 use Rattle.fol_sections.proofs.SquareRows.{once, one_is, one_most}
-use Rattle.fol_sections.proofs.SquareWalks.{run_shorter}
+use Rattle.fol_sections.proofs.SquareWalks.{run_counts, run_shorter}
 use Rattle.fol_sections.proofs.squares.fill_square.Goals as goal
-
--- how often a section comes with the next run and behind it
-next : (q : SectionPos) (x z : ℤ) (len : ℕ) (before after : List SectionPos) → before ≡ row_of section_at x z len ++ after
-    → count_by (same_section q) before ≡ count_by (same_section q) (row_of section_at x z len) + count_by (same_section q) after
-next q x z len before after e = ap (count_by (same_section q)) e ∙ count_by-append (same_section q) (row_of section_at x z len) after
 
 -- the first section of the next run is one of the square
 member : (s first : SectionPos) (radius len : ℕ) (before after : List SectionPos) → before ≡ row_of section_at first.x first.z len ++ after → 0 < len
     → ((q : SectionPos) → count_by (same_section q) before ≤ cond (is_within s radius q) 1 0) → is_among (square s radius) first ≡ true
 member s first radius len before after e some most =
-    square_members s radius first ∙ one_is (is_within s radius first) (omega (arith, most first, next first first.x first.z len before after e, row_first first len some))
+    square_members s radius first ∙ one_is (is_within s radius first) (omega (arith, most first, run_counts first first.x first.z len before after e, row_first first len some))
 
 pub loop-first-init : goal.loop-first-init
 loop-first-init c =
@@ -77,7 +71,7 @@ loop-first-preserved c =
     let come = rest c.next_run.new.self in
     let shorter = run_shorter first.x first.z len _ _ c.in-Some.ensures.run in
     let split : (q : SectionPos) → count_by (same_section q) (rest c.loop-first.runs) ≡ count_by (same_section q) row + count_by (same_section q) come
-    = λ q. next q first.x first.z len _ _ c.in-Some.ensures.run in
+    = λ q. run_counts q first.x first.z len _ _ c.in-Some.ensures.run in
     let more : filter (λ q. not (is_here c.loop-first.pages.entries q)) row ≡ filter test row
     = filter_row (λ q. not (is_here c.loop-first.pages.entries q)) test first.x first.z len (λ i l.
     let place : SectionPos = section_at (first.x +ℤ pos i) first.z in

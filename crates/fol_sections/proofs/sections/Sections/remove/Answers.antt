@@ -18,7 +18,7 @@ use Rattle.fol_sections.proofs.AddTable.{home_near}
 use Rattle.fol_sections.proofs.Bounds.{chunks_few}
 use Rattle.fol_sections.proofs.DeadSteps.{dead_square}
 use Rattle.fol_sections.proofs.KeptSteps.{kept_remove}
-use Rattle.fol_sections.proofs.Margins.{near_few, near_home}
+use Rattle.fol_sections.proofs.Margins.{near_home}
 use Rattle.fol_sections.proofs.NumberSteps.{chunks_positive}
 use Rattle.fol_sections.proofs.Tables.{table-holds, table-presence}
 use Rattle.fol_sections.proofs.sections.Sections.remove.Goals as goal
@@ -61,7 +61,6 @@ drop_chunk-requires c =
       some = chunks_positive c.self.inside.grid c.self.inside.holds.entries c.self.inside.pages.entries c.self.inside.count c.args.c kept held;
       chunks_high = chunks_few _ _ _ _ home kept;
       near_low = near_home c.self.inside.grid c.self.inside.holds.entries c.self.inside.pages.entries c.self.inside.count kept c.args.c held;
-      near_high = near_few _ _ _ _ kept;
       none = c.clear.ensures.items;
       space = omega (arith, c.clear.ensures.capacity, c.self.invariant.1.died);
     })
