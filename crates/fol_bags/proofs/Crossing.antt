@@ -22,6 +22,7 @@ use Rattle.fol_keyed.proofs.Crossing.{ChunkSet-send}
 use Rattle.fol_model.proofs.Crossing.{ChunkPos-send, Sequence-send}
 use Rattle.fol_bags.specs.contracts.bags.Bags as bags
 use Rattle.fol_bags.specs.contracts.kept.Kept as kept
+use Rattle.fol_bags.specs.contracts.labels.Labels as labels
 use Rattle.fol_bags.specs.contracts.places.Place as place
 use Rattle.fol_bags.specs.contracts.places.Places as places
 use Rattle.fol_bags.specs.contracts.places.Places.TheInside as inside
@@ -55,8 +56,12 @@ module _ (K V S T : RattleType) (e : eq.Ghosts K.Denot) (h : hash.Ghosts K.Denot
 Place-send : IsSend place.the_row
 Place-send = search sendable depth 14
 
+Labels-send : IsSend (labels.the_field).row
+Labels-send = search (sendable, Vec-send) depth 14
+
 fields_send : IsSend inside.the_row
-fields_send = declared_send inside.the_type (map_send _ _ _ FoldHasher.the_row _ _ _ _ place_send Place-send hasher_send, tt)
+fields_send =
+    declared_send inside.the_type (map_send _ _ _ FoldHasher.the_row _ _ _ _ place_send Place-send hasher_send, (as_row_send labels.the_field Labels-send, tt))
 
 pub Places-send : IsSend (places.the_field).row
 Places-send = search (sendable, fields_send) depth 14

@@ -4,12 +4,14 @@ use Rattle.std.specs.Prelude.{if◌then◌else◌, nat_eq}
 use Rattle.std.specs.Option.{option_map, unwrap_or}
 use Rattle.std.specs.Ordering.{int_eq}
 use Rattle.std.proofs.lemmas.Bool.{cases_Bool, eqb-true}
+use Rattle.std.proofs.lemmas.Map.Made.{lookup-map_values}
 use Rattle.fol_keyed.proofs.Places.{same_chunk-true}
 use Rattle.fol_model.specs.declared.places.ChunkPos.{ChunkPos}
 use Rattle.fol_model.specs.Geometry.{same_chunk}
 use Rattle.fol_queues.proofs.Numbers.{nat_self}
 use Rattle.fol_bags.specs.declared.places.Place.{Place}
-use Rattle.fol_bags.specs.Places.{place_at, known_place, nowhere, is_bag, is_number, rebagged}
+use Rattle.fol_bags.specs.Labels.{swapped}
+use Rattle.fol_bags.specs.Places.{place_at, known_place, nowhere, is_bag, is_number, rebagged, renumbered, exchanged, owned_rows}
 
 -- the test for a bag
 pub is_bag-some : (p : Place) (u : ℕ) → p.bag ≡ Some u → is_bag u p ≡ true
@@ -87,3 +89,98 @@ none_renamed old x z «from» to n a b =
           rw e (sym same ∙ n ∙ sym (ap (option_map (rebagged «from» to)) n))
       | inr e ↦ rw e refl
     ]
+
+-- a place, where each row has the label of its bag
+pub owned_place : (owner : ℕ → ℕ) (rows : List ((ℤ × ℤ) × Place)) (c : ChunkPos)
+    → place_at (record { rows = owned_rows owner rows }) c ≡ renumbered owner (place_at (record { rows = rows }) c)
+unfolding place_at known_place
+owned_place owner rows c =
+    rw (lookup-map_values (renumbered owner) (λ (key : ℤ × ℤ). int_eq c.x key.0 && int_eq c.z key.1) rows) (go (known_place rows c.x c.z))
+  where
+    go : (o : Option Place) → unwrap_or (option_map (renumbered owner) o) nowhere ≡ renumbered owner (unwrap_or o nowhere)
+    go None = refl
+    go (Some p) = refl
+
+module _ (owner : ℕ → ℕ) (old new : List ((ℤ × ℤ) × Place)) where
+  -- a place that was set by its label
+  pub owned_set : (c : ChunkPos) (row place : Place) → renumbered owner row ≡ place
+      → ((q : ChunkPos) → place_at (record { rows = new }) q ≡ (if same_chunk c q then row else place_at (record { rows = old }) q))
+      → (q : ChunkPos) → place_at (record { rows = owned_rows owner new }) q ≡ (if same_chunk c q then place else place_at (record { rows = owned_rows owner old }) q)
+  owned_set c row place e h q =
+      owned_place owner new q ∙ ap (renumbered owner) (h q) ∙ pick (same_chunk c q)
+    where
+      pick : (b : Bool) → renumbered owner (if b then row else place_at (record { rows = old }) q) ≡ (if b then place else place_at (record { rows = owned_rows owner old }) q)
+      pick true = e
+      pick false = sym (owned_place owner old q)
+
+  -- a change at one place, by labels
+  pub owned_renamed : (c : ChunkPos) («from» to old_label new_label : ℕ)
+      → owner old_label ≡ «from» → ((n : ℕ) → owner n ≡ «from» → n ≡ old_label) → owner new_label ≡ to
+      → ((q : ChunkPos) → place_at (record { rows = new }) q ≡ renamed (same_chunk c q) old_label new_label (place_at (record { rows = old }) q))
+      → (q : ChunkPos) → place_at (record { rows = owned_rows owner new }) q ≡ renamed (same_chunk c q) «from» to (place_at (record { rows = owned_rows owner old }) q)
+  owned_renamed c «from» to old_label new_label e alone f h q =
+      owned_place owner new q ∙ ap (renumbered owner) (h q) ∙ pick (same_chunk c q) (place_at (record { rows = old }) q)
+      ∙ ap (renamed (same_chunk c q) «from» to) (sym (owned_place owner old q))
+    where
+      same_test : (n : ℕ) → nat_eq «from» (owner n) ≡ nat_eq old_label n
+      same_test n =
+          elim (cases_Bool (nat_eq old_label n)) [
+            | inl t ↦
+                let g : old_label ≡ n = eqb-true old_label n t in
+                rw (t, ← g, e) (nat_self «from»)
+            | inr t ↦
+                elim (cases_Bool (nat_eq «from» (owner n))) [
+                  | inl u ↦
+                      let g : n ≡ old_label = alone n (sym (eqb-true «from» (owner n) u)) in
+                      let k : true ≡ false = sym (nat_self old_label) ∙ ap (nat_eq old_label) (sym g) ∙ t in
+                      cc
+                  | inr u ↦ u ∙ sym t
+                ]
+          ]
+
+      bags : (o : Option ℕ) → option_map owner (if is_number old_label o then Some new_label else o)
+          ≡ (if is_number «from» (option_map owner o) then Some to else option_map owner o)
+      bags None = refl
+      bags (Some n) = rw (same_test n) (either (nat_eq old_label n))
+        where
+          either : (t : Bool) → option_map owner (if t then Some new_label else Some n) ≡ (if t then Some to else Some (owner n))
+          either true = ap (λ (m : ℕ). Some m) f
+          either false = refl
+
+      -- a change of the bag alone
+      moved : (t : Bool) (p : Place) (o : Option ℕ) → (if t then record p { bag = o } else p) ≡ record p { bag = (if t then o else p.bag) }
+      moved true p o = refl
+      moved false p o = refl
+
+      pick : (b : Bool) (p : Place) → renumbered owner (renamed b old_label new_label p) ≡ renamed b «from» to (renumbered owner p)
+      pick false p = refl
+      pick true p =
+          ap (renumbered owner) (moved (is_bag old_label p) p (Some new_label))
+          ∙ ap (λ (o : Option ℕ). record p { bag = o }) (bags p.bag)
+          ∙ sym (moved (is_bag «from» (renumbered owner p)) (renumbered owner p) (Some to))
+
+-- the places after two bags were exchanged
+pub owned_exchanged : (rows : List ((ℤ × ℤ) × Place)) (a b : ℕ) (old new : ℕ → ℕ) → ((n : ℕ) → new n ≡ swapped a b (old n))
+    → (q : ChunkPos) → place_at (record { rows = owned_rows new rows }) q ≡ exchanged a b (place_at (record { rows = owned_rows old rows }) q)
+owned_exchanged rows a b old new h q =
+    owned_place new rows q ∙ go (place_at (record { rows = rows }) q) ∙ ap (exchanged a b) (sym (owned_place old rows q))
+  where
+    numbers : (o : Option ℕ) → option_map new o ≡ option_map (swapped a b) (option_map old o)
+    numbers None = refl
+    numbers (Some n) = ap (λ (m : ℕ). Some m) (h n)
+
+    go : (p : Place) → renumbered new p ≡ exchanged a b (renumbered old p)
+    go p = ap (λ (o : Option ℕ). record p { bag = o }) (numbers p.bag)
+
+-- nothing changes where each label keeps its bag
+pub owned_kept : (rows : List ((ℤ × ℤ) × Place)) (old new : ℕ → ℕ) → ((n : ℕ) → new n ≡ old n)
+    → (q : ChunkPos) → place_at (record { rows = owned_rows new rows }) q ≡ place_at (record { rows = owned_rows old rows }) q
+owned_kept rows old new h q =
+    owned_place new rows q ∙ go (place_at (record { rows = rows }) q) ∙ sym (owned_place old rows q)
+  where
+    numbers : (o : Option ℕ) → option_map new o ≡ option_map old o
+    numbers None = refl
+    numbers (Some n) = ap (λ (m : ℕ). Some m) (h n)
+
+    go : (p : Place) → renumbered new p ≡ renumbered old p
+    go p = ap (λ (o : Option ℕ). record p { bag = o }) (numbers p.bag)

@@ -1,6 +1,7 @@
 pub mod Things
 pub mod Moves
 pub mod Clear
+pub mod Labels
 pub mod Places
 pub mod Slots
 pub mod KeptLends

@@ -1,11 +1,12 @@
 -- Where the things of a chunk may lie.
-use Rattle.std.specs.Prelude.{ℕ, ℤ, Bool, false, ◌&&◌, nat_eq, if◌then◌else◌, List, Option, Some, None}
+use Rattle.std.specs.Prelude.{ℕ, ℤ, Bool, false, ◌&&◌, nat_eq, if◌then◌else◌, List, map, Option, Some, None}
 use Rattle.std.specs.Map.{lookup}
-use Rattle.std.specs.Option.{unwrap_or}
+use Rattle.std.specs.Option.{option_map, unwrap_or}
 use Rattle.std.specs.Ordering.{int_eq}
 use Rattle.fol_model.specs.declared.places.ChunkPos.{ChunkPos}
 use Rattle.fol_chunks.specs.Contents.{is_recorded}
 use Rattle.fol_bags.specs.declared.places.Place.{Place}
+use Rattle.fol_bags.specs.Labels.{swapped}
 
 -- what contracts see of the places
 pub record PlaceRows : Type 0 where
@@ -38,3 +39,15 @@ rebagged «from» to p = if is_bag «from» p then record p { bag = Some to } el
 -- the place of a chunk after what lies on the chunks went from one bag to another
 abbrev pub rehomed : List ChunkPos → ℕ → ℕ → ChunkPos → Place → Place
 rehomed chunks «from» to c p = if (is_recorded chunks c && is_bag «from» p) then record p { bag = Some to } else p
+
+-- the place with another number for its bag
+abbrev pub renumbered : (ℕ → ℕ) → Place → Place
+renumbered f p = record p { bag = option_map f p.bag }
+
+-- the place after two bags were exchanged
+abbrev pub exchanged : ℕ → ℕ → Place → Place
+exchanged a b p = renumbered (swapped a b) p
+
+-- the rows with the bag of each label, where they have labels
+abbrev pub owned_rows : (ℕ → ℕ) → List ((ℤ × ℤ) × Place) → List ((ℤ × ℤ) × Place)
+owned_rows owner rows = map (λ row. (row.0, renumbered owner row.1)) rows

@@ -12,6 +12,7 @@
 mod bags;
 mod difference;
 mod kept;
+mod labels;
 mod places;
 mod recalled;
 mod shift;

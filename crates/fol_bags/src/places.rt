@@ -5,8 +5,10 @@ ghost use Rattle.std.specs.Option.{option_map};
 ghost use Rattle.std.specs.Ordering.{int_eq};
 ghost use Rattle.fol_model.specs.Geometry.{same_chunk};
 ghost use Rattle.fol_model.specs.declared.places.ChunkPos.{ChunkPos};
-ghost use Rattle.fol_bags.specs.Places.{known_place, is_bag, rebagged};
+ghost use Rattle.fol_bags.specs.Labels.{numbered};
+ghost use Rattle.fol_bags.specs.Places.{known_place, is_bag, rebagged, renumbered};
 
+use crate::labels::Labels;
 use fol_model::ChunkPos;
 use std::alloc::{AllocError, Global};
 use std::collections::HashMap;
@@ -25,7 +27,7 @@ const NOWHERE: Place = Place {
     bag: None,
 };
 
-/// Places by the `x` and `z` of a chunk.
+/// Places by the `x` and `z` of a chunk, each with the label of its bag.
 type Rows = HashMap<(i32, i32), Place>;
 
 /// The place at these coordinates, if there is one.
@@ -82,22 +84,51 @@ fn rename(rows: &mut Rows, x: i32, z: i32, from: usize, to: usize)
     }
 }
 
-/// The place of each chunk; a chunk that was never named has neither spot nor bag.
+/// The place with the bag of its label.
+fn owned(labels: &Labels, row: Place) -> Place
+    ensures { result ≡ renumbered (numbered labels.now) row }
+{
+    match row.bag {
+        Some(label) => Place {
+            spot: row.spot,
+            bag: Some(labels.owner(label)),
+        },
+        None => row,
+    }
+}
+
+/// The place with the label of its bag.
+fn labelled(labels: &Labels, place: Place) -> Place
+    ensures { renumbered (numbered labels.now) result ≡ place }
+{
+    match place.bag {
+        Some(bag) => Place {
+            spot: place.spot,
+            bag: Some(labels.label(bag)),
+        },
+        None => place,
+    }
+}
+
+/// The place of each chunk; a chunk that was never named has neither spot nor bag. A chunk is kept with a label of its bag, so that two bags
+/// can be exchanged at no cost for their chunks.
 #[derive(Drop)]
 pub struct Places {
     rows: Rows,
+    labels: Labels,
 }
 
 impl Model for Places {
-    ghost use Rattle.fol_bags.specs.Places.{PlaceRows};
+    ghost use Rattle.fol_bags.specs.Labels.{numbered};
+    ghost use Rattle.fol_bags.specs.Places.{PlaceRows, owned_rows};
 
     ghost Value = { PlaceRows };
 
-    ghost view = { λ p. record { rows = p.rows.entries } };
+    ghost view = { λ p. record { rows = owned_rows (numbered p.labels) p.rows.entries } };
 }
 
 impl Places {
-    ghost use Rattle.fol_bags.specs.Places.{PlaceRows, place_at, nowhere, rehomed};
+    ghost use Rattle.fol_bags.specs.Places.{PlaceRows, place_at, nowhere, rehomed, exchanged};
 
     /// No chunk has a place. Takes no memory.
     pub fn new(alloc: Global) -> Places
@@ -105,15 +136,16 @@ impl Places {
     {
         Places {
             rows: HashMap::new(alloc),
+            labels: Labels::new(alloc),
         }
     }
 
     /// The place of a chunk.
-    #[tactic(auto, unfolding(crate::specs::Places::place_at))]
     pub fn at(&self, c: ChunkPos) -> Place
         ensures { result ≡ place_at self.now c }
     {
-        known(&self.rows, c.x, c.z).unwrap_or(NOWHERE)
+        let row = known(&self.rows, c.x, c.z).unwrap_or(NOWHERE);
+        owned(&self.labels, row)
     }
 
     /// Sets the place of a chunk. No memory is taken for a chunk that has a place.
@@ -123,7 +155,8 @@ impl Places {
         ensures err { OnErr result ((q : ChunkPos) → place_at self.new q ≡ place_at self.old q) }
         ensures unknown { OnErr result (place_at self.old c ≡ nowhere) }
     {
-        put(&mut self.rows, c.x, c.z, place)
+        let row = labelled(&self.labels, place);
+        put(&mut self.rows, c.x, c.z, row)
     }
 
     /// Takes the bag away from a chunk that has one. Takes no memory.
@@ -160,6 +193,18 @@ impl Places {
             ≡ (if (same_chunk c q && is_bag from (place_at self.old q))
             then record (place_at self.old q) { bag = Some to } else place_at self.old q) }
     {
-        rename(&mut self.rows, c.x, c.z, from, to);
+        let old = self.labels.label(from);
+        let new = self.labels.label(to);
+        rename(&mut self.rows, c.x, c.z, old, new);
+    }
+
+    /// Each chunk that has the bag `a` has the bag `b` then, and the other way round. Costs the same however many chunks they have. If memory
+    /// runs out, nothing has changed; neither if a number has more than 32 bits.
+    pub fn exchange(&mut self, a: usize, b: usize) -> Result<(), AllocError>
+        ensures ok { OnOk result ((q : ChunkPos)
+            → place_at self.new q ≡ exchanged a b (place_at self.old q)) }
+        ensures err { OnErr result ((q : ChunkPos) → place_at self.new q ≡ place_at self.old q) }
+    {
+        self.labels.exchange(a, b)
     }
 }
