@@ -11,7 +11,7 @@ use Rattle.fol_model.specs.Geometry.{same_chunk}
 use Rattle.fol_queues.proofs.Numbers.{nat_self}
 use Rattle.fol_bags.specs.declared.places.Place.{Place}
 use Rattle.fol_bags.specs.Labels.{swapped}
-use Rattle.fol_bags.specs.Places.{place_at, known_place, nowhere, is_bag, is_number, rebagged, renumbered, exchanged, owned_rows}
+use Rattle.fol_bags.specs.Places.{place_at, known_place, nowhere, is_bag, is_number, rebagged, renumbered, exchanged, renumbered_rows}
 
 -- the test for a bag
 pub is_bag-some : (p : Place) (u : ℕ) → p.bag ≡ Some u → is_bag u p ≡ true
@@ -92,7 +92,7 @@ none_renamed old x z «from» to n a b =
 
 -- a place, where each row has the label of its bag
 pub owned_place : (owner : ℕ → ℕ) (rows : List ((ℤ × ℤ) × Place)) (c : ChunkPos)
-    → place_at (record { rows = owned_rows owner rows }) c ≡ renumbered owner (place_at (record { rows = rows }) c)
+    → place_at (record { rows = renumbered_rows owner rows }) c ≡ renumbered owner (place_at (record { rows = rows }) c)
 unfolding place_at known_place
 owned_place owner rows c =
     rw (lookup-map_values (renumbered owner) (λ (key : ℤ × ℤ). int_eq c.x key.0 && int_eq c.z key.1) rows) (go (known_place rows c.x c.z))
@@ -105,11 +105,11 @@ module _ (owner : ℕ → ℕ) (old new : List ((ℤ × ℤ) × Place)) where
   -- a place that was set by its label
   pub owned_set : (c : ChunkPos) (row place : Place) → renumbered owner row ≡ place
       → ((q : ChunkPos) → place_at (record { rows = new }) q ≡ (if same_chunk c q then row else place_at (record { rows = old }) q))
-      → (q : ChunkPos) → place_at (record { rows = owned_rows owner new }) q ≡ (if same_chunk c q then place else place_at (record { rows = owned_rows owner old }) q)
+      → (q : ChunkPos) → place_at (record { rows = renumbered_rows owner new }) q ≡ (if same_chunk c q then place else place_at (record { rows = renumbered_rows owner old }) q)
   owned_set c row place e h q =
       owned_place owner new q ∙ ap (renumbered owner) (h q) ∙ pick (same_chunk c q)
     where
-      pick : (b : Bool) → renumbered owner (if b then row else place_at (record { rows = old }) q) ≡ (if b then place else place_at (record { rows = owned_rows owner old }) q)
+      pick : (b : Bool) → renumbered owner (if b then row else place_at (record { rows = old }) q) ≡ (if b then place else place_at (record { rows = renumbered_rows owner old }) q)
       pick true = e
       pick false = sym (owned_place owner old q)
 
@@ -117,7 +117,7 @@ module _ (owner : ℕ → ℕ) (old new : List ((ℤ × ℤ) × Place)) where
   pub owned_renamed : (c : ChunkPos) («from» to old_label new_label : ℕ)
       → owner old_label ≡ «from» → ((n : ℕ) → owner n ≡ «from» → n ≡ old_label) → owner new_label ≡ to
       → ((q : ChunkPos) → place_at (record { rows = new }) q ≡ renamed (same_chunk c q) old_label new_label (place_at (record { rows = old }) q))
-      → (q : ChunkPos) → place_at (record { rows = owned_rows owner new }) q ≡ renamed (same_chunk c q) «from» to (place_at (record { rows = owned_rows owner old }) q)
+      → (q : ChunkPos) → place_at (record { rows = renumbered_rows owner new }) q ≡ renamed (same_chunk c q) «from» to (place_at (record { rows = renumbered_rows owner old }) q)
   owned_renamed c «from» to old_label new_label e alone f h q =
       owned_place owner new q ∙ ap (renumbered owner) (h q) ∙ pick (same_chunk c q) (place_at (record { rows = old }) q)
       ∙ ap (renamed (same_chunk c q) «from» to) (sym (owned_place owner old q))
@@ -161,7 +161,7 @@ module _ (owner : ℕ → ℕ) (old new : List ((ℤ × ℤ) × Place)) where
 
 -- the places after two bags were exchanged
 pub owned_exchanged : (rows : List ((ℤ × ℤ) × Place)) (a b : ℕ) (old new : ℕ → ℕ) → ((n : ℕ) → new n ≡ swapped a b (old n))
-    → (q : ChunkPos) → place_at (record { rows = owned_rows new rows }) q ≡ exchanged a b (place_at (record { rows = owned_rows old rows }) q)
+    → (q : ChunkPos) → place_at (record { rows = renumbered_rows new rows }) q ≡ exchanged a b (place_at (record { rows = renumbered_rows old rows }) q)
 owned_exchanged rows a b old new h q =
     owned_place new rows q ∙ go (place_at (record { rows = rows }) q) ∙ ap (exchanged a b) (sym (owned_place old rows q))
   where
@@ -172,9 +172,54 @@ owned_exchanged rows a b old new h q =
     go : (p : Place) → renumbered new p ≡ exchanged a b (renumbered old p)
     go p = ap (λ (o : Option ℕ). record p { bag = o }) (numbers p.bag)
 
+-- two labels were exchanged at all places; each is the label of one bag alone
+module _ (owner : ℕ → ℕ) (a b label other : ℕ) (its : owner label ≡ a) (alone : (n : ℕ) → owner n ≡ a → n ≡ label)
+    (other_its : owner other ≡ b) (other_alone : (n : ℕ) → owner n ≡ b → n ≡ other) where
+  -- a label that is not the bag's has another bag
+  not_its : (bag its_label n : ℕ) → ((m : ℕ) → owner m ≡ bag → m ≡ its_label) → nat_eq n its_label ≡ false → nat_eq (owner n) bag ≡ false
+  not_its bag its_label n h f = elim (cases_Bool (nat_eq (owner n) bag)) [
+    | inl e ↦
+        let g : n ≡ its_label = h n (eqb-true (owner n) bag e) in
+        let k : true ≡ false = sym (nat_self its_label) ∙ ap (λ (m : ℕ). nat_eq m its_label) (sym g) ∙ f in
+        cc
+    | inr e ↦ e
+  ]
+
+  owner_swapped : (n : ℕ) → owner (swapped label other n) ≡ swapped a b (owner n)
+  owner_swapped n = elim (cases_Bool (nat_eq n label)) [
+    | inl e ↦
+        let g : n ≡ label = eqb-true n label e in
+        let k : owner n ≡ a = ap owner g ∙ its in
+        rw (e, k, nat_self a) other_its
+    | inr e ↦ elim (cases_Bool (nat_eq n other)) [
+      | inl f ↦
+          let g : n ≡ other = eqb-true n other f in
+          let k : owner n ≡ b = ap owner g ∙ other_its in
+          let m : nat_eq b a ≡ false = ap (λ (o : ℕ). nat_eq o a) (sym k) ∙ not_its a label n alone e in
+          rw (e, f, k, m, nat_self b) its
+      | inr f ↦ rw (e, f, not_its a label n alone e, not_its b other n other_alone f) refl
+    ]
+  ]
+
+  pub relabelled : (old new : List ((ℤ × ℤ) × Place)) → new ≡ renumbered_rows (swapped label other) old
+      → (q : ChunkPos) → place_at (record { rows = renumbered_rows owner new }) q ≡ exchanged a b (place_at (record { rows = renumbered_rows owner old }) q)
+  relabelled old new h q =
+      owned_place owner new q
+      ∙ ap (λ (rows : List ((ℤ × ℤ) × Place)). renumbered owner (place_at (record { rows = rows }) q)) h
+      ∙ ap (renumbered owner) (owned_place (swapped label other) old q)
+      ∙ go (place_at (record { rows = old }) q)
+      ∙ ap (exchanged a b) (sym (owned_place owner old q))
+    where
+      numbers : (o : Option ℕ) → option_map owner (option_map (swapped label other) o) ≡ option_map (swapped a b) (option_map owner o)
+      numbers None = refl
+      numbers (Some n) = ap (λ (m : ℕ). Some m) (owner_swapped n)
+
+      go : (p : Place) → renumbered owner (renumbered (swapped label other) p) ≡ exchanged a b (renumbered owner p)
+      go p = ap (λ (o : Option ℕ). record p { bag = o }) (numbers p.bag)
+
 -- nothing changes where each label keeps its bag
 pub owned_kept : (rows : List ((ℤ × ℤ) × Place)) (old new : ℕ → ℕ) → ((n : ℕ) → new n ≡ old n)
-    → (q : ChunkPos) → place_at (record { rows = owned_rows new rows }) q ≡ place_at (record { rows = owned_rows old rows }) q
+    → (q : ChunkPos) → place_at (record { rows = renumbered_rows new rows }) q ≡ place_at (record { rows = renumbered_rows old rows }) q
 owned_kept rows old new h q =
     owned_place new rows q ∙ go (place_at (record { rows = rows }) q) ∙ sym (owned_place old rows q)
   where

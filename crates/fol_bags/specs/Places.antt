@@ -48,6 +48,6 @@ renumbered f p = record p { bag = option_map f p.bag }
 abbrev pub exchanged : ℕ → ℕ → Place → Place
 exchanged a b p = renumbered (swapped a b) p
 
--- the rows with the bag of each label, where they have labels
-abbrev pub owned_rows : (ℕ → ℕ) → List ((ℤ × ℤ) × Place) → List ((ℤ × ℤ) × Place)
-owned_rows owner rows = map (λ row. (row.0, renumbered owner row.1)) rows
+-- the rows with another number for each bag, where they have one
+abbrev pub renumbered_rows : (ℕ → ℕ) → List ((ℤ × ℤ) × Place) → List ((ℤ × ℤ) × Place)
+renumbered_rows owner rows = map (λ row. (row.0, renumbered owner row.1)) rows

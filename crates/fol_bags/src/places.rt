@@ -5,8 +5,8 @@ ghost use Rattle.std.specs.Option.{option_map};
 ghost use Rattle.std.specs.Ordering.{int_eq};
 ghost use Rattle.fol_model.specs.Geometry.{same_chunk};
 ghost use Rattle.fol_model.specs.declared.places.ChunkPos.{ChunkPos};
-ghost use Rattle.fol_bags.specs.Labels.{numbered};
-ghost use Rattle.fol_bags.specs.Places.{known_place, is_bag, rebagged, renumbered};
+ghost use Rattle.fol_bags.specs.Labels.{numbered, swapped};
+ghost use Rattle.fol_bags.specs.Places.{known_place, is_bag, rebagged, renumbered, exchanged, renumbered_rows};
 
 use crate::labels::Labels;
 use fol_model::ChunkPos;
@@ -84,6 +84,42 @@ fn rename(rows: &mut Rows, x: i32, z: i32, from: usize, to: usize)
     }
 }
 
+/// The number `b` in place of `a`, and the other way round.
+fn swapped_number(n: usize, a: usize, b: usize) -> usize
+    ensures { result ≡ swapped a b n }
+{
+    if n == a {
+        b
+    } else if n == b {
+        a
+    } else {
+        n
+    }
+}
+
+/// The place with the label `b` in place of `a`, and the other way round.
+fn swapped_place(row: Place, a: usize, b: usize) -> Place
+    ensures { result ≡ exchanged a b row }
+{
+    match row.bag {
+        Some(label) => Place {
+            spot: row.spot,
+            bag: Some(swapped_number(label, a, b)),
+        },
+        None => row,
+    }
+}
+
+/// Exchanges two labels at all places.
+fn exchange_labels(rows: &mut Rows, a: usize, b: usize)
+    ensures { rows.new.entries ≡ renumbered_rows (swapped a b) rows.old.entries }
+{
+    rows.retain(|_, row| {
+        *row = swapped_place(*row, a, b);
+        true
+    });
+}
+
 /// The place with the bag of its label.
 fn owned(labels: &Labels, row: Place) -> Place
     ensures { result ≡ renumbered (numbered labels.now) row }
@@ -120,15 +156,15 @@ pub struct Places {
 
 impl Model for Places {
     ghost use Rattle.fol_bags.specs.Labels.{numbered};
-    ghost use Rattle.fol_bags.specs.Places.{PlaceRows, owned_rows};
+    ghost use Rattle.fol_bags.specs.Places.{PlaceRows, renumbered_rows};
 
     ghost Value = { PlaceRows };
 
-    ghost view = { λ p. record { rows = owned_rows (numbered p.labels) p.rows.entries } };
+    ghost view = { λ p. record { rows = renumbered_rows (numbered p.labels) p.rows.entries } };
 }
 
 impl Places {
-    ghost use Rattle.fol_bags.specs.Places.{PlaceRows, place_at, nowhere, rehomed, exchanged};
+    ghost use Rattle.fol_bags.specs.Places.{PlaceRows, place_at, nowhere, rehomed};
 
     /// No chunk has a place. Takes no memory.
     pub fn new(alloc: Global) -> Places
@@ -141,6 +177,7 @@ impl Places {
     }
 
     /// The place of a chunk.
+    #[inline(always)]
     pub fn at(&self, c: ChunkPos) -> Place
         ensures { result ≡ place_at self.now c }
     {
@@ -198,13 +235,23 @@ impl Places {
         rename(&mut self.rows, c.x, c.z, old, new);
     }
 
-    /// Each chunk that has the bag `a` has the bag `b` then, and the other way round. Costs the same however many chunks they have. If memory
-    /// runs out, nothing has changed; neither if a number has more than 32 bits.
-    pub fn exchange(&mut self, a: usize, b: usize) -> Result<(), AllocError>
-        ensures ok { OnOk result ((q : ChunkPos)
-            → place_at self.new q ≡ exchanged a b (place_at self.old q)) }
-        ensures err { OnErr result ((q : ChunkPos) → place_at self.new q ≡ place_at self.old q) }
+    /// Each chunk that has the bag `a` has the bag `b` then, and the other way round. Costs the same however many chunks they have; where memory
+    /// runs out, or a number has more than 32 bits, all places are gone over.
+    pub fn exchange(&mut self, a: usize, b: usize)
+        ensures { (q : ChunkPos) → place_at self.new q ≡ exchanged a b (place_at self.old q) }
     {
-        self.labels.exchange(a, b)
+        match self.labels.exchange(a, b) {
+            Ok(()) => {}
+            Err(_) => self.relabel(a, b),
+        }
+    }
+
+    /// The same, where each place gets another label.
+    fn relabel(&mut self, a: usize, b: usize)
+        ensures { (q : ChunkPos) → place_at self.new q ≡ exchanged a b (place_at self.old q) }
+    {
+        let label = self.labels.label(a);
+        let other = self.labels.label(b);
+        exchange_labels(&mut self.rows, label, other);
     }
 }

@@ -699,29 +699,6 @@ pub fn exchange(bags: &mut Bags, a: usize, b: usize)
     bags.lay(b, first);
 }
 
-/// Takes out the list of the chunks of a bag.
-pub fn take_list(alloc: Global, bags: &mut Bags, id: usize) -> Vec<ChunkPos>
-    requires { is_open (slot_in bags.old.items id) ≡ true }
-    ensures list { result.items ≡ (slot_in bags.old.items id).list }
-    ensures sets { SetsSlot id
-        (record (slot_in bags.old.items id) { list = [] })
-        bags.old bags.new }
-{
-    let slot = bags.slot_mut(id);
-    mem::replace(&mut slot.list, ChunkSet::new(alloc)).into_vec()
-}
-
-/// Puts back the list of the chunks of a bag.
-pub fn put_list(bags: &mut Bags, id: usize, chunks: Vec<ChunkPos>)
-    requires { is_open (slot_in bags.old.items id) ≡ true }
-    ensures sets { SetsSlot id
-        (record (slot_in bags.old.items id) { list = chunks.items })
-        bags.old bags.new }
-{
-    let slot = bags.slot_mut(id);
-    slot.list.put(chunks);
-}
-
 /// Moves what lies on the chunks from elsewhere into a bag. If memory runs out, nothing has moved.
 pub fn shift_into(
     bags: &mut Bags,

@@ -9,7 +9,8 @@ use Rattle.fol_chunks.specs.Contents.{is_recorded}
 use Rattle.fol_queues.proofs.Numbers.{nat_self}
 use Rattle.fol_bags.specs.declared.slot.Slot.{Slot}
 use Rattle.fol_bags.specs.Moves.{Loses, Gains}
-use Rattle.fol_bags.specs.Places.{PlaceRows, rehomed}
+use Rattle.fol_bags.specs.declared.places.Place.{Place}
+use Rattle.fol_bags.specs.Places.{PlaceRows, exchanged, rehomed}
 use Rattle.fol_bags.specs.Things.{Key, Thing, things, chunk_at}
 use Rattle.fol_store.specs.Stock.{Stock, Where, arriving, in_spot, in_bag, slot, place, column, bag_of, shown}
 use Rattle.fol_store.specs.Sound.{Near, IsBag, IsSound}
@@ -17,7 +18,7 @@ use Rattle.fol_store.specs.Steps.{SameWorld}
 use Rattle.fol_store.proofs.Columns.{Stayed, filter_no, filter_yes, moves_back}
 use Rattle.fol_store.proofs.Totals.{where_cases}
 use Rattle.fol_store.proofs.Drawing.{with_parts, Pours, at_source, at_target, apart_bags, moves_over, home_moves, home_cases}
-use Rattle.fol_store.proofs.GoingOver.{Pair, WentOver, went_over, shift_and_list}
+use Rattle.fol_store.proofs.GoingOver.{Pair, WentOver, went_over}
 use Rattle.fol_store.proofs.Stepping.{here_not_taken}
 
 never : {P : Type 0} → false ≡ true → P
@@ -66,33 +67,39 @@ module _ (s : Stock) (u id : ℕ) (chunks : List ChunkPos) (h : IsSound s) (pair
       all_come k None e = rw e refl
       all_come k (Some x) e = filter_yes (λ y. is_recorded chunks (chunk_at k y)) (things (slot s u).body k) x e (recorded_all k x e) ∙ sym e
 
--- the bags after the list of the first was taken out, both were exchanged, and the list was put back
-pub exchanged : (s : Stock) (u id : ℕ) (bare : Slot) (taken swapped new : ℕ → Slot) (relisted : Slot → Slot) → u ≢ id
-    → ((n : ℕ) → taken n ≡ (if nat_eq u n then bare else slot s n))
-    → ((n : ℕ) → swapped n ≡ (if nat_eq u n then taken id else (if nat_eq id n then taken u else taken n)))
-    → ((n : ℕ) → new n ≡ (if nat_eq id n then relisted (swapped id) else swapped n))
-    → (n : ℕ) → new n ≡ (if nat_eq u n then slot s id else (if nat_eq id n then relisted bare else slot s n))
-exchanged s u id bare taken swapped new relisted apart first second third =
-    shift_and_list s u id (slot s id) bare swapped new relisted apart (λ n. elim (cases_Bool (nat_eq u n)) [
-      | inl e ↦ second n ∙ rw e (first id ∙ elim (cases_Bool (nat_eq u id)) [ inl f ↦ absurd (apart (eqb-true u id f)) | inr f ↦ rw f refl ])
-      | inr e ↦ elim (cases_Bool (nat_eq id n)) [
-        | inl f ↦ second n ∙ rw (e, f) (first u ∙ rw (nat_self u) refl)
-        | inr f ↦ second n ∙ rw (e, f) (first n ∙ rw e refl)
-      ]
-    ]) third
+-- where no chunk names the second bag, and those that name the first are these, an exchange is a renaming of these
+pub exchanged-rehomed : (chunks : List ChunkPos) (u id : ℕ) (c : ChunkPos) (p : Place) → p.bag ≢ Some id → (p.bag ≡ Some u → is_recorded chunks c ≡ true) → exchanged u id p ≡ rehomed chunks u id c p
+exchanged-rehomed chunks u id c p never_second first_listed = go p.spot p.bag never_second first_listed
+  where
+    differ : (n m : ℕ) → n ≢ m → nat_eq n m ≡ false
+    differ n m h = elim (cases_Bool (nat_eq n m)) [ inl e ↦ absurd (h (eqb-true n m e)) | inr e ↦ e ]
 
--- ---- the bag goes over with its list
-module _ (s : Stock) (bags : List Slot) (places : PlaceRows) (spare slots u id : ℕ) (list : List ChunkPos) where
+    go : (spot o : Option ℕ) → o ≢ Some id → (o ≡ Some u → is_recorded chunks c ≡ true)
+        → exchanged u id (record { spot = spot; bag = o }) ≡ rehomed chunks u id c (record { spot = spot; bag = o })
+    go spot None a b = elim (cases_Bool (is_recorded chunks c)) [ inl e ↦ rw e refl | inr e ↦ rw e refl ]
+    go spot (Some n) a b = elim (cases_Bool (nat_eq u n)) [
+      | inl e ↦
+          let g : u ≡ n = eqb-true u n e in
+          let f : nat_eq n u ≡ true = ap (nat_eq n) g ∙ nat_self n in
+          let r : is_recorded chunks c ≡ true = b (ap (λ (m : ℕ). Some m) (sym g)) in
+          rw (e, f, r) refl
+      | inr e ↦
+          let f : nat_eq n u ≡ false = differ n u (λ g. true≢false (sym (nat_self u) ∙ ap (nat_eq u) (sym g) ∙ e)) in
+          let k : nat_eq n id ≡ false = differ n id (λ g. a (ap (λ (m : ℕ). Some m) g)) in
+          elim (cases_Bool (is_recorded chunks c)) [ inl r ↦ rw (e, f, k, r) refl | inr r ↦ rw (e, f, k, r) refl ]
+    ]
+
+-- ---- the bags are exchanged, and so are their names at the chunks
+module _ (s : Stock) (bags : List Slot) (places : PlaceRows) (spare slots u id : ℕ) where
   abbrev t : Stock
   t = with_parts s s.spots bags places spare slots
 
-  abbrev target : Slot
-  target = record (slot s u) { list = list }
+  abbrev list : List ChunkPos
+  list = (slot s u).chunks
 
   pub record Exchanges : Type 0 where
-    pub each : (n : ℕ) → slot t n ≡ (if nat_eq u n then slot s id else (if nat_eq id n then target else slot s n))
-    pub homes : (q : ChunkPos) → place t q ≡ rehomed list u id q (place s q)
-    pub list_is : list ≡ (slot s u).list
+    pub each : (n : ℕ) → slot t n ≡ (if nat_eq u n then slot s id else (if nat_eq id n then slot s u else slot s n))
+    pub homes : (q : ChunkPos) → place t q ≡ exchanged u id (place s q)
     pub pair : Pair s u id
     pub numbers : SameNumbers s u id
     pub long : length bags ≡ length s.bags
@@ -114,19 +121,19 @@ module _ (s : Stock) (bags : List Slot) (places : PlaceRows) (spare slots u id :
     id_home : (slot s id).taken ≡ false
     id_home = here_not_taken id s h d.pair.id_here
 
-    -- the list has the chunks of the bag
-    chunks_are : list ≡ (slot s u).chunks
-    chunks_are = d.list_is ∙ (h.bags u).list u_home
-
     all : (q : ChunkPos) → (place s q).bag ≡ Some u → is_recorded list q ≡ true
-    all q e = ap (λ l. is_recorded l q) chunks_are ∙ (h.bags u).claims (rw d.pair.here refl) q e
+    all q e = (h.bags u).claims (rw d.pair.here refl) q e
 
-    pours : Pours s bags places spare slots u id list (slot s id) target
+    -- no chunk names a bag that has none
+    none : (q : ChunkPos) → (place s q).bag ≢ Some id
+    none q e = true≢false (sym ((h.bags id).claims (rw d.pair.id_here refl) q e) ∙ ap (λ l. is_recorded l q) d.pair.bare)
+
+    pours : Pours s bags places spare slots u id list (slot s id) (slot s u)
     pours = record {
       each = d.each;
       loses = swap_loses s u id list h d.pair d.numbers all;
       gains = swap_gains s u id list h d.pair d.numbers all;
-      homes = d.homes;
+      homes = λ q. d.homes q ∙ exchanged-rehomed list u id q (place s q) (none q) (all q);
       apart = d.pair.apart;
       long = d.long;
       there = d.there;
@@ -136,10 +143,10 @@ module _ (s : Stock) (bags : List Slot) (places : PlaceRows) (spare slots u id :
 
     first_bag : IsBag t u (slot s id)
     first_bag = record {
-      claims = λ o c q. elim (home_cases s bags places spare slots u id list (slot s id) target pours c u q) [
+      claims = λ o c q. elim (home_cases s bags places spare slots u id list (slot s id) (slot s u) pours c u q) [
         | inl z ↦ absurd (d.pair.apart z.here)
         | inr z ↦
-            let e : Some u ≡ Some id = sym q ∙ home_moves s bags places spare slots u id list (slot s id) target pours c (all c z) z in
+            let e : Some u ≡ Some id = sym q ∙ home_moves s bags places spare slots u id list (slot s id) (slot s u) pours c (all c z) z in
             let f : u ≡ id = cc in absurd (d.pair.apart f)
       ];
       held = λ o c r. never (sym (shut o));
@@ -154,34 +161,34 @@ module _ (s : Stock) (bags : List Slot) (places : PlaceRows) (spare slots u id :
         shut : ((slot s id).listed || (slot s id).taken) ≡ true → true ≡ false
         shut o = sym o ∙ rw (d.pair.id_unlisted, id_home) refl
 
-    second_bag : IsBag t id target
+    second_bag : IsBag t id (slot s u)
     second_bag = record {
-      claims = λ o c q. elim (home_cases s bags places spare slots u id list (slot s id) target pours c id q) [
-        | inl z ↦ sym (ap (λ l. is_recorded l c) chunks_are) ∙ z.listed
-        | inr z ↦ never (sym (ap (λ l. is_recorded l c) d.pair.bare) ∙ (h.bags id).claims (rw d.pair.id_here refl) c z)
+      claims = λ o c q. elim (home_cases s bags places spare slots u id list (slot s id) (slot s u) pours c id q) [
+        | inl z ↦ z.listed
+        | inr z ↦ absurd (none c z)
       ];
-      held = λ o c r. home_moves s bags places spare slots u id list (slot s id) target pours c (ap (λ l. is_recorded l c) chunks_are ∙ r) ((h.bags u).held o c r);
+      held = λ o c r. home_moves s bags places spare slots u id list (slot s id) (slot s u) pours c r ((h.bags u).held o c r);
       near = λ o k w x q r. elim (moves_back where_cases (column s k) (column t k) (in_bag u) (in_bag id) (λ y. is_recorded list (chunk_at k y))
-          (apart_bags s bags places spare slots u id list (slot s id) target pours)
-          (moves_over s bags places spare slots u id list (slot s id) target pours k) w x q) [
-            | inl z ↦ subst (Near id target (chunk_at k x)) (sym z.there) refl
+          (apart_bags s bags places spare slots u id list (slot s id) (slot s u) pours)
+          (moves_over s bags places spare slots u id list (slot s id) (slot s u) pours k) w x q) [
+            | inl z ↦ subst (Near id (slot s u) (chunk_at k x)) (sym z.there) refl
             | inr z ↦ close k w x z r ((h.bags u).near o k w x z.had r)
           ];
       untouched = (h.bags u).untouched;
       opened = (h.bags u).opened;
       one = (h.bags u).one;
       out = λ o k x q. never (sym u_home ∙ o);
-      list = λ o. chunks_are;
+      list = (h.bags u).list;
     }
       where
         close : (k : Key) (w : Where) (x : Thing k) → Stayed where_cases (column s k) (column t k) (in_bag u) w (λ y. is_recorded list (chunk_at k y)) x
-            → is_recorded (slot s u).chunks (chunk_at k x) ≡ true → Near u (slot s u) (chunk_at k x) w → Near id target (chunk_at k x) w
+            → is_recorded (slot s u).chunks (chunk_at k x) ≡ true → Near u (slot s u) (chunk_at k x) w → Near id (slot s u) (chunk_at k x) w
         close k arriving x z r n = n
         close k (in_spot i) x z r n = n
-        close k (in_bag v) x z r n = never (sym (z.fails (ap (λ m. in_bag m) n)) ∙ ap (λ l. is_recorded l (chunk_at k x)) chunks_are ∙ r)
+        close k (in_bag v) x z r n = never (sym (z.fails (ap (λ m. in_bag m) n)) ∙ r)
 
-    over : WentOver s bags places spare slots u id list (slot s id) target
-    over = went_over s bags places spare slots u id list (slot s id) target (record {
+    over : WentOver s bags places spare slots u id list (slot s id) (slot s u)
+    over = went_over s bags places spare slots u id list (slot s id) (slot s u) (record {
       pours = pours;
       first = first_bag;
       second = second_bag;
@@ -193,8 +200,8 @@ module _ (s : Stock) (bags : List Slot) (places : PlaceRows) (spare slots u id :
     unfolding bag_of
     bags_exchanged = record {
       sound = over.sound;
-      «from» = ap shown (at_source s bags places spare slots u id list (slot s id) target pours);
-      to = ap shown (at_target s bags places spare slots u id list (slot s id) target pours);
+      «from» = ap shown (at_source s bags places spare slots u id list (slot s id) (slot s u) pours);
+      to = ap shown (at_target s bags places spare slots u id list (slot s id) (slot s u) pours);
       others = over.others;
       same = over.same;
     }

@@ -113,10 +113,8 @@ impl Store {
         ensures others { (u : ℕ) → u ≢ from → u ≢ to → bag_of self.new u ≡ bag_of self.old u }
         ensures same { SameWorld self.old self.new }
     {
-        let chunks = slots::take_list(self.alloc, &mut self.bags, from);
         slots::exchange(&mut self.bags, from, to);
-        self.places.rehome(&chunks, from, to);
-        slots::put_list(&mut self.bags, to, chunks);
+        self.places.exchange(from, to);
     }
 
     /// Those of the chunks that have a spot, where the bag has each of the chunks. `None` also where memory runs out.
