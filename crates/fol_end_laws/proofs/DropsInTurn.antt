@@ -13,14 +13,9 @@ use Rattle.fol_model.specs.Job.{Job, taken_task, is_taken, is_on}
 use Rattle.fol_model.specs.World.{World, due, due_below}
 use Rattle.fol_model.specs.End.{dropped}
 use Rattle.fol_laws.proofs.SamePlaces.{same_chunk-true}
-use Rattle.fol_end_laws.specs.DroppedHolds.{drop_each}
+use Rattle.fol_end_laws.specs.DroppedHolds.{drop_each, on_chunk}
 
--- how many of the tasks are on the chunk
-abbrev on_chunk : ChunkPos → List Task → ℕ
-on_chunk c [] = 0
-on_chunk c (t ∷ ts) = cond (same_chunk t.chunk c) 1 0 + on_chunk c ts
-
-on_both : (c : ChunkPos) (xs ys : List Task) → on_chunk c (xs ++ ys) ≡ on_chunk c xs + on_chunk c ys
+pub on_both : (c : ChunkPos) (xs ys : List Task) → on_chunk c (xs ++ ys) ≡ on_chunk c xs + on_chunk c ys
 on_both c [] ys = omega arith
 on_both c (t ∷ xs) ys = let i = on_both c xs ys in omega arith
 
@@ -28,7 +23,7 @@ on_taken : (c : ChunkPos) (r n : ℕ) (o : Option Job) → on_chunk c (taken_tas
 on_taken c r n None = refl
 on_taken c r n (Some j) = elim (cases_Bool (nat_eq j.taker r)) [ inl e ↦ rw e (omega arith) | inr e ↦ rw e refl ]
 
-on_due : (c : ChunkPos) (w : World) (r n : ℕ) → on_chunk c (due_below w r n) ≡ count_below (λ k. is_taken r (w.jobs k) && is_on c (w.jobs k)) n
+pub on_due : (c : ChunkPos) (w : World) (r n : ℕ) → on_chunk c (due_below w r n) ≡ count_below (λ k. is_taken r (w.jobs k) && is_on c (w.jobs k)) n
 unfolding due_below count_below
 on_due c w r zero = refl
 on_due c w r (suc n) = let i = on_due c w r n in let a = on_both c (due_below w r n) (taken_task r n (w.jobs n)) in let b = on_taken c r n (w.jobs n) in omega arith
@@ -44,7 +39,7 @@ drop_grid : (g : GridState) (c : ChunkPos) (f : ChunkPos → ℕ) → record (dr
 unfolding drop_hold
 drop_grid g c f = refl
 
-drops : (g : GridState) (ts : List Task) → drop_each g ts ≡ record g { holds = λ c. g.holds c - on_chunk c ts }
+pub drops : (g : GridState) (ts : List Task) → drop_each g ts ≡ record g { holds = λ c. g.holds c - on_chunk c ts }
 drops g [] = ap (λ (f : ChunkPos → ℕ). record g { holds = f }) (fun_ext (λ c. omega arith))
 drops g (t ∷ ts) = drops (drop_hold g t.chunk) ts ∙ drop_grid g t.chunk (λ c. (drop_hold g t.chunk).holds c - on_chunk c ts)
     ∙ ap (λ (f : ChunkPos → ℕ). record g { holds = f }) (fun_ext (λ c. less g t.chunk c (on_chunk c ts)))

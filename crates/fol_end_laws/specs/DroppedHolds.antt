@@ -1,10 +1,17 @@
 -- The holds of the tasks that ran, dropped one after another.
-use Rattle.std.specs.Prelude.{ℕ, ◌≡◌, List, [], ◌∷◌}
+use Rattle.std.specs.Prelude.{ℕ, ◌≡◌, ◌+◌, if◌then◌else◌, List, [], ◌∷◌}
+use Rattle.fol_model.specs.declared.places.ChunkPos.{ChunkPos}
+use Rattle.fol_model.specs.Geometry.{same_chunk}
 use Rattle.fol_model.specs.declared.tasks.Task.{Task}
 use Rattle.fol_model.specs.GridState.{GridState}
 use Rattle.fol_model.specs.Drop.{drop_hold}
 use Rattle.fol_model.specs.World.{World, due}
 use Rattle.fol_model.specs.End.{dropped}
+
+-- how many of the tasks are on the chunk
+abbrev pub on_chunk : ChunkPos → List Task → ℕ
+on_chunk c [] = 0
+on_chunk c (t ∷ ts) = (if same_chunk t.chunk c then 1 else 0) + on_chunk c ts
 
 -- a removed hold of the chunk of each task
 abbrev pub drop_each : GridState → List Task → GridState

@@ -280,12 +280,12 @@ abbrev wanted_in : AddAnswer → ℕ
 wanted_in (Full p q) = q
 wanted_in _ = 0
 
-delay_parts : (d : ℕ) → is_delay d ≡ true → (1 ≤ d) × (d ≤ 1000000)
+pub delay_parts : (d : ℕ) → is_delay d ≡ true → (1 ≤ d) × (d ≤ 1000000)
 unfolding is_delay
 delay_parts d h = let p = and_parts (nat_le 1 d) (nat_le d 1000000) h in (leb-true 1 d p.0, leb-true d 1000000 p.1)
 
 module _ (t : Tables) (v : Contents) (w : World) (since : ℕ → ℕ) (r n : ℕ) (u : Underway t v w since r (n + 1)) (x : Wish) where
-  no_job : IsNone (jobs_of t.store t.course.next_job)
+  pub no_job : IsNone (jobs_of t.store t.course.next_job)
   no_job = let e : w.jobs w.next_job ≡ None = u.ends.ending.sound.numbers w.next_job (omega arith) in
       let j : jobs_of t.store w.next_job ≡ at_rest w.grid since w.next_job (w.jobs w.next_job) = ap (λ (f : ℕ → Option Job). f w.next_job) u.midway.stored.jobs in
       rw u.midway.course.next_job (ap is_some (j ∙ ap (at_rest w.grid since w.next_job) e))

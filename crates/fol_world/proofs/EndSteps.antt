@@ -1,5 +1,5 @@
 -- The steps of an End: what each needs, and what the tables stand for after it.
-use Rattle.std.proofs.Common.{◌≡◌, ℕ, ◌+◌, ◌*◌, ◌≤◌, ◌<◌, ◌^◌, refl, sym, ◌∙◌, ap, arith, true, inl, inr, List, [], ◌∷◌, ◌++◌, length, ◌||◌, vec_len, vec_capacity}
+use Rattle.std.proofs.Common.{◌≡◌, ℕ, ◌+◌, ◌*◌, ◌≤◌, ◌<◌, ◌^◌, refl, sym, ◌∙◌, ap, subst, arith, true, inl, inr, List, [], ◌∷◌, ◌++◌, length, ◌||◌, vec_len, vec_capacity}
 use Rattle.std.specs.Prelude.{nat_eq, nat_lt, if◌then◌else◌, filter, Option, Some, None, IsTrue}
 use Rattle.std.specs.List.{AllByRecursion}
 use Rattle.std.specs.Option.{ForSome, is_none, option_or}
@@ -33,9 +33,7 @@ use Rattle.fol_laws.proofs.TickingKept.{Kept, kept_all}
 use Rattle.fol_laws.proofs.UnseenEnds.{recorded_owner}
 use Rattle.fol_laws.proofs.WholeRuns.{Good}
 use Rattle.fol_laws.proofs.WishLimits.{WishOk}
-use Rattle.fol_end_laws.specs.DroppedHolds.{drop_each}
 use Rattle.fol_model.specs.QueuedTask.{is_queued_in, queued_in}
-use Rattle.fol_end_laws.proofs.DropsInTurn.{drops_in_turn}
 use Rattle.fol_end_laws.proofs.SentNowhere.{sent_nowhere}
 use Rattle.fol_chunks.specs.Contents.{Apart, Contents, flat_of as contents_of, is_recorded, joined, option_filter, outside, within}
 use Rattle.fol_queues.specs.Waiting.{dated, jobs_of as jobs_in}
@@ -44,7 +42,7 @@ use Rattle.fol_data.specs.declared.region_data.RegionData.{RegionData}
 use Rattle.fol_data.specs.Rests.{IsInTime, rests_of}
 use Rattle.fol_regions.specs.Table.{grid_state}
 use Rattle.fol_regions.specs.Changes.{release_change}
-use Rattle.fol_store.specs.Relisted.{IsInOrder}
+use Rattle.fol_world.specs.Agenda.{Covers}
 use Rattle.fol_store.specs.Stock.{bag_of, flat_of, jobs_of, next_of}
 use Rattle.fol_world.specs.declared.tables.Tables.{Tables}
 use Rattle.fol_world.specs.AtEnd.{end_event, AtEnd}
@@ -53,11 +51,12 @@ use Rattle.fol_world.specs.CatchingUp.{AreHeld}
 use Rattle.fol_world.specs.Hands.{at_rest, in_hands, since}
 use Rattle.fol_world.specs.MostParts.{parts_at_most}
 use Rattle.fol_world.specs.Follows.{Settle}
-use Rattle.fol_world.specs.Released.{CanEnd, CanRelease, DropsHolds, EndsRegion, Loosens, heirs, parts_in, released_bags}
+use Rattle.fol_world.specs.Released.{CanEnd, CanRelease, EndsRegion, heirs, parts_in, released_bags}
 use Rattle.fol_world.proofs.ReturnedBags.{back_joins, back_order, returned_lists, returned_settle}
 use Rattle.fol_world.proofs.SettledBags.{settled_bags}
-use Rattle.fol_world.specs.Stands.{Fits, Stands}
-use Rattle.fol_world.specs.Underway.{AreFit, Ends, HasRoomFor, MayAcceptAll, Midway, Underway}
+use Rattle.fol_world.specs.Stands.{AreTickets, Fits, Stands}
+use Rattle.fol_world.specs.Underway.{AreFit, Ends, HasRoomFor, MayAcceptAll, Midway, StillHold, Underway, holding}
+use Rattle.fol_world.proofs.Holding.{holding_none}
 use Rattle.fol_world.proofs.BackTasks.{apart, end_queue, in_time, tasks_apart}
 use Rattle.fol_world.proofs.Flats.{flat_ext}
 use Rattle.fol_world.proofs.Held.{ends_most}
@@ -67,7 +66,7 @@ use Rattle.fol_laws.proofs.ReleaseKeeps.{grid_release}
 use Rattle.fol_world.proofs.OwedKept.{all_owe}
 use Rattle.fol_world.proofs.ReleasedHands.{flat_back, in_hands_there, jobs_back}
 use Rattle.fol_world.proofs.ReleasedStock.{ReleasedTo, released_to}
-use Rattle.fol_world.proofs.RunDown.{covers_down, stored_down}
+use Rattle.fol_world.proofs.RunDown.{ending_again, few_on, grid_again, still_there, stored_again}
 use Rattle.fol_world.proofs.SinceRuns.{since_most}
 use Rattle.fol_world.proofs.TicketRuns.{tickets_most}
 use Rattle.fol_world.proofs.Unheld.{none_on, none_rests}
@@ -117,13 +116,6 @@ module _ (t : Tables) (tick : Tick) (o : Opening) (h : List Entry) (s : Stands o
   run_nil : RunFrom (start o) (h ++ [])
   run_nil = rw (append-nil h) s.run
 
-  pub taken : (bag_of t.store r).taken ≡ true
-  taken = (s.fits.stored.bags r).taken ∙ ap is_ticking at.ticks
-
-  -- the bag of its region is in order
-  pub in_order : IsInOrder (bag_of t.store r)
-  in_order w = ((s.fits.stored.bags r).listed (λ d. let x : Ticking ≡ Dead = sym at.ticks ∙ d in absurd (cc)) w).order
-
   -- the event, where these are the answers
   pub end_is : (old new listed : List Accept) → old ≡ [] → new ≡ old ++ answers v tick.log.wishes → listed ≡ new
       → End tick.worker r (tick.body.tick + 1) tick.log.ran listed ≡ end_event w tick.worker r tick.log.ran
@@ -165,66 +157,72 @@ module _ (t : Tables) (tick : Tick) (o : Opening) (h : List Entry) (s : Stands o
   new_ticks q l = at_other w.tick r (w.tick r + 1) q (λ e. let b = good.sound.rules.below_next r (λ d. let x = at.ticks in cc) in omega arith) ∙ new_counters o h [] s.grid run_nil q l
 
   module _ (size : t.course.size + (1 + length tick.log.wishes) ≤ 2 ^ 50) (memory : HasRoomFor t tick.body.chunks (length tick.log.wishes)) where
-    down_ends : Ends v (since o h) r (length tick.log.wishes + 0)
+    -- ---- before the tasks that ran dropped their holds
+    abbrev u : World
+    u = holding (due (world o h) tick.region) (run_down (world o h) tick.region tick.log.ran)
+
+    again : u.grid ≡ w.grid
+    again = grid_again o h s.grid s.run r at.ticks tick.log.ran
+
+    still_ends : Ends u (since o h) r (length tick.log.wishes + 0)
     unfolding dropped
-    down_ends = record {
-      ending = down_ending;
+    still_ends = record {
+      ending = ending_again o h s.grid s.run r at.ticks tick.log.ran;
       own = λ c e. recorded_owner w r c good.recorded.margin at.ticks e;
       new_ticks = new_ticks;
       since_most = since_most o h;
       few_ids = omega (arith, few_next, size);
       few_jobs = omega (arith, few_jobs, size);
-      few_tickets = λ c. omega (arith, tickets_most o h c, s.size.size, s.size.most);
+      few_tickets = λ c. omega (arith, tickets_most o h c, few_on o h s.grid s.run r at.ticks tick.log.ran c, few_jobs, s.size.size, s.size.most);
     }
 
-    -- ---- after the holds were dropped
-    module _ (t1 : Tables) (drops : DropsHolds t t1 r tick.due) where
-      dropped_grid : grid_state t1.regions ≡ drop_each w.grid (due w r)
-      dropped_grid = drops.regions ∙ ap (λ (g : GridState). drop_each g tick.due) s.fits.regions ∙ ap (drop_each w.grid) at.due
+    still_midway : Midway t u (since o h)
+    unfolding dropped
+    still_midway = record {
+      grid = s.fits.grid;
+      regions = s.fits.regions ∙ sym again;
+      stored = stored_again o h s.grid s.run r at.ticks tick.log.ran (since o h) t.store s.fits.stored;
+      tickets = λ c. omega (arith, s.fits.tickets c);
+      covers = subst (λ (g : GridState). Covers t.agenda.items g (bag_of t.store)) (sym again) s.fits.agenda.covers;
+      course = record { next_job = s.fits.course.next_job; in_phase = s.fits.course.in_phase; sum = s.fits.course.sum; stopped = s.fits.course.stopped; finished = s.fits.course.finished };
+    }
 
-      now : grid_state t1.regions ≡ v.grid
-      unfolding dropped
-      now = dropped_grid ∙ drops_in_turn w r
+    few_parts : parts_at_most (grid_state t.regions) (length tick.log.wishes + 0) ≤ parts_at_most (grid_state t.regions) (length tick.log.wishes)
+    few_parts = parts_less (grid_state t.regions) (grid_state t.regions) _ _ (omega arith)
 
-      loose : Loosens w.grid (drop_each w.grid (due w r)) r (bag_of t.store) (bag_of t1.store)
-      loose = let e = s.fits.regions in let d = dropped_grid in let b = drops.bags in rw (e, d) at b
+    still_underway : Underway t tick.body.chunks u (since o h) r (length tick.log.wishes + 0)
+    unfolding dropped
+    still_underway = record {
+      midway = still_midway;
+      ends = still_ends;
+      room = record {
+        regions = omega (arith, memory.regions);
+        tasks = omega (arith, memory.tasks);
+        slots = omega (arith, memory.slots, few_parts);
+        tickets = memory.tickets;
+        agenda = omega (arith, memory.agenda, few_parts);
+        entities = omega (arith, memory.entities);
+      };
+      contents = at.contents;
+    }
 
-      first_midway : Midway t1 v (since o h)
-      unfolding dropped
-      first_midway = record {
-        grid = drops.grid ∙ s.fits.grid;
-        regions = now;
-        stored = stored_down o h s.grid s.run r at.ticks tick.log.ran (since o h) t.store t1.store s.fits.stored drops.things drops.next loose;
-        tickets = let e = drops.tickets in rw e s.fits.tickets;
-        covers = let e = drops.agenda in let c = covers_down o h s.grid s.run r at.ticks tick.log.ran (since o h) t.store t1.store s.fits.stored drops.things drops.next loose t.agenda.items s.fits.agenda.covers in rw e c;
-        course = let e = drops.course in rw e (record { next_job = s.fits.course.next_job; in_phase = s.fits.course.in_phase; sum = s.fits.course.sum; stopped = s.fits.course.stopped; finished = s.fits.course.finished });
-      }
+    pub first : StillHold t tick.body.chunks v (since o h) r tick.due (length tick.log.wishes + 0)
+    unfolding dropped
+    first = rw at.due (record {
+      underway = still_underway;
+      tickets = s.fits.tickets;
+      there = still_there o h s.grid s.run r at.ticks tick.log.ran;
+    })
 
-      few_parts : parts_at_most (grid_state t1.regions) (length tick.log.wishes + 0) ≤ parts_at_most (grid_state t.regions) (length tick.log.wishes)
-      unfolding dropped
-      few_parts = let e = now in let f = s.fits.regions in rw (e, f) (parts_less w.grid v.grid _ _ (omega arith))
+    pub may_accept : MayAcceptAll t tick.body.chunks r tick.due tick.log.wishes
+    may_accept = record { world = v; since = since o h; rest = 0; held = first; fit = fits_all }
 
-      pub first : Underway t1 tick.body.chunks v (since o h) r (length tick.log.wishes + 0)
-      unfolding dropped
-      first = record {
-        midway = first_midway;
-        ends = down_ends;
-        room = record {
-          regions = omega (arith, memory.regions, drops.spare);
-          tasks = omega (arith, memory.tasks, drops.tasks);
-          slots = omega (arith, memory.slots, drops.slots, few_parts);
-          tickets = let e = drops.tickets in rw e memory.tickets;
-          agenda = let e = drops.agenda in rw e (omega (arith, memory.agenda, few_parts));
-          entities = omega (arith, memory.entities);
-        };
-        contents = at.contents;
-      }
-
-      pub may_accept : MayAcceptAll t1 tick.body.chunks tick.log.wishes
-      may_accept = record { world = v; since = since o h; region = r; rest = 0; underway = first; fit = fits_all }
+  -- once none holds its chunk any more
+  pub none_holds : (t2 : Tables) (k : Contents) (z : World) → StillHold t2 k z (since o h) r [] 0 → Underway t2 k z (since o h) r 0
+  none_holds t2 k z held = subst (λ (y : World). Underway t2 k y (since o h) r 0) (holding_none z) held.underway
 
   -- ---- after the wishes were accepted
-  module _ (t2 : Tables) (k : Contents) (u : Underway t2 k (all_accepted v tick.log.wishes) (since o h) r 0) where
+  module _ (t2 : Tables) (k : Contents) (u : Underway t2 k (all_accepted v tick.log.wishes) (since o h) r 0) (tickets : AreTickets t2.tickets.entries (all_accepted v tick.log.wishes).tickets) where
     abbrev z : World
     z = all_accepted (run_down (world o h) tick.region tick.log.ran) tick.log.wishes
 
@@ -408,7 +406,7 @@ module _ (t : Tables) (tick : Tick) (o : Opening) (h : List Entry) (s : Stands o
           next = next_now;
           bags = settled_bags (release g r) (tick_after_release g r z.tick) (owed_after_release g r z.owed) z.recorded (released_bags (release g r) (release_change g r) r (z.tick r) (z.owed r) (bag_of t2.store)) (bag_of t3.store) to.bags bags_now;
         };
-        tickets = let e = ends.tickets in rw e u.midway.tickets;
+        tickets = let e = ends.tickets in rw e tickets;
         agenda = let a = ends.agenda in rw regions_now at a;
         course = let e = ends.course in rw e (record { next_job = u.midway.course.next_job; in_phase = u.midway.course.in_phase; sum = u.midway.course.sum; stopped = u.midway.course.stopped; finished = u.midway.course.finished });
       }

@@ -25,6 +25,8 @@ pub mod RunDown
 pub mod ReleasedStock
 pub mod Accepting
 pub mod Accepted
+pub mod Holding
+pub mod StillHeld
 pub mod WishLists
 pub mod OwedKept
 pub mod BackTasks

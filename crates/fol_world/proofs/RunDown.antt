@@ -1,5 +1,5 @@
--- What the store and the stack are when the tasks of a tick are over and their holds are dropped.
-use Rattle.std.proofs.Common.{◌≡◌, ◌≢◌, ℕ, ◌+◌, ◌<◌, refl, sym, ◌∙◌, ap, subst, arith, Bool, true, false, not, ◌&&◌, inl, inr, List, [], ◌∷◌}
+-- What the store is when the tasks of a tick are over and hold their chunks still, and what it is when they drop their holds.
+use Rattle.std.proofs.Common.{◌≡◌, ◌≢◌, ℕ, ◌+◌, ◌≤◌, ◌<◌, refl, sym, ◌∙◌, ap, subst, arith, Bool, true, false, not, ◌&&◌, inl, inr, List, [], ◌∷◌}
 use Rattle.std.specs.Prelude.{nat_eq, nat_lt, filter, Option, Some, None}
 use Rattle.std.specs.List.{AllByRecursion}
 use Rattle.std.specs.List.Sorted.{IsStrictlySortedBy}
@@ -19,7 +19,7 @@ use Rattle.fol_model.specs.Drop.{drop_hold}
 use Rattle.fol_model.specs.Universe.{all_chunks}
 use Rattle.fol_model.specs.Outputs.{is_chunk_of}
 use Rattle.fol_model.specs.ActionStep.{Flat, Recorded, Standing}
-use Rattle.fol_model.specs.Job.{Job}
+use Rattle.fol_model.specs.Job.{Job, is_on, is_taken}
 use Rattle.fol_model.specs.World.{World, due}
 use Rattle.fol_model.specs.End.{dropped, left, run_down}
 use Rattle.fol_model.specs.Run.{Run, world}
@@ -28,9 +28,18 @@ use Rattle.fol_laws.proofs.FunctionsChanged.{at_other}
 use Rattle.fol_laws.proofs.SamePlaces.{same_chunk-true}
 use Rattle.fol_laws.proofs.UnseenEnds.{recorded_owner}
 use Rattle.fol_laws.proofs.WholeRuns.{Good, good_run}
-use Rattle.fol_end_laws.specs.DroppedHolds.{drop_each}
-use Rattle.fol_end_laws.proofs.DropsInTurn.{drops_in_turn}
+use Rattle.fol_laws.proofs.CountBelow.{count_split}
+use Rattle.fol_laws.proofs.SoundRuns.{Ending, run_down_ending}
+use Rattle.fol_laws.specs.Tasks.{JobOk}
+use Rattle.fol_laws.proofs.SoundState.{SoundWorld}
+use Rattle.fol_laws.proofs.SoundSteps.{left_was}
+use Rattle.fol_model.specs.Rules.{Rules}
+use Rattle.fol_end_laws.specs.DroppedHolds.{on_chunk}
+use Rattle.fol_end_laws.proofs.DropsInTurn.{on_due}
 use Rattle.fol_end_laws.proofs.FinishedTicks.{due_on_recorded, tasks_kept}
+use Rattle.fol_world.specs.Underway.{holding}
+use Rattle.fol_world.proofs.Held.{count_most}
+use Rattle.fol_world.proofs.Loosened.{loosens_self}
 use Rattle.fol_chunks.specs.Contents.{is_recorded, outside, option_filter}
 use Rattle.fol_chunks.specs.Order.{chunk_cmp}
 use Rattle.fol_store.specs.Bag.{Bag}
@@ -62,15 +71,6 @@ outside_same p q f h in_p same = flat_ext (outside p f) (outside p h)
     (λ id. sym (narrow p q (f.standing id) in_p)
     ∙ ap (λ (o : Option Standing). option_filter (λ (s : Standing). not (p (chunk_of s.at))) o) (same.standing id)
     ∙ narrow p q (h.standing id) in_p)
-
--- ---- one hold less of each chunk
-each_kept : (rec : Recorded) (c : ChunkPos) (g : GridState) (ts : List Task) → AllByRecursion (λ t. rec t.chunk ≡ true) ts → rec c ≡ false → (drop_each g ts).holds c ≡ g.holds c
-unfolding drop_hold
-each_kept rec c g [] all off = refl
-each_kept rec c g (t ∷ ts) all off = each_kept rec c (drop_hold g t.chunk) ts all.1 off ∙ (elim (cases_Bool (same_chunk t.chunk c)) [
-  | inl e ↦ absurd (true≢false (sym (ap rec (sym (same_chunk-true t.chunk c e)) ∙ all.0) ∙ off))
-  | inr e ↦ rw e refl
-])
 
 none : (a b : Bool) → (a && false) ≡ (b && false)
 none true true = refl
@@ -164,30 +164,51 @@ module _ (o : Opening) (es : List Entry) (ok : IsGrid o.grid) (run : Run o es) (
   unfolding dropped went ticker
   jobs_down since n = sym (at_rest_left w.grid since r n (w.jobs n) (good.sound.rules.given r (λ d. cc)))
 
-  off : (c : ChunkPos) → owner_of w.grid c ≢ r → w.recorded r c ≡ false
-  off c d = elim (cases_Bool (w.recorded r c)) [ inl e ↦ absurd (d (own c e)) | inr e ↦ e ]
+  down : Ending r v
+  down = run_down_ending w r ran good.sound ticks
 
-  -- a chunk of another region keeps its holds
-  others_loaded : (c : ChunkPos) → owner_of w.grid c ≢ r → is_loaded (dropped w r).grid c ≡ is_loaded w.grid c
-  others_loaded c d = ap (λ (n : ℕ). nat_lt 0 n)
-      (ap (λ (g : GridState). g.holds c) (sym (drops_in_turn w r)) ∙ each_kept (w.recorded r) c w.grid (due w r) (due_on_recorded o w r good ticks) (off c d))
+  -- the world in which the tasks that ran hold their chunks still
+  abbrev u : World
+  u = holding (due (world o es) r) (run_down (world o es) r ran)
 
-  -- the tables after the holds were dropped
-  module _ (since : ℕ → ℕ) (old new : Stock) (stored : StoredIn old w since) (things : SameThings old new) (next : next_of new ≡ next_of old)
-      (bags : Loosens w.grid (drop_each w.grid (due w r)) r (bag_of old) (bag_of new)) where
-    loose : Loosens w.grid v.grid r (bag_of old) (bag_of new)
-    unfolding dropped
-    loose = rw (sym (drops_in_turn w r)) bags
+  holds_again : (c : ChunkPos) → u.grid.holds c ≡ w.grid.holds c
+  unfolding dropped
+  holds_again c =
+      let on = on_due c w r w.next_job in
+      let split = count_split (λ n. is_on c (w.jobs n)) (λ n. is_taken r (w.jobs n)) (λ n. not (is_taken r (w.jobs n)) && is_on c (w.jobs n)) w.next_job (λ n. refl) in
+      omega (arith, on, split, good.sound.holds c)
 
-    pub stored_down : StoredIn new v since
-    unfolding dropped
-    stored_down = record {
-      flat = things.flat ∙ stored.flat ∙ flat_down;
-      jobs = things.jobs ∙ stored.jobs ∙ fun_ext (jobs_down since);
-      next = next ∙ stored.next;
-      bags = bags_loosened w.grid v.grid.holds r ticks w.tick v.tick w.owed w.recorded (bag_of old) (bag_of new) (λ q d. at_other w.tick r (w.tick r + 1) q d) loose others_loaded stored.bags;
-    }
+  pub grid_again : u.grid ≡ w.grid
+  unfolding dropped
+  grid_again = ap (λ (f : ChunkPos → ℕ). record w.grid { holds = f }) (fun_ext holds_again)
 
-    pub covers_down : (xs : List ℕ) → Covers xs w.grid (bag_of old) → Covers xs v.grid (bag_of new)
-    unfolding dropped
-    covers_down = covers_loosened w.grid v.grid.holds r ticks w.tick v.tick w.owed w.recorded (bag_of old) (bag_of new) (λ q d. at_other w.tick r (w.tick r + 1) q d) loose others_loaded
+  sound_again : SoundWorld u
+  unfolding dropped
+  sound_again = record {
+    rules = subst Rules (sym grid_again) good.sound.rules;
+    grid = good.sound.grid;
+    each = λ n j e. subst (λ (g : GridState). JobOk g j) (sym grid_again) (good.sound.each n j (left_was r (w.jobs n) j e).0);
+    holds = λ c. omega (arith, down.sound.holds c);
+    numbers = down.sound.numbers;
+  }
+
+  pub ending_again : Ending r u
+  unfolding dropped
+  ending_again = record { sound = sound_again; ticks = ticks; free = down.free }
+
+  pub still_there : AllByRecursion (λ t. v.recorded r t.chunk ≡ true) (due w r)
+  unfolding dropped
+  still_there = due_on_recorded o w r good ticks
+
+  pub few_on : (c : ChunkPos) → on_chunk c (due w r) ≤ w.next_job
+  few_on c = omega (arith, on_due c w r w.next_job, count_most (λ k. is_taken r (w.jobs k) && is_on c (w.jobs k)) w.next_job)
+
+  pub stored_again : (since : ℕ → ℕ) (store : Stock) → StoredIn store w since → StoredIn store u since
+  unfolding dropped in_hands ticker went
+  stored_again since store stored = record {
+    flat = stored.flat ∙ flat_down;
+    jobs = stored.jobs ∙ fun_ext (jobs_down since);
+    next = stored.next;
+    bags = λ q. subst (λ (g : GridState). IsBagOf g v.tick w.owed w.recorded q (bag_of store q)) (sym grid_again)
+        (bags_loosened w.grid w.grid.holds r ticks w.tick v.tick w.owed w.recorded (bag_of store) (bag_of store) (λ q d. at_other w.tick r (w.tick r + 1) q d) (loosens_self w.grid r (bag_of store)) (λ c d. refl) stored.bags q);
+  }

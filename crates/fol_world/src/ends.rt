@@ -73,11 +73,17 @@ pub fn end_tick(
     let mut body = mem::replace(&mut tick.body, RegionData::new(alloc));
     let ran = mem::replace(&mut tick.log.ran, Sequence::new(alloc));
     let wishes = mem::replace(&mut tick.log.wishes, Sequence::new(alloc));
-    drop_due(tables, region, tick.due.as_slice());
     body.tick += 1;
     let counter = body.tick;
     let mut wishes = VecDeque::from_vec(wishes.into_vec());
-    accept_all(tables, &mut body.chunks, &mut wishes, &mut accepts);
+    accept_all(
+        tables,
+        region,
+        tick.due.as_slice(),
+        &mut body.chunks,
+        &mut wishes,
+        &mut accepts,
+    );
     tick.log.wishes = Sequence::of(wishes.into_vec());
     end_region(alloc, tables, region, chunks, body);
     Event::End {
@@ -89,8 +95,8 @@ pub fn end_tick(
     }
 }
 
-/// Drops the holds of the tasks that ran in a tick of the region.
-fn drop_due(tables: &mut Tables, region: u64, due: &[Task])
+/// Drops the holds of tasks that ran in a tick of the region.
+pub(crate) fn drop_due(tables: &mut Tables, region: u64, due: &[Task])
     requires out { (bag_of tables.old.store region).taken ≡ true }
     requires order { IsInOrder (bag_of tables.old.store region) }
     ensures { DropsHolds tables.old tables.new region due.now }

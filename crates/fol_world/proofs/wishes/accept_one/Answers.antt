@@ -35,4 +35,5 @@ returns-in-Counted c = record {
       ap accept.Posted (c.queue.ensures.number ∙ ap (λ k. k.next_job) c.hold.ensures.held.course ∙ u.midway.course.next_job) ∙ sym f.1;
   stack = rw c.queue.ensures.queued.agenda c.hold.ensures.left.agenda;
   size = ap (λ k. k.size) c.queue.ensures.queued.course ∙ ap (λ k. k.size) c.hold.ensures.held.course;
+  tickets = c.queue.ensures.queued.tickets ∙ c.hold.ensures.tickets;
 }
