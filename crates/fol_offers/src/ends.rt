@@ -108,8 +108,8 @@ impl Offers {
         }
     }
 
-    /// Calls back what these wishes may touch. A wish for the chunk of the one before it is passed over: what that chunk may touch came back, and
-    /// nothing was offered since. Fails only when out of memory; then what the first of them may touch was called back.
+    /// Calls back what these wishes may touch. A wish for the chunk of the first one or of the last one that was looked at is passed over: what that
+    /// chunk may touch came back, and nothing was offered since. Fails only when out of memory; then what the first of them may touch was called back.
     fn clear_wishes(
         &mut self,
         slots: &Slots<Offer>,
@@ -120,13 +120,16 @@ impl Offers {
         requires in_range { All (λ x. IsTrue (is_chunk x.chunk)) wishes.now }
         ensures { ClearsWishes self.old self.new by wishes.now result }
     {
-        let mut cleared: Option<ChunkPos> = None;
+        let mut first: Option<ChunkPos> = None;
+        let mut last: Option<ChunkPos> = None;
         for wish in wishes {
-            if cleared == Some(wish.chunk) {
+            let chunk = Some(wish.chunk);
+            if last == chunk || first == chunk {
                 continue;
             }
             self.clear(slots, by, wish.chunk)?;
-            cleared = Some(wish.chunk);
+            last = chunk;
+            first = first.or(chunk);
         }
         Ok(())
     }

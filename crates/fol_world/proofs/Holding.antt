@@ -1,6 +1,6 @@
 -- The world in which tasks that ran hold their chunks still: what wishes do there, and what is left when the holds fall.
-use Rattle.std.proofs.Common.{◌≡◌, ◌≢◌, ℕ, ◌+◌, ◌-◌, ◌≤◌, ◌<◌, refl, sym, ◌∙◌, ap, arith, true, false, inl, inr, List, [], ◌∷◌, ◌++◌}
-use Rattle.std.specs.Prelude.{nat_eq, nat_lt, if◌then◌else◌, Some}
+use Rattle.std.proofs.Common.{◌≡◌, ℕ, ◌+◌, refl, sym, ◌∙◌, ap, arith, true, false, inl, inr, List, [], ◌∷◌, ◌++◌}
+use Rattle.std.specs.Prelude.{nat_eq}
 use Rattle.std.specs.List.{AllByRecursion}
 use Rattle.std.proofs.Math.Path.{fun_ext}
 use Rattle.std.proofs.lemmas.Bool.{cases_Bool, true≢false}
@@ -11,15 +11,13 @@ use Rattle.fol_model.specs.Geometry.{same_chunk}
 use Rattle.fol_model.specs.GridState.{GridState, at_chunk}
 use Rattle.fol_model.specs.Add.{add, counted, extended, is_full, is_greatest, is_near, target, target_waits, wanted}
 use Rattle.fol_model.specs.Counters.{owed_after_add}
-use Rattle.fol_model.specs.ActionStep.{Recorded, at_id}
-use Rattle.fol_model.specs.Job.{queued}
+use Rattle.fol_model.specs.ActionStep.{Recorded}
 use Rattle.fol_model.specs.Holds.{posted, posting}
 use Rattle.fol_model.specs.World.{World}
-use Rattle.fol_model.specs.End.{accepted, put_back}
-use Rattle.fol_laws.proofs.SamePlaces.{same_chunk-self, same_chunk-true}
+use Rattle.fol_model.specs.End.{accepted}
+use Rattle.fol_laws.proofs.SamePlaces.{same_chunk-true}
 use Rattle.fol_end_laws.specs.DroppedHolds.{drop_each, on_chunk}
 use Rattle.fol_end_laws.proofs.DropsInTurn.{drops, on_both}
-use Rattle.fol_world.specs.Returned.{returned}
 use Rattle.fol_world.specs.Underway.{holding}
 use Rattle.fol_world.proofs.Accepted.{put_back_is}
 

@@ -1,6 +1,6 @@
 -- What the store is when the tasks of a tick are over and hold their chunks still, and what it is when they drop their holds.
-use Rattle.std.proofs.Common.{◌≡◌, ◌≢◌, ℕ, ◌+◌, ◌≤◌, ◌<◌, refl, sym, ◌∙◌, ap, subst, arith, Bool, true, false, not, ◌&&◌, inl, inr, List, [], ◌∷◌}
-use Rattle.std.specs.Prelude.{nat_eq, nat_lt, filter, Option, Some, None}
+use Rattle.std.proofs.Common.{◌≡◌, ◌≢◌, ℕ, ◌+◌, ◌≤◌, ◌<◌, refl, sym, ◌∙◌, ap, subst, arith, Bool, true, false, not, ◌&&◌, inl, inr, List, []}
+use Rattle.std.specs.Prelude.{nat_eq, filter, Option, Some, None}
 use Rattle.std.specs.List.{AllByRecursion}
 use Rattle.std.specs.List.Sorted.{IsStrictlySortedBy}
 use Rattle.std.proofs.Math.Path.{fun_ext}
@@ -10,12 +10,10 @@ use Rattle.fol_model.specs.declared.places.ChunkPos.{ChunkPos}
 use Rattle.fol_model.specs.declared.regions.State.TheVariants.{Ticking}
 use Rattle.fol_model.specs.declared.openings.Opening.{Opening}
 use Rattle.fol_model.specs.declared.tasks.Ran.{Ran}
-use Rattle.fol_model.specs.declared.tasks.Task.{Task}
 use Rattle.fol_model.specs.declared.events.Entry.{Entry}
-use Rattle.fol_model.specs.Geometry.{chunk_of, same_chunk}
+use Rattle.fol_model.specs.Geometry.{chunk_of}
 use Rattle.fol_model.specs.GridNumbers.{IsGrid}
 use Rattle.fol_model.specs.GridState.{GridState, is_loaded}
-use Rattle.fol_model.specs.Drop.{drop_hold}
 use Rattle.fol_model.specs.Universe.{all_chunks}
 use Rattle.fol_model.specs.Outputs.{is_chunk_of}
 use Rattle.fol_model.specs.ActionStep.{Flat, Recorded, Standing}
@@ -25,7 +23,6 @@ use Rattle.fol_model.specs.End.{dropped, left, run_down}
 use Rattle.fol_model.specs.Run.{Run, world}
 use Rattle.fol_laws.specs.Contents.{SameOn, seen}
 use Rattle.fol_laws.proofs.FunctionsChanged.{at_other}
-use Rattle.fol_laws.proofs.SamePlaces.{same_chunk-true}
 use Rattle.fol_laws.proofs.UnseenEnds.{recorded_owner}
 use Rattle.fol_laws.proofs.WholeRuns.{Good, good_run}
 use Rattle.fol_laws.proofs.CountBelow.{count_split}
@@ -43,12 +40,11 @@ use Rattle.fol_world.proofs.Loosened.{loosens_self}
 use Rattle.fol_chunks.specs.Contents.{is_recorded, outside, option_filter}
 use Rattle.fol_chunks.specs.Order.{chunk_cmp}
 use Rattle.fol_store.specs.Bag.{Bag}
-use Rattle.fol_store.specs.Stock.{Stock, bag_of, next_of}
+use Rattle.fol_store.specs.Stock.{Stock, bag_of}
 use Rattle.fol_world.specs.Agenda.{Covers}
 use Rattle.fol_world.specs.Bags.{AreBut, IsBagOf, StoredIn}
 use Rattle.fol_world.specs.Hands.{at_rest, in_hands, owner_of, ticker, went}
 use Rattle.fol_world.specs.Released.{Loosens}
-use Rattle.fol_world.specs.Same.{SameThings}
 use Rattle.fol_world.proofs.ChunkLists.{listed as chunk_listed}
 use Rattle.fol_world.proofs.Flats.{flat_ext}
 use Rattle.fol_world.proofs.ReleasedHands.{in_hands_there}

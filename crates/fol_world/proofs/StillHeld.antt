@@ -2,9 +2,8 @@
 use Rattle.std.proofs.Common.{◌≡◌, ◌≢◌, ℕ, ◌+◌, ◌-◌, ◌≤◌, ◌<◌, refl, sym, ◌∙◌, ap, subst, arith, true, false, inl, inr, List, [], ◌∷◌, ◌++◌, length, take, drop, get_or}
 use Rattle.std.specs.Prelude.{nat_eq, nat_lt, if◌then◌else◌, Some}
 use Rattle.std.proofs.lemmas.List.{append-nil, drop_more, take-append-drop}
-use Rattle.std.specs.List.{AllByRecursion}
 use Rattle.std.proofs.Math.Path.{fun_ext}
-use Rattle.std.proofs.lemmas.Bool.{cases_Bool, lt-ltb, ne_eqb, true≢false}
+use Rattle.std.proofs.lemmas.Bool.{cases_Bool, lt-ltb, ne_eqb}
 use Rattle.fol_model.specs.declared.places.ChunkPos.{ChunkPos}
 use Rattle.fol_model.specs.declared.regions.State.TheVariants.{Dead, Ticking}
 use Rattle.fol_model.specs.declared.tasks.Task.{Task}
@@ -16,8 +15,8 @@ use Rattle.fol_model.specs.Add.{add, counted, is_full, wanted}
 use Rattle.fol_model.specs.Counters.{owed_after_add}
 use Rattle.fol_model.specs.Drop.{drop_hold}
 use Rattle.fol_model.specs.ActionStep.{Recorded, at_id}
-use Rattle.fol_model.specs.Job.{Job, queued}
-use Rattle.fol_model.specs.Holds.{held_more, posted, posting}
+use Rattle.fol_model.specs.Job.{queued}
+use Rattle.fol_model.specs.Holds.{posted, posting}
 use Rattle.fol_model.specs.World.{World}
 use Rattle.fol_model.specs.End.{accepted}
 use Rattle.fol_laws.proofs.SamePlaces.{same_chunk-self, same_chunk-true}
@@ -30,7 +29,6 @@ use Rattle.fol_end_laws.proofs.DropsInTurn.{on_both}
 use Rattle.fol_regions.specs.Table.{grid_state}
 use Rattle.fol_regions.proofs.AddAgain.{add_counts, none_wanted, counts_again}
 use Rattle.fol_regions.specs.Answers.{add_answer}
-use Rattle.fol_regions.specs.declared.answers.AddAnswer.{AddAnswer}
 use Rattle.fol_regions.specs.declared.answers.AddAnswer.TheVariants.{Full, Counted}
 use Rattle.fol_chunks.specs.Contents.{Contents}
 use Rattle.fol_store.specs.Relisted.{IsInOrder}

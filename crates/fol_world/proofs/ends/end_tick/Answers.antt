@@ -1,4 +1,4 @@
-use Rattle.std.proofs.Common.{◌∙◌, ap, arith, vec_len, vec_capacity}
+use Rattle.std.proofs.Common.{◌∙◌, ap, arith}
 use Rattle.fol_data.specs.declared.region_data.RegionData.{RegionData}
 use Rattle.fol_world.proofs.EndSteps as step
 use Rattle.fol_world.proofs.ends.end_tick.Goals as goal

@@ -1,4 +1,4 @@
-use Rattle.std.proofs.Common.{◌≡◌, ◌+◌, sym, ◌∙◌, ap, arith, length, vec_len, vec_capacity}
+use Rattle.std.proofs.Common.{◌+◌, sym, ◌∙◌, ap, arith, length, vec_len, vec_capacity}
 use Rattle.fol_model.specs.End.{accepted}
 use Rattle.fol_world.proofs.StillHeld.{all_dropped, in_order, taken}
 use Rattle.fol_world.proofs.WishLists.{all_answered, all_done, answers_grow, first_held, first_may, none_left, rest_fits, rest_held, rest_may}

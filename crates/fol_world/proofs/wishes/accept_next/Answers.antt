@@ -1,6 +1,5 @@
-use Rattle.std.proofs.Common.{◌≡◌, ℕ, ◌+◌, ◌<◌, sym, ◌∙◌, ap, List, ◌∷◌, length, drop, get_or}
+use Rattle.std.proofs.Common.{◌+◌, sym, ◌∙◌, ap, drop, get_or}
 use Rattle.std.proofs.lemmas.List.{take_rest}
-use Rattle.fol_model.specs.declared.places.ChunkPos.{ChunkPos}
 use Rattle.fol_model.specs.declared.tasks.Task.{Task}
 use Rattle.fol_model.specs.declared.tasks.Wish.{Wish}
 use Rattle.fol_model.specs.declared.events.Accept.TheVariants as accept

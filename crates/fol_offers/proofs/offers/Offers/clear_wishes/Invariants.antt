@@ -9,5 +9,6 @@ use Rattle.fol_offers.proofs.offers.Offers.clear_wishes.Given as goal
 abbrev pub invariant-loop-wish : goal.invariant-loop-wish
 invariant-loop-wish l = record {
   back : CallsBack l.fn.self l.self l.by (wishes_may_touch (world_of l.fn.self.core) (take l.wish-index l.wishes));
-  among : IfSome l.cleared (λ c. (r : ℕ) → may_touch (world_of l.fn.self.core) c r ≡ true → wishes_may_touch (world_of l.fn.self.core) (take l.wish-index l.wishes) r ≡ true);
+  first : IfSome l.first (λ c. (r : ℕ) → may_touch (world_of l.fn.self.core) c r ≡ true → wishes_may_touch (world_of l.fn.self.core) (take l.wish-index l.wishes) r ≡ true);
+  last : IfSome l.last (λ c. (r : ℕ) → may_touch (world_of l.fn.self.core) c r ≡ true → wishes_may_touch (world_of l.fn.self.core) (take l.wish-index l.wishes) r ≡ true);
 }
