@@ -3,8 +3,8 @@ use Rattle.std.proofs.Common.{◌≡◌, ℕ, ◌+◌, ◌-◌, ◌≤◌, ◌<�
 use Rattle.fol_lists.specs.declared.spans.Span.{Span}
 use Rattle.std.specs.Prelude.{replicate, slice_set, sum_by}
 use Rattle.fol_lists.specs.Numbered.{Numbered, with_numbers}
-use Rattle.fol_lists.proofs.Pieces.{last_added, pieces_added, spans_added, total_empty}
-use Rattle.fol_lists.specs.Spans.{AreSpans, IsLast, lists_of, piece_of, pieces_of}
+use Rattle.fol_lists.proofs.Pieces.{pieces_added, spans_added, total_empty}
+use Rattle.fol_lists.specs.Spans.{AreSpans, lists_of, piece_of, pieces_of}
 use Rattle.std.proofs.lemmas.List.{append-nil, drop_all, get_or_append_left, length-map, length-replicate, replicate-append-replicate, set-append_left, take_all}
 use Rattle.std.proofs.lemmas.List.Sums.{sum_by-append}
 
@@ -48,15 +48,12 @@ listed_changed cells new spans changed numbers n to l same e =
     ∙ sym (listed_set cells spans numbers n xs l) ∙ ap (λ ys. slice_set (lists_of cells spans numbers) n (to ys)) (sym (listed_at cells spans numbers n l))
 
 -- spans were added up to a number
-module _ {T : Type 0} (cells : List T) (spans filled : List Span) (numbers n : ℕ) (is : filled ≡ spans ++ replicate (n + 1 - length spans) (record { from = 0; to = 0 })) where
+module _ {T : Type 0} (cells : List T) (spans filled : List Span) (numbers n : ℕ) (is : filled ≡ spans ++ replicate (n + 1 - length spans) (record { from = 0; to = 0; end = 0 })) where
   filled_long : length filled ≡ length spans + (n + 1 - length spans)
-  filled_long = ap length is ∙ length-append spans (replicate (n + 1 - length spans) (record { from = 0; to = 0 })) ∙ ap (λ k. length spans + k) (length-replicate {A = Span} (n + 1 - length spans) (record { from = 0; to = 0 }))
+  filled_long = ap length is ∙ length-append spans (replicate (n + 1 - length spans) (record { from = 0; to = 0; end = 0 })) ∙ ap (λ k. length spans + k) (length-replicate {A = Span} (n + 1 - length spans) (record { from = 0; to = 0; end = 0 }))
 
   pub filled_reaches : n < length filled
   filled_reaches = omega (arith, filled_long)
-
-  pub filled_within : n < numbers → length spans ≤ numbers → length filled ≤ numbers
-  filled_within l m = omega (arith, filled_long, l, m)
 
   pub filled_same : n < numbers → lists_of cells filled numbers ≡ lists_of cells spans numbers
   filled_same l =
@@ -64,7 +61,7 @@ module _ {T : Type 0} (cells : List T) (spans filled : List Span) (numbers n : �
       let left : numbers - length filled ≡ numbers - length spans - more = omega (arith, filled_long) in
       let all : more + (numbers - length spans - more) ≡ numbers - length spans = omega (arith, l) in
       ap (λ ss. pieces_of cells ss ++ replicate (numbers - length filled) []) is
-      ∙ ap (λ k. pieces_of cells (spans ++ replicate more (record { from = 0; to = 0 })) ++ replicate k []) left
+      ∙ ap (λ k. pieces_of cells (spans ++ replicate more (record { from = 0; to = 0; end = 0 })) ++ replicate k []) left
       ∙ ap (λ ps. ps ++ replicate (numbers - length spans - more) []) (pieces_added cells spans more)
       ∙ append_assoc (pieces_of cells spans) (replicate more []) (replicate (numbers - length spans - more) [])
       ∙ ap (λ ps. pieces_of cells spans ++ ps) (replicate-append-replicate more (numbers - length spans - more) [] ∙ ap (λ k. replicate k []) all)
@@ -72,13 +69,7 @@ module _ {T : Type 0} (cells : List T) (spans filled : List Span) (numbers n : �
   pub filled_spans : (room : ℕ) → AreSpans cells spans room → AreSpans cells filled room
   filled_spans room h = rw is (spans_added cells spans room (n + 1 - length spans) h)
 
-  pub filled_last : (last : ℕ) → IsLast spans last → IsLast filled last
-  filled_last last h = rw is (last_added spans (n + 1 - length spans) last h)
-
   module _ (l : n < numbers) where
-    pub filled_at : get_or (pieces_of cells filled) n [] ≡ get_or (lists_of cells spans numbers) n []
-    filled_at = sym (listed_at cells filled numbers n filled_reaches) ∙ ap (λ ls. get_or ls n []) (filled_same l)
-
     pub filled_total : sum_by length (pieces_of cells filled) ≡ sum_by length (lists_of cells spans numbers)
     filled_total = sym (total_listed cells filled numbers) ∙ ap (sum_by length) (filled_same l)
 

@@ -6,7 +6,8 @@ use Rattle.std.proofs.lemmas.List.{take_more_set, take_more, take_all, map-appen
 use Rattle.std.proofs.lemmas.List.Elements.{All-push}
 use Rattle.std.proofs.lemmas.List.Sums.{sum_by_more, sum_by_more_le}
 use Rattle.fol_lists.specs.declared.spans.Span.{Span}
-use Rattle.fol_lists.specs.Spans.{IsSpan, piece_of, pieces_of}
+use Rattle.fol_lists.specs.Spans.{AreApart, IsSpan, piece_of, pieces_of}
+use Rattle.fol_lists.proofs.Apart.{apart_push}
 use Rattle.fol_lists.proofs.Pieces.{pieces-front, piece-behind, fit_longer}
 
 -- the lists before the place i are written, and their spans are the new ones
@@ -15,6 +16,7 @@ pub record IsWritten {T : Type 0} (cells : List T) (old spans : List Span) (into
   pub left : drop i spans ≡ drop i old
   pub len : length spans ≡ length old
   pub fit : All (IsSpan (length into)) (take i spans)
+  pub apart : AreApart (take i spans)
   pub used : length into ≡ sum_by length (take i (pieces_of cells old))
 
 module _ {T : Type 0} (cells : List T) (old spans : List Span) (into : List T) (i : ℕ) (w : IsWritten cells old spans into i) (l : i < length spans) (d : Span) where
@@ -34,8 +36,8 @@ module _ {T : Type 0} (cells : List T) (old spans : List Span) (into : List T) (
   more : take (i + 1) (pieces_of cells old) ≡ take i (pieces_of cells old) ++ get_or (pieces_of cells old) i [] ∷ []
   more = take_more (pieces_of cells old) i [] (omega (arith, w.len, length-map old (piece_of cells)))
 
-  written_more : (xs : List T) (s : Span) → xs ≡ piece_of cells (get_or spans i d) → s.from ≡ length into → s.to ≡ length (into ++ xs) → IsWritten cells old (slice_set spans i s) (into ++ xs) (i + 1)
-  written_more xs s e from to = record {
+  written_more : (xs : List T) (s : Span) → xs ≡ piece_of cells (get_or spans i d) → s.from ≡ length into → s.to ≡ length (into ++ xs) → s.end ≡ length (into ++ xs) → IsWritten cells old (slice_set spans i s) (into ++ xs) (i + 1)
+  written_more xs s e from to end = record {
     lists =
         ap (pieces_of (into ++ xs)) (take_more_set spans i s l)
         ∙ map-append (piece_of (into ++ xs)) (take i spans) (s ∷ [])
@@ -50,17 +52,20 @@ module _ {T : Type 0} (cells : List T) (old spans : List Span) (into : List T) (
     len = length_set ∙ w.len;
     fit = let e2 = take_more_set spans i s l in
         rw e2 (All-push (IsSpan (length (into ++ xs))) (take i spans) s (fit_longer (length into) (length (into ++ xs)) (take i spans) (omega (arith, length-append into xs)) w.fit)
-        (record { rising = omega (arith, length-append into xs); within = omega arith }));
+        (record { rising = omega (arith, length-append into xs); free = omega (arith, to, end); within = omega (arith, end) }));
+    apart = let e2 = take_more_set spans i s l in
+        rw e2 (apart_push (take i spans) s (length into) w.fit from w.apart);
     used = length-append into xs ∙ omega (arith, w.used, ap length (e ∙ next_piece), sum_by_more length (pieces_of cells old) i [] (omega (arith, w.len, length-map old (piece_of cells))));
   }
     where
       length_set : length (slice_set spans i s) ≡ length spans
       length_set = length-set spans i s
 
-  pub written_next : (after : List T) (s : Span) → after ≡ into ++ piece_of cells (get_or spans i d) → s.from ≡ length into → s.to ≡ length after → IsWritten cells old (slice_set spans i s) after (i + 1)
-  written_next after s e from to =
-      let end : s.to ≡ length (into ++ piece_of cells (get_or spans i d)) = to ∙ ap length e in
-      rw e (written_more (piece_of cells (get_or spans i d)) s refl from end)
+  pub written_next : (after : List T) (s : Span) → after ≡ into ++ piece_of cells (get_or spans i d) → s.from ≡ length into → s.to ≡ length after → s.end ≡ length after → IsWritten cells old (slice_set spans i s) after (i + 1)
+  written_next after s e from to end =
+      let last : s.to ≡ length (into ++ piece_of cells (get_or spans i d)) = to ∙ ap length e in
+      let places : s.end ≡ length (into ++ piece_of cells (get_or spans i d)) = end ∙ ap length e in
+      rw e (written_more (piece_of cells (get_or spans i d)) s refl from last places)
 
 -- ---- all lists are written
 module _ {T : Type 0} (cells : List T) (old spans : List Span) (into : List T) (i : ℕ) (w : IsWritten cells old spans into i) (all : i ≡ length old) where
@@ -75,6 +80,9 @@ module _ {T : Type 0} (cells : List T) (old spans : List Span) (into : List T) (
 
   pub written_fit : All (IsSpan (length into)) spans
   written_fit = subst (All (IsSpan (length into))) whole w.fit
+
+  pub written_apart : AreApart spans
+  written_apart = subst AreApart whole w.apart
 
   pub written_used : length into ≡ sum_by length (pieces_of cells old)
   written_used = w.used ∙ ap (sum_by length) old_whole

@@ -3,7 +3,7 @@
 ghost use Rattle.std.specs.Prelude.{◌≡◌, ◌+◌, ◌<◌, ◌≤◌, ◌^◌, IfOk, OnOk, OnErr, [], ◌++◌, length, replicate, take};
 ghost use Rattle.fol_lists.specs.Numbered.{Numbered, list_at, shifted, total, with_list, with_numbers};
 
-use crate::cells::{cut, grow, open, shift_last};
+use crate::cells::{cut, grow, shift_list};
 use crate::spans::{Span, fill};
 use std::alloc::{AllocError, Global};
 use std::marker::Model;
@@ -11,7 +11,7 @@ use std::marker::Model;
 /// A list for each number from 0 on. Contracts see them as a list of lists, beside how many elements they may hold together.
 #[derive(Drop)]
 pub struct Lists<T: Copy> {
-    /// The elements. Each list is a span of them; what lies in no span was replaced.
+    /// The elements. Each list is a span of them with free places behind it; what lies elsewhere was replaced.
     cells: Vec<T>,
     /// Where the lists are written close together once `cells` is used up. Empty between calls.
     spare: Vec<T>,
@@ -19,9 +19,7 @@ pub struct Lists<T: Copy> {
     spans: Vec<Span>,
     /// How many lists there are. Those that have no span were never written to, and are empty.
     numbers: usize,
-    /// The number of the list that lies behind all others.
-    last: usize,
-    /// How many elements the lists may hold together; the memory holds twice as many.
+    /// How many elements the lists may hold together; the memory holds four times as many.
     room: usize,
 }
 
@@ -29,13 +27,13 @@ impl<T: Copy> Model for Lists<T> {
     ghost use Rattle.std.specs.Prelude.{◌≡◌, [], length};
     ghost use Rattle.std.specs.Vec.{vec_capacity};
     ghost use Rattle.fol_lists.specs.Numbered.{Numbered};
-    ghost use Rattle.fol_lists.specs.Spans.{AreSpans, HasNumbers, HasRoom, IsLast, lists_of};
+    ghost use Rattle.fol_lists.specs.Spans.{AreSpans, HasNumbers, HasRoom, lists_of};
 
     ghost Value = { Numbered T };
 
     ghost view = { λ s. record { lists = lists_of s.cells.items s.spans.items s.numbers; room = s.room } };
 
-    ghost invariant = { λ s. AreSpans s.cells.items s.spans.items s.room × (s.spare.items ≡ []) × HasRoom s.room (vec_capacity s.cells) (vec_capacity s.spare) × (IsLast s.spans.items s.last × HasNumbers (length s.spans.items) s.numbers (vec_capacity s.spans)) };
+    ghost invariant = { λ s. AreSpans s.cells.items s.spans.items s.room × (s.spare.items ≡ []) × HasRoom s.room (vec_capacity s.cells) (vec_capacity s.spare) × HasNumbers (length s.spans.items) s.numbers (vec_capacity s.spans) };
 }
 
 impl<T: Copy> Lists<T> {
@@ -48,11 +46,10 @@ impl<T: Copy> Lists<T> {
         ensures { IfOk result (λ v. v ≡ record { lists = replicate numbers []; room = room }) }
     {
         Ok(Lists {
-            cells: Vec::with_capacity(alloc, 2 * room)?,
-            spare: Vec::with_capacity(alloc, 2 * room)?,
+            cells: Vec::with_capacity(alloc, 4 * room)?,
+            spare: Vec::with_capacity(alloc, 4 * room)?,
             spans: Vec::with_capacity(alloc, numbers)?,
             numbers,
-            last: 0,
             room,
         })
     }
@@ -100,7 +97,7 @@ impl<T: Copy> Lists<T> {
         if n >= self.spans.len() {
             return;
         }
-        cut(&mut self.cells, &mut self.spans, self.last, n, len);
+        cut(&self.cells, &mut self.spans, n, len);
     }
 
     /// Puts elements behind those of a list. Takes no memory.
@@ -114,12 +111,10 @@ impl<T: Copy> Lists<T> {
             &mut self.cells,
             &mut self.spare,
             &mut self.spans,
-            self.last,
             self.room,
             n,
             xs,
         );
-        self.last = n;
     }
 
     /// Puts other elements in place of a list's own. Takes no memory.
@@ -141,18 +136,10 @@ impl<T: Copy> Lists<T> {
         ensures { self.new ≡ with_list self.old n
             (shifted (list_at self.old n) start end by xs.now) }
     {
-        fill(&mut self.spans, n + 1);
-        open(
-            &mut self.cells,
-            &mut self.spare,
-            &mut self.spans,
-            self.last,
-            self.room,
-            n,
-            0,
-        );
-        self.last = n;
-        shift_last(&mut self.cells, &self.spans, n, start, end, by, xs);
+        if n >= self.spans.len() {
+            return;
+        }
+        shift_list(&mut self.cells, &self.spans, n, start, end, by, xs);
     }
 
     /// Makes room for so many elements together. The lists stay either way.
@@ -163,8 +150,8 @@ impl<T: Copy> Lists<T> {
         ensures room { self.old.room ≤ self.new.room }
     {
         if room > self.room {
-            self.cells.reserve(2 * room - self.cells.len())?;
-            self.spare.reserve(2 * room)?;
+            self.cells.reserve(4 * room - self.cells.len())?;
+            self.spare.reserve(4 * room)?;
             self.room = room;
         }
         Ok(())
@@ -186,16 +173,15 @@ impl<T: Copy> Lists<T> {
     pub fn copy(&self, alloc: Global) -> Result<Lists<T>, AllocError>
         ensures { IfOk result (λ v. v ≡ self.now) }
     {
-        let mut cells = Vec::with_capacity(alloc, 2 * self.room)?;
+        let mut cells = Vec::with_capacity(alloc, 4 * self.room)?;
         cells.extend_from_slice(&self.cells)?;
         let mut spans = Vec::with_capacity(alloc, self.numbers)?;
         spans.extend_from_slice(&self.spans)?;
         Ok(Lists {
             cells,
-            spare: Vec::with_capacity(alloc, 2 * self.room)?,
+            spare: Vec::with_capacity(alloc, 4 * self.room)?,
             spans,
             numbers: self.numbers,
-            last: self.last,
             room: self.room,
         })
     }

@@ -1,4 +1,4 @@
-//! Where a list begins and ends among all elements.
+//! Where a list begins and ends among all elements, and which places behind it are its own.
 
 ghost use Rattle.std.specs.Prelude.{◌≡◌, ◌+◌, ◌-◌, ◌≤◌, ◌<◌, ◌^◌, ◌++◌, length, replicate};
 ghost use Rattle.std.specs.Vec.{vec_capacity};
@@ -10,11 +10,17 @@ pub struct Span {
     pub from: usize,
     /// The place behind the last one.
     pub to: usize,
+    /// The place behind the free places that follow.
+    pub end: usize,
 }
 
 impl Span {
     /// Where an empty list is.
-    pub const EMPTY: Span = Span { from: 0, to: 0 };
+    pub const EMPTY: Span = Span {
+        from: 0,
+        to: 0,
+        end: 0,
+    };
 
     /// How many places the span has.
     pub fn len(self) -> usize
@@ -24,14 +30,15 @@ impl Span {
         self.to - self.from
     }
 
-    /// The first places, so many of them.
+    /// The first places, so many of them. The others are free.
     pub fn front(self, len: usize) -> Span
         requires { len ≤ self.to - self.from }
-        ensures { result ≡ record { «from» = self.from; to = self.from + len } }
+        ensures { result ≡ record { «from» = self.from; to = self.from + len; end = self.end } }
     {
         Span {
             from: self.from,
             to: self.from + len,
+            end: self.end,
         }
     }
 }
@@ -40,7 +47,7 @@ impl Span {
 pub fn fill(spans: &mut Vec<Span>, count: usize)
     requires room { count ≤ vec_capacity spans.old }
     ensures filled { spans.new.items ≡ spans.old.items
-        ++ replicate (count - length spans.old.items) (record { «from» = 0; to = 0 }) }
+        ++ replicate (count - length spans.old.items) (record { «from» = 0; to = 0; end = 0 }) }
     ensures capacity { vec_capacity spans.old ≤ vec_capacity spans.new }
 {
     if spans.len() < count {

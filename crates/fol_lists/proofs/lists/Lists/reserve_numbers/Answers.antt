@@ -5,4 +5,4 @@ use Rattle.fol_lists.proofs.lists.Lists.reserve_numbers.Goals as goal
 pub returns-in_ok-reserve-clause-ok : goal.returns-in_ok-reserve-clause-ok
 returns-in_ok-reserve-clause-ok g c =
     let s = c.self.inside in
-    rw (c.reserve.ensures.items, ← c.self.view_is) (numbers_added s.cells.items s.spans.items s.room s.numbers c.args.numbers c.self.invariant.3.1.within (omega arith))
+    rw (c.reserve.ensures.items, ← c.self.view_is) (numbers_added s.cells.items s.spans.items s.room s.numbers c.args.numbers c.self.invariant.3.within (omega arith))

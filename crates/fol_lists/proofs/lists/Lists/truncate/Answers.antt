@@ -6,17 +6,12 @@ pub invariant_of-self : goal.invariant_of-self
 invariant_of-self g c =
     let h = c.self.invariant in
     let same : take c.self.inside.spans.len (c.cut.new.spans ++ drop (length c.cut.new.spans) c.self.inside.spans.items) ≡ c.cut.new.spans = all_written c.cut.new.spans c.self.inside.spans.items c.self.inside.spans.len (omega arith) (omega arith) in
-    let lists = rw c.deref_mut.ensures.value at c.cut.ensures.lists in
-    rw same (
-      lists c.self.inside.room h.0,
-      h.1,
-      record { few = h.2.few; cells = omega (arith, h.2.cells, c.cut.ensures.capacity); spare = h.2.spare },
-      (c.cut.ensures.last, record { within = omega (arith, h.3.1.within); memory = h.3.1.memory }),
-    )
+    let lists = rw (c.deref_mut.ensures.value, c.deref.ensures.value) at c.cut.ensures.lists in
+    rw same (lists c.self.inside.room h.0, h.1, h.2, record { within = omega (arith, h.3.within); memory = h.3.memory })
 
 pub returns : goal.returns
 returns g c =
     let s = c.self.inside in
     let same : take s.spans.len (c.cut.new.spans ++ drop (length c.cut.new.spans) s.spans.items) ≡ c.cut.new.spans = all_written c.cut.new.spans s.spans.items s.spans.len (omega arith) (omega arith) in
-    let cuts = rw c.deref_mut.ensures.value at c.cut.ensures.cut in
-    rw (same, ← c.self.view_is) (numbered_is _ _ s.room (listed_changed s.cells.items c.cut.new.cells.items s.spans.items c.cut.new.spans s.numbers c.args.n (take c.args.len) (omega arith) (omega arith) cuts))
+    let cuts = rw (c.deref_mut.ensures.value, c.deref.ensures.value) at c.cut.ensures.cut in
+    rw (same, ← c.self.view_is) (numbered_is _ _ s.room (listed_changed s.cells.items s.cells.items s.spans.items c.cut.new.spans s.numbers c.args.n (take c.args.len) (omega arith) (omega arith) cuts))
