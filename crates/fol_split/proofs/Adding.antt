@@ -1,105 +1,102 @@
--- Runs with one section more.
-use Rattle.std.proofs.Common.{◌≡◌, ℕ, zero, suc, ◌+◌, ◌-◌, ◌<◌, ◌≤◌, refl, sym, ◌∙◌, ap, arith, true, false, Bool, List, [], ◌∷◌, ◌++◌, length, get_or, length-append, length-set, append_assoc}
-use Rattle.std.specs.Prelude.{pos, ◌+ℤ◌, ◌<ℤ◌, slice_set, IsTrue}
+-- Runs with one run more.
+use Rattle.std.proofs.Common.{◌≡◌, ℕ, suc, ◌+◌, ◌<◌, ◌≤◌, refl, sym, ◌∙◌, ap, arith, true, false, Bool, inl, inr, List, [], ◌∷◌, ◌++◌, length, length-append}
+use Rattle.std.specs.Prelude.{pos, ◌-ℤ◌, ◌<ℤ◌, IsTrue}
 use Rattle.std.specs.List.{All, IsDistinct}
 use Rattle.std.specs.List.Sorted.{IsStrictlySortedBy}
+use Rattle.std.specs.declared.cmp.Ordering.TheVariants.{Less}
 use borrow.Author.Differences.{ints}
+use Rattle.std.proofs.lemmas.Bool.{true≢false}
 use Rattle.std.proofs.lemmas.List.{append-nil}
 use Rattle.std.proofs.lemmas.List.Concat.{flat_map-append}
-use Rattle.std.proofs.lemmas.List.Elements.{All-push}
+use Rattle.std.proofs.lemmas.List.Elements.{All-push, All-append}
 use Rattle.fol_model.specs.declared.places.SectionPos.{SectionPos}
-use Rattle.fol_model.specs.Geometry.{is_section}
+use Rattle.fol_model.specs.Geometry.{is_section, is_among}
 use Rattle.fol_model.specs.Universe.{section_cmp}
 use Rattle.fol_split.specs.declared.runs.Run.{Run}
-use Rattle.std.proofs.lemmas.Bool.{true≢false}
-use Rattle.fol_split.specs.Runs.{no_run, sections_of, first_of, all_of, run_at, AreRuns, Marks, IsNext, IsMarked}
-use Rattle.fol_split.proofs.Members.{at_index}
-use Rattle.fol_split.proofs.Rows.{first_in, wider, single}
+use Rattle.fol_split.specs.Runs.{no_run, sections_of, first_of, all_of, run_at, AreRuns, Marks, IsMarked, ends_before}
+use Rattle.fol_split.proofs.Places.{less_row, less_in_row, less-gives}
+use Rattle.fol_split.proofs.Members.{at_index, sorted-join, sorted-across}
+use Rattle.fol_split.proofs.Rows.{first_in, in_run-gives, in_run-from, run-rises}
+use Rattle.fol_split.proofs.RunLists.{run_of, of_run, ends_parted, ends-gives, ends-row, ends-in_row}
 
--- the last run with more sections behind it
-all-widened : (runs : List Run) (k : ℕ) (run : Run) (s : SectionPos) → k + 1 ≡ length runs → sections_of run ≡ sections_of (run_at runs k) ++ s ∷ [] → all_of (slice_set runs k run) ≡ all_of runs ++ s ∷ []
-all-widened [] k run s l e = absurd (omega arith)
-all-widened (r ∷ []) zero run s l e =
-    append-nil (sections_of run) ∙ e ∙ ap (λ xs. xs ++ s ∷ []) (sym (append-nil (sections_of r)))
-all-widened (r ∷ q ∷ runs) zero run s l e = absurd (omega arith)
-all-widened (r ∷ runs) (suc k) run s l e =
-    ap (λ xs. sections_of r ++ xs) (all-widened runs k run s (omega arith) e) ∙ sym (append_assoc (sections_of r) (all_of runs) (s ∷ []))
+-- ---- whether a run is behind the others
+pub no-runs : (runs : List Run) → length runs ≡ 0 → runs ≡ []
+no-runs [] e = refl
+no-runs (r ∷ runs) e = absurd (omega arith)
 
-solid-set : (runs : List Run) (k : ℕ) (run : Run) → All (λ r. r.from <ℤ r.to) runs → run.from <ℤ run.to → All (λ r. r.from <ℤ r.to) (slice_set runs k run)
-solid-set [] k run all h = all
-solid-set (r ∷ runs) zero run all h = λ j d l. cases runs j d l all h
-  where
-    cases : (runs : List Run) (j : ℕ) (d : Run) → j < length (run ∷ runs) → All (λ r. r.from <ℤ r.to) (r ∷ runs) → run.from <ℤ run.to → (get_or (run ∷ runs) j d).from <ℤ (get_or (run ∷ runs) j d).to
-    cases runs zero d l all h = h
-    cases runs (suc j) d l all h = all (suc j) d l
-solid-set (r ∷ runs) (suc k) run all h = λ j d l. cases j d l (solid-set runs k run (λ j d l. all (suc j) d (omega arith)) h)
-  where
-    cases : (j : ℕ) (d : Run) → j < length (r ∷ slice_set runs k run) → All (λ r. r.from <ℤ r.to) (slice_set runs k run) → (get_or (r ∷ slice_set runs k run) j d).from <ℤ (get_or (r ∷ slice_set runs k run) j d).to
-    cases zero d l rest = all 0 d (omega arith)
-    cases (suc j) d l rest = rest j d (omega arith)
+module _ (runs : List Run) (run : Run) (sound : AreRuns runs) (solid : run.from <ℤ run.to) where
+  less_from_end : (r : Run) (s t : SectionPos) → r.from <ℤ r.to → ends_before run.z run.from r ≡ true → is_among (sections_of r) s ≡ true → is_among (sections_of run) t ≡ true → section_cmp s t ≡ Less
+  less_from_end r s t firm ends p q =
+      let a = in_run-gives r firm s p in
+      let b = in_run-gives run solid t q in
+      elim (ends-gives run.z run.from r ends) [
+        | inl e ↦ less_row s t (omega (arith, ints, a.0, b.0, e))
+        | inr e ↦ less_in_row s t (a.0 ∙ e.0 ∙ sym b.0) (omega (arith, ints, a.2, b.1, e.1))
+      ]
 
--- what is said of all sections with one more
-sound_with : (runs new : List Run) (s : SectionPos) → AreRuns runs → length (all_of runs) < 16384 → IsStrictlySortedBy section_cmp (all_of runs ++ s ∷ []) → is_section s ≡ true
-    → All (λ r. r.from <ℤ r.to) new → all_of new ≡ all_of runs ++ s ∷ [] → AreRuns new
-sound_with runs new s sound few order range solid e = record {
-  few = omega (arith, ap length e, length-append (all_of runs) (s ∷ []));
-  solid = solid;
-  in_order = rw e order;
-  in_range = rw e (All-push (λ (t : SectionPos). IsTrue (is_section t)) (all_of runs) s sound.in_range range);
-}
+  pub behind-none : runs ≡ [] → IsStrictlySortedBy section_cmp (all_of runs ++ sections_of run)
+  behind-none e = rw e (run-rises run)
 
-module _ (runs : List Run) (s : SectionPos) (sound : AreRuns runs) (few : length (all_of runs) < 16384) (order : IsStrictlySortedBy section_cmp (all_of runs ++ s ∷ [])) (range : is_section s ≡ true) where
-  pub all-more : all_of (runs ++ record { z = s.z; from = s.x; to = s.x +ℤ pos 1 } ∷ []) ≡ all_of runs ++ s ∷ []
-  all-more = flat_map-append sections_of runs (record { z = s.z; from = s.x; to = s.x +ℤ pos 1 } ∷ []) ∙ ap (λ xs. all_of runs ++ xs) (append-nil (sections_of (record { z = s.z; from = s.x; to = s.x +ℤ pos 1 })) ∙ single s)
+  module _ (k : ℕ) (last : k + 1 ≡ length runs) where
+    pub behind-gives : ends_before run.z run.from (run_at runs k) ≡ true → IsStrictlySortedBy section_cmp (all_of runs ++ sections_of run)
+    behind-gives ends = sorted-join (all_of runs) (sections_of run) sound.in_order (run-rises run) (λ s t p q.
+        let j = run_of runs s p in
+        less_from_end (run_at runs j.0) s t (sound.solid j.0 no_run j.1) (ends_parted runs sound run.z run.from j.0 k (omega (arith, j.1)) (omega arith) ends) j.2 q)
 
-  pub sound_more : AreRuns (runs ++ record { z = s.z; from = s.x; to = s.x +ℤ pos 1 } ∷ [])
-  sound_more = sound_with runs _ s sound few order range (All-push (λ (r : Run). r.from <ℤ r.to) runs (record { z = s.z; from = s.x; to = s.x +ℤ pos 1 }) sound.solid (omega (arith, ints))) all-more
+    pub behind-from : IsStrictlySortedBy section_cmp (all_of runs ++ sections_of run) → ends_before run.z run.from (run_at runs k) ≡ true
+    behind-from order =
+        let r = run_at runs k in
+        let firm = sound.solid k no_run (omega arith) in
+        let end : SectionPos = record { x = r.to -ℤ pos 1; z = r.z } in
+        let inside = in_run-from r firm end refl (omega (arith, ints, firm)) (omega (arith, ints)) in
+        let less = sorted-across (all_of runs) (sections_of run) end (first_of run) order (of_run runs k end (omega arith) inside) (first_in run solid) in
+        elim (less-gives end (first_of run) less) [
+          | inl e ↦ ends-row run.z run.from r e
+          | inr e ↦ ends-in_row run.z run.from r e.0 (omega (arith, ints, e.1))
+        ]
 
-  module _ (next : IsNext runs s) where
-    last : Run
-    last = run_at runs (length runs - 1)
+module _ (runs : List Run) (run : Run) where
+  pub all-more : all_of (runs ++ run ∷ []) ≡ all_of runs ++ sections_of run
+  all-more = flat_map-append sections_of runs (run ∷ []) ∙ ap (λ xs. all_of runs ++ xs) (append-nil (sections_of run))
 
-    pub all-wider : all_of (slice_set runs (length runs - 1) (record { z = (run_at runs (length runs - 1)).z; from = (run_at runs (length runs - 1)).from; to = s.x +ℤ pos 1 })) ≡ all_of runs ++ s ∷ []
-    all-wider = all-widened runs (length runs - 1) _ s (omega (arith, next.some))
-        (wider (run_at runs (length runs - 1)) (sound.solid (length runs - 1) _ (omega (arith, next.some))) s next.row next.behind)
-
-    pub sound_wider : AreRuns (slice_set runs (length runs - 1) (record { z = (run_at runs (length runs - 1)).z; from = (run_at runs (length runs - 1)).from; to = s.x +ℤ pos 1 }))
-    sound_wider =
-        let firm = sound.solid (length runs - 1) no_run (omega (arith, next.some)) in
-        sound_with runs _ s sound few order range (solid-set runs (length runs - 1) _ sound.solid (omega (arith, ints, next.behind, firm))) all-wider
+  module _ (sound : AreRuns runs) (few : length (all_of runs ++ sections_of run) ≤ 16384) (solid : run.from <ℤ run.to) (order : IsStrictlySortedBy section_cmp (all_of runs ++ sections_of run))
+      (range : All (λ (s : SectionPos). IsTrue (is_section s)) (sections_of run)) where
+    pub sound_more : AreRuns (runs ++ run ∷ [])
+    sound_more = record {
+      few = omega (arith, ap length all-more, few);
+      solid = All-push (λ (r : Run). r.from <ℤ r.to) runs run sound.solid solid;
+      in_order = rw all-more order;
+      in_range = rw all-more (All-append (λ (s : SectionPos). IsTrue (is_section s)) (all_of runs) (sections_of run) sound.in_range range);
+    }
 
 -- at least one section in each run
 runs_at_most : (runs : List Run) → All (λ r. r.from <ℤ r.to) runs → ((r : Run) → r.from <ℤ r.to → 0 < length (sections_of r)) → length runs ≤ length (all_of runs)
 runs_at_most [] all some = omega arith
 runs_at_most (r ∷ runs) all some = omega (arith, length-append (sections_of r) (all_of runs), some r (all 0 r (omega arith)), runs_at_most runs (λ k d l. all (suc k) d (omega arith)) some)
 
+pub run_some : (r : Run) → r.from <ℤ r.to → 0 < length (sections_of r)
+run_some r h = let k = at_index (sections_of r) (first_of r) (first_in r h) in omega (arith, k.1)
+
 pub runs_few : (runs : List Run) → AreRuns runs → length runs ≤ length (all_of runs)
-runs_few runs sound = runs_at_most runs sound.solid (λ r h. let k = at_index (sections_of r) (first_of r) (first_in r h) in omega (arith, k.1))
+runs_few runs sound = runs_at_most runs sound.solid run_some
 
 pub few_runs : (runs : List Run) → AreRuns runs → length runs ≤ 16384
 few_runs runs sound = omega (arith, sound.few, runs_few runs sound)
 
--- ---- the marks of runs with one section more
-module _ (m : Marks) (s : SectionPos) (marked : IsMarked m) (few : length (all_of m.runs) < 16384) (order : IsStrictlySortedBy section_cmp (all_of m.runs ++ s ∷ [])) (range : is_section s ≡ true) where
-  pub marked_more : All IsTrue m.left → IsMarked (record { runs = m.runs ++ record { z = s.z; from = s.x; to = s.x +ℤ pos 1 } ∷ []; left = m.left ++ true ∷ []; class = m.class })
+-- ---- the marks of runs with one run more
+module _ (m : Marks) (run : Run) (marked : IsMarked m) (few : length (all_of m.runs ++ sections_of run) ≤ 16384) (solid : run.from <ℤ run.to)
+    (order : IsStrictlySortedBy section_cmp (all_of m.runs ++ sections_of run)) (range : All (λ (s : SectionPos). IsTrue (is_section s)) (sections_of run)) where
+  pub marked_more : All IsTrue m.left → IsMarked (record { runs = m.runs ++ run ∷ []; left = m.left ++ true ∷ []; class = m.class })
   marked_more left = record {
-    sound = sound_more m.runs s marked.sound few order range;
-    flags = omega (arith, marked.flags, length-append m.left (true ∷ []), length-append m.runs (record { z = s.z; from = s.x; to = s.x +ℤ pos 1 } ∷ []));
+    sound = sound_more m.runs run marked.sound few solid order range;
+    flags = omega (arith, marked.flags, length-append m.left (true ∷ []), length-append m.runs (run ∷ []));
     distinct = marked.distinct;
     gone = λ k h. let g = marked.gone k h in absurd (true≢false (sym (left k false (omega (arith, g.0, marked.flags))) ∙ g.1));
   }
 
-  pub marked_wider : IsNext m.runs s
-      → IsMarked (record { runs = slice_set m.runs (length m.runs - 1) (record { z = (run_at m.runs (length m.runs - 1)).z; from = (run_at m.runs (length m.runs - 1)).from; to = s.x +ℤ pos 1 }); left = m.left; class = m.class })
-  marked_wider next =
-      let run : Run = record { z = (run_at m.runs (length m.runs - 1)).z; from = (run_at m.runs (length m.runs - 1)).from; to = s.x +ℤ pos 1 } in
-      let same = length-set m.runs (length m.runs - 1) run in
-      record {
-        sound = sound_wider m.runs s marked.sound few order range next;
-        flags = marked.flags ∙ sym same;
-        distinct = marked.distinct;
-        gone = λ k h. let g = marked.gone k h in (omega (arith, g.0, same), g.1);
-      }
+  -- there is room for it
+  pub room_more : length m.runs < 16384
+  room_more = omega (arith, few, length-append (all_of m.runs) (sections_of run), runs_few m.runs marked.sound, run_some run solid)
 
 pub marked_none : (runs : List Run) (left : List Bool) (class : List ℕ) → runs ≡ [] → left ≡ [] → class ≡ [] → IsMarked (record { runs = runs; left = left; class = class })
 unfolding IsDistinct IsStrictlySortedBy

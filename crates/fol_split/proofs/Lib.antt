@@ -9,3 +9,4 @@ pub mod Adding
 pub mod Search
 pub mod Pools
 pub mod Parting
+pub mod Loading

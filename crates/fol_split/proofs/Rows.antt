@@ -1,17 +1,21 @@
 -- The sections of a run.
 use Rattle.std.proofs.Common.{◌≡◌, ℕ, zero, suc, refl, sym, ◌∙◌, ap, arith, true, inl, inr, List, [], ◌∷◌, ◌++◌, length, append_assoc}
 use Rattle.std.specs.Prelude.{ℤ, pos, ◌+ℤ◌, ◌-ℤ◌, ◌<ℤ◌, ◌≤ℤ◌, nat_abs, map}
+use Rattle.std.specs.List.Sorted.{IsStrictlySortedBy}
 use Rattle.std.specs.Ordering.{int_eq}
+use Rattle.std.specs.declared.cmp.Ordering.TheVariants.{Less}
 use Rattle.std.proofs.lemmas.Bool.{cases_Bool, or_cases, or_left, or_right, and_from, true≢false}
 use Rattle.std.proofs.lemmas.Bool.Decides.{Decides-int_eq}
 use Rattle.std.proofs.lemmas.List.{append-nil}
 use borrow.Author.Differences.{ints}
 use Rattle.fol_model.specs.declared.places.SectionPos.{SectionPos}
 use Rattle.fol_model.specs.Geometry.{same_section, is_among}
-use Rattle.fol_model.specs.Universe.{from}
+use Rattle.fol_model.specs.Universe.{from, section_cmp}
 use Rattle.fol_model.proofs.PlaceKeys.{same_section-true}
 use Rattle.fol_split.specs.declared.runs.Run.{Run}
 use Rattle.fol_split.specs.Runs.{sections_of, first_of}
+use Rattle.fol_split.proofs.Places.{less_in_row}
+use Rattle.fol_split.proofs.Members.{all_from}
 
 -- n sections of the row z, from x on
 abbrev pub row : ℤ → ℤ → ℕ → List SectionPos
@@ -87,6 +91,18 @@ module _ (run : Run) (solid : run.from <ℤ run.to) where
       let last : s ≡ record { x = s.x; z = run.z } = λ i. record { x = s.x; z = e i } in
       ap (row run.z run.from) n ∙ row-push run.z run.from (nat_abs (run.to -ℤ run.from)) s.x (omega (arith, ints))
       ∙ ap (λ t. row run.z run.from (nat_abs (run.to -ℤ run.from)) ++ t ∷ []) (sym last)
+
+row-rises : (z x : ℤ) (n : ℕ) → IsStrictlySortedBy section_cmp (row z x n)
+unfolding from IsStrictlySortedBy
+row-rises z x zero = tt
+row-rises z x (suc n) = (
+  all_from (λ t. section_cmp (record { x = x; z = z }) t ≡ Less) (row z (x +ℤ pos 1) n) (λ t h. let r = row-gives z (x +ℤ pos 1) n t h in less_in_row (record { x = x; z = z }) t (sym r.0) (omega (arith, ints, r.1))),
+  row-rises z (x +ℤ pos 1) n,
+)
+
+pub run-rises : (run : Run) → IsStrictlySortedBy section_cmp (sections_of run)
+unfolding sections_of
+run-rises run = row-rises run.z run.from (nat_abs (run.to -ℤ run.from))
 
 -- a run of one section
 pub single : (s : SectionPos) → sections_of (record { z = s.z; from = s.x; to = s.x +ℤ pos 1 }) ≡ s ∷ []

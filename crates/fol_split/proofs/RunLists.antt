@@ -8,7 +8,7 @@ use Rattle.std.specs.Cmp.{both_ways}
 use Rattle.std.specs.declared.cmp.Ordering.TheVariants.{Less}
 use Rattle.std.proofs.lemmas.Bool.{cases_Bool, cases_eq, cases_lt, and_parts, and_from, or_cases, or_left, or_right, leb-true, le-leb, ltb-true, lt-ltb, true≢false}
 use Rattle.std.proofs.lemmas.Bool.Decides.{nat_tests, Decides-int_eq}
-use Rattle.std.proofs.lemmas.List.{at_drop_more}
+use Rattle.std.proofs.lemmas.List.{at_drop_more, drop_all}
 use Rattle.std.proofs.lemmas.List.Folds.{list_any_at}
 use borrow.Author.Differences.{ints}
 use Rattle.fol_model.specs.declared.places.SectionPos.{SectionPos}
@@ -60,6 +60,9 @@ same_place k j h = grind (arith, nat_tests)
 pub place_self : (k : ℕ) → nat_eq k k ≡ true
 place_self k = grind (arith, nat_tests)
 
+cmp_less : (i j : ℕ) → nat_cmp i j ≡ Less → i < j
+cmp_less i j h = grind (arith, nat_tests)
+
 place_all : (P : ℕ → Type 0) (ks : List ℕ) (j : ℕ) → AllByRecursion P ks → is_place ks j ≡ true → P j
 place_all P [] j h e = absurd (true≢false (sym e))
 place_all P (k ∷ ks) j h e = elim (or_cases (nat_eq j k) (is_place ks j) e) [
@@ -93,9 +96,30 @@ module _ (runs : List Run) where
       let j = at_place ks t q in
       let less = place_all (λ i. nat_cmp k i ≡ Less) ks j.0 up.0 j.1 in
       run_before runs k j.0 s t h (cmp_less k j.0 less) (within j.0 (or_right (nat_eq j.0 k) _ j.1)) p j.2)
-    where
-      cmp_less : (i j : ℕ) → nat_cmp i j ≡ Less → i < j
-      cmp_less i j h = grind (arith, nat_tests)
+
+-- ---- all places
+-- so many places in order need so many numbers
+places_room : (ks : List ℕ) (b n : ℕ) → b ≤ n → IsStrictlySortedBy nat_cmp ks → ((k : ℕ) → is_place ks k ≡ true → (b ≤ k) × (k < n)) → b + length ks ≤ n
+unfolding IsStrictlySortedBy
+places_room [] b n l up within = omega (arith, l)
+places_room (k ∷ ks) b n l up within =
+    let here = within k (or_left _ _ (place_self k)) in
+    let rest = places_room ks (k + 1) n (omega (arith, here.1)) up.1 (λ j h. (omega (arith, cmp_less k j (place_all (λ i. nat_cmp k i ≡ Less) ks j up.0 h)), (within j (or_right (nat_eq j k) _ h)).1)) in
+    omega (arith, here.0, rest)
+
+places_from : (runs : List Run) (ks : List ℕ) (b : ℕ) → b + length ks ≡ length runs → IsStrictlySortedBy nat_cmp ks → ((k : ℕ) → is_place ks k ≡ true → (b ≤ k) × (k < length runs)) → sections_at runs ks ≡ all_of (drop b runs)
+unfolding IsStrictlySortedBy
+places_from runs [] b n up within = ap all_of (sym (drop_all b runs (omega (arith, n))))
+places_from runs (k ∷ ks) b n up within =
+    let here = within k (or_left _ _ (place_self k)) in
+    let behind : (j : ℕ) → is_place ks j ≡ true → (k + 1 ≤ j) × (j < length runs) = λ j h. (omega (arith, cmp_less k j (place_all (λ i. nat_cmp k i ≡ Less) ks j up.0 h)), (within j (or_right (nat_eq j k) _ h)).1) in
+    let first : k ≡ b = omega (arith, n, here.0, places_room ks (k + 1) (length runs) (omega (arith, here.1)) up.1 behind) in
+    let rest = places_from runs ks (b + 1) (omega (arith, n)) up.1 (λ j h. let p = behind j h in (omega (arith, p.0, first), p.1)) in
+    ap (λ xs. sections_of (run_at runs k) ++ xs) rest ∙ ap (λ i. sections_of (run_at runs i) ++ all_of (drop (b + 1) runs)) first ∙ sym (at_drop_more all_of runs b no_run (omega (arith, n)))
+
+-- as many places in order as there are runs are the places of all runs
+pub places-all : (runs : List Run) (ks : List ℕ) → length ks ≡ length runs → IsStrictlySortedBy nat_cmp ks → ((k : ℕ) → is_place ks k ≡ true → k < length runs) → sections_at runs ks ≡ all_of runs
+places-all runs ks n up within = places_from runs ks 0 (omega (arith, n)) up (λ k h. (omega arith, within k h))
 
 -- the place that stands at an index
 pub place_at : (ks : List ℕ) (i d : ℕ) → i < length ks → is_place ks (get_or ks i d) ≡ true
@@ -147,18 +171,18 @@ between-more first k j l = both_ways _ _
     ])
 
 -- ---- tests on a run
-ends-gives : (z x : ℤ) (run : Run) → ends_before z x run ≡ true → (run.z <ℤ z) ⊎ ((run.z ≡ z) × (run.to ≤ℤ x))
+pub ends-gives : (z x : ℤ) (run : Run) → ends_before z x run ≡ true → (run.z <ℤ z) ⊎ ((run.z ≡ z) × (run.to ≤ℤ x))
 unfolding ends_before
 ends-gives z x run h = elim (or_cases (int_lt run.z z) (int_eq run.z z && int_le run.to x) h) [
   | inl e ↦ inl (grind (arith, ints))
   | inr e ↦ let p = and_parts (int_eq run.z z) (int_le run.to x) e in inr ((Decides-int_eq run.z z).0 p.0, grind (arith, ints))
 ]
 
-ends-row : (z x : ℤ) (run : Run) → run.z <ℤ z → ends_before z x run ≡ true
+pub ends-row : (z x : ℤ) (run : Run) → run.z <ℤ z → ends_before z x run ≡ true
 unfolding ends_before
 ends-row z x run l = or_left (int_lt run.z z) _ (grind (arith, ints))
 
-ends-in_row : (z x : ℤ) (run : Run) → run.z ≡ z → run.to ≤ℤ x → ends_before z x run ≡ true
+pub ends-in_row : (z x : ℤ) (run : Run) → run.z ≡ z → run.to ≤ℤ x → ends_before z x run ≡ true
 unfolding ends_before
 ends-in_row z x run e l = or_right (int_lt run.z z) _ (and_from (int_eq run.z z) _ ((Decides-int_eq run.z z).1 e) (grind (arith, ints)))
 

@@ -1,5 +1,5 @@
 -- Runs of sections, and which of them are left.
-use Rattle.std.specs.Prelude.{◌≡◌, ℕ, ◌+◌, ◌-◌, ◌<◌, ◌≤◌, ℤ, pos, ◌+ℤ◌, ◌-ℤ◌, ◌<ℤ◌, nat_abs, Bool, false, not, ◌&&◌, ◌||◌, nat_eq, int_le, int_lt, List, ◌++◌, length, map, flat_map, IsTrue}
+use Rattle.std.specs.Prelude.{◌≡◌, ℕ, ◌+◌, ◌<◌, ◌≤◌, ℤ, pos, ◌+ℤ◌, ◌-ℤ◌, ◌<ℤ◌, nat_abs, Bool, false, not, ◌&&◌, ◌||◌, nat_eq, int_le, int_lt, List, ◌++◌, length, map, flat_map, IsTrue}
 use Rattle.std.specs.List.{All, IsDistinct, list_any, slice_index_or}
 use Rattle.std.specs.List.Sorted.{IsStrictlySortedBy}
 use Rattle.std.specs.Ordering.{int_eq, nat_cmp}
@@ -82,12 +82,6 @@ ends_before z x run = int_lt run.z z || (int_eq run.z z && int_le run.to x)
 -- the run stands in the row z and begins before x
 unfoldable pub begins_before : ℤ → ℤ → Run → Bool
 begins_before z x run = int_eq run.z z && int_lt run.from x
-
--- the section stands right behind the last run
-pub record IsNext (runs : List Run) (s : SectionPos) : Type 0 where
-  pub some : 0 < length runs
-  pub row : s.z ≡ (run_at runs (length runs - 1)).z
-  pub behind : s.x ≡ (run_at runs (length runs - 1)).to
 
 -- y is one of n numbers from x on
 unfoldable pub is_one_of : ℤ → ℕ → ℤ → Bool

@@ -8,7 +8,7 @@ ghost use Rattle.fol_model.specs.declared.places.SectionPos.{SectionPos};
 ghost use Rattle.fol_model.specs.Geometry.{is_section, same_section, is_among};
 ghost use Rattle.fol_model.specs.Universe.{section_cmp};
 ghost use Rattle.fol_split.specs.Pool.{TakesClass, IsApart, IsLoaded, is_left};
-ghost use Rattle.fol_split.specs.Runs.{AreRuns, run_at, sections_of, first_of};
+ghost use Rattle.fol_split.specs.Runs.{AreRuns, all_of, run_at, sections_of, first_of};
 
 use crate::runs::Runs;
 use fol_model::{MOST_SECTIONS, SectionPos};
@@ -18,7 +18,7 @@ use std::marker::Model;
 /// Sections in order by `(z, x)` as runs, and those that were taken, in the order in which they were.
 #[derive(Drop)]
 pub struct Pool {
-    /// The sections that the runs were made of.
+    /// The sections of the runs, in order.
     order: Vec<SectionPos>,
     runs: Runs,
     found: Vec<SectionPos>,
@@ -30,11 +30,13 @@ impl Model for Pool {
     ghost Value = { Taken };
 
     ghost use Rattle.std.specs.Vec.{vec_capacity};
+    ghost use Rattle.std.specs.Prelude.{◌≡◌};
     ghost use Rattle.fol_split.specs.Pool.{IsPool, HasRoom};
+    ghost use Rattle.fol_split.specs.Runs.{all_of};
 
     ghost view = { λ p. record { runs = p.runs.runs; found = p.found.items } };
 
-    ghost invariant = { λ p. IsPool p.runs p.found.items × HasRoom (vec_capacity p.order) (vec_capacity p.found) };
+    ghost invariant = { λ p. IsPool p.runs p.found.items × HasRoom (vec_capacity p.order) (vec_capacity p.found) × (all_of p.runs.runs ≡ p.order.items) };
 }
 
 impl Pool {
@@ -91,8 +93,7 @@ impl Pool {
         self.found.clear();
         self.order.clear();
         let _ = self.order.extend_from_slice(sections);
-        sort(&mut self.order);
-        self.runs.load(&self.order);
+        load_sorted(&mut self.runs, &mut self.order);
     }
 
     /// Takes the sections that are joined with those of the run at a place, in order.
@@ -108,11 +109,29 @@ impl Pool {
         ensures apart { IsApart self.new merge }
     {
         self.runs.take_class(k, merge);
-        self.runs.append_class(&mut self.found);
+        self.runs.append_class(&self.order, &mut self.found);
     }
 }
 
-/// Puts sections in order by `(z, x)`. This takes one pass where they are in order already.
+/// Puts sections in order by `(z, x)`, unless they are so already, and makes runs of them, each of them left.
+fn load_sorted(runs: &mut Runs, order: &mut Vec<SectionPos>)
+    requires few { length order.old.items ≤ MOST_SECTIONS }
+    requires distinct { IsDistinct same_section order.old.items }
+    requires in_range { All (λ s. IsTrue (is_section s)) order.old.items }
+    ensures permuted { IsPermutation order.old.items order.new.items }
+    ensures room { vec_capacity order.new ≡ vec_capacity order.old }
+    ensures all { all_of runs.new.runs ≡ order.new.items }
+    ensures left { All IsTrue runs.new.left }
+    ensures flags { length runs.new.left ≡ length runs.new.runs }
+{
+    if runs.load(order) {
+        return;
+    }
+    sort(order);
+    let _ = runs.load(order);
+}
+
+/// Puts sections in order by `(z, x)`.
 fn sort(sections: &mut Vec<SectionPos>)
     requires distinct { IsDistinct same_section sections.old.items }
     ensures permuted { IsPermutation sections.old.items sections.new.items }

@@ -1,13 +1,14 @@
 //! Runs of sections, and the search for those that are joined.
 
-ghost use Rattle.std.specs.Prelude.{◌≡◌, ◌↔◌, ℕ, pos, ◌+ℤ◌, ◌-ℤ◌, nat_abs, ◌&&◌, true, false, ◌+◌, ◌<◌, ◌≤◌, ◌<ℤ◌, IsTrue, IfOk, [], ◌∷◌, ◌++◌, length, nat_eq, nat_lt};
+ghost use Rattle.std.specs.Prelude.{◌≡◌, ◌↔◌, ℕ, pos, ◌+ℤ◌, ◌-ℤ◌, nat_abs, ◌&&◌, true, false, ◌+◌, ◌<◌, ◌≤◌, ◌<ℤ◌, IsTrue, IfOk, [], ◌∷◌, ◌++◌, length, take, nat_eq, nat_lt};
 ghost use Rattle.std.specs.List.{All, slice_index_or};
 ghost use Rattle.std.specs.List.Sorted.{IsStrictlySortedBy};
+ghost use Rattle.std.specs.Ordering.{nat_cmp};
 ghost use Rattle.std.specs.Vec.{vec_capacity};
 ghost use Rattle.fol_model.specs.declared.places.SectionPos.{SectionPos};
 ghost use Rattle.fol_model.specs.Geometry.{is_section};
 ghost use Rattle.fol_model.specs.Universe.{section_cmp};
-ghost use Rattle.fol_split.specs.Runs.{run_at, sections_of, all_of, sections_at, AreRuns, is_left_at, TakesRuns, IsClass, is_one_of, is_across, is_met, is_met_in, is_near, ends_before, begins_before, IsMarked, IsNext, SortsClass};
+ghost use Rattle.fol_split.specs.Runs.{run_at, sections_of, all_of, sections_at, AreRuns, is_left_at, TakesRuns, IsClass, is_one_of, is_across, is_met, is_met_in, is_near, ends_before, begins_before, IsMarked, SortsClass};
 
 use fol_model::{MOST_SECTIONS, SectionPos};
 use std::alloc::{AllocError, Global};
@@ -47,6 +48,14 @@ impl Run {
             from: self.from,
             to: s.x + 1,
         }
+    }
+
+    /// The number of its sections.
+    fn len(self) -> usize
+        requires { self.from <ℤ self.to }
+        ensures { result ≡ length (sections_of self) }
+    {
+        (self.to as i64 - self.from as i64) as usize
     }
 
     /// The run `merge` rows before this one that goes `merge` further at either end.
@@ -176,62 +185,57 @@ impl Runs {
         self.left[k]
     }
 
-    /// The runs of sections that are in order, each of them left.
-    pub fn load(&mut self, order: &[SectionPos])
+    /// The runs of these sections, each of them left, and whether the sections are in order: where they are not, some of them are
+    /// in no run.
+    pub fn load(&mut self, order: &[SectionPos]) -> bool
         requires few { length order.now ≤ MOST_SECTIONS }
-        requires in_order { IsStrictlySortedBy section_cmp order.now }
         requires in_range { All (λ s. IsTrue (is_section s)) order.now }
-        ensures all { all_of self.new.runs ≡ order.now }
+        ensures all { IsTrue result → all_of self.new.runs ≡ order.now }
+        ensures in_order { IsTrue result ↔ IsStrictlySortedBy section_cmp order.now }
         ensures left { All IsTrue self.new.left }
         ensures flags { length self.new.left ≡ length self.new.runs }
     {
         self.runs.clear();
         self.left.clear();
         self.class.clear();
-        for s in order {
-            self.add(*s);
+        let mut done = 0;
+        while done < order.len() {
+            let run = first_run(order[done], &order[done + 1..]);
+            if !self.is_behind(run) {
+                return false;
+            }
+            self.add(run);
+            done += run.len();
         }
+        true
     }
 
-    /// Adds a section that is behind all others, to the last run where it stands next to it.
-    fn add(&mut self, s: SectionPos)
-        requires few { length (all_of self.old.runs) < MOST_SECTIONS }
-        requires in_order { IsStrictlySortedBy section_cmp (all_of self.old.runs ++ s ∷ []) }
-        requires in_range { IsTrue (is_section s) }
+    /// Whether the sections of a run are behind all others.
+    fn is_behind(&self, run: Run) -> bool
+        requires { run.from <ℤ run.to }
+        ensures { IsTrue result
+            ↔ IsStrictlySortedBy section_cmp (all_of self.now.runs ++ sections_of run) }
+    {
+        let n = self.runs.len();
+        if n == 0 {
+            return true;
+        }
+        self.runs[n - 1].ends_before(run)
+    }
+
+    /// Adds a run of sections that are behind all others.
+    fn add(&mut self, run: Run)
+        requires few { length (all_of self.old.runs ++ sections_of run) ≤ MOST_SECTIONS }
+        requires solid { run.from <ℤ run.to }
+        requires in_order { IsStrictlySortedBy section_cmp (all_of self.old.runs ++ sections_of run) }
+        requires in_range { All (λ s. IsTrue (is_section s)) (sections_of run) }
         requires left { All IsTrue self.old.left }
-        ensures all { all_of self.new.runs ≡ all_of self.old.runs ++ s ∷ [] }
+        ensures all { all_of self.new.runs ≡ all_of self.old.runs ++ sections_of run }
         ensures left { All IsTrue self.new.left }
         ensures flags { length self.new.left ≡ length self.new.runs }
     {
-        if self.is_next(s) {
-            self.widen(s);
-        } else {
-            let _ = self.runs.push(Run::of(s));
-            let _ = self.left.push(true);
-        }
-    }
-
-    /// Whether a section stands right behind the last run.
-    fn is_next(&self, s: SectionPos) -> bool
-        ensures { IsTrue result → IsNext self.now.runs s }
-    {
-        let n = self.runs.len();
-        n > 0 && self.runs[n - 1].is_before(s)
-    }
-
-    /// Adds a section to the last run, which it stands next to.
-    fn widen(&mut self, s: SectionPos)
-        requires next { IsNext self.old.runs s }
-        requires few { length (all_of self.old.runs) < MOST_SECTIONS }
-        requires in_order { IsStrictlySortedBy section_cmp (all_of self.old.runs ++ s ∷ []) }
-        requires in_range { IsTrue (is_section s) }
-        ensures all { all_of self.new.runs ≡ all_of self.old.runs ++ s ∷ [] }
-        ensures left { self.new.left ≡ self.old.left }
-        ensures flags { length self.new.left ≡ length self.new.runs }
-    {
-        let last = self.runs.len() - 1;
-        let run = self.runs[last].with(s);
-        self.runs[last] = run;
+        let _ = self.runs.push(run);
+        let _ = self.left.push(true);
     }
 
     /// The number of runs that the search took.
@@ -376,8 +380,33 @@ impl Runs {
         self.class.sort_unstable();
     }
 
-    /// Appends the sections of the runs that the last search took.
-    pub fn append_class(&self, found: &mut Vec<SectionPos>)
+    /// Whether the last search took all runs.
+    fn took_all(&self) -> bool
+        ensures value { IsTrue result ↔ (length self.now.class ≡ length self.now.runs) }
+        ensures marked { IsMarked self.now }
+    {
+        self.class.len() == self.runs.len()
+    }
+
+    /// Appends the sections of the runs that the last search took; `order` has those of all runs.
+    pub fn append_class(&self, order: &[SectionPos], found: &mut Vec<SectionPos>)
+        requires order { all_of self.now.runs ≡ order.now }
+        requires rising { IsStrictlySortedBy nat_cmp self.now.class }
+        requires room { length found.old.items
+            + length (sections_at self.now.runs self.now.class) ≤ vec_capacity found.old }
+        ensures found { found.new.items
+            ≡ found.old.items ++ sections_at self.now.runs self.now.class }
+        ensures room { vec_capacity found.old ≤ vec_capacity found.new }
+    {
+        if self.took_all() {
+            let _ = found.extend_from_slice(order);
+        } else {
+            self.append_each(found);
+        }
+    }
+
+    /// Appends the sections of the runs that the last search took, one run after another.
+    fn append_each(&self, found: &mut Vec<SectionPos>)
         requires { length found.old.items
             + length (sections_at self.now.runs self.now.class) ≤ vec_capacity found.old }
         ensures found { found.new.items
@@ -388,6 +417,23 @@ impl Runs {
             append_run(found, self.runs[*k]);
         }
     }
+}
+
+/// A run at the front of these sections, of `first` and those of `rest` that stand side by side behind it.
+fn first_run(first: SectionPos, rest: &[SectionPos]) -> Run
+    requires first { IsTrue (is_section first) }
+    requires rest { All (λ s. IsTrue (is_section s)) rest.now }
+    ensures solid { result.from <ℤ result.to }
+    ensures front { take (length (sections_of result)) (first ∷ rest.now) ≡ sections_of result }
+{
+    let mut run = Run::of(first);
+    for s in rest {
+        if !run.is_before(*s) {
+            return run;
+        }
+        run = run.with(*s);
+    }
+    run
 }
 
 /// Appends the sections of a run.

@@ -1,4 +1,5 @@
-use Rattle.std.proofs.Common.{ap, arith}
+use Rattle.std.proofs.Common.{ap, sym, ◌∙◌, arith}
+use Rattle.fol_split.specs.Runs.{all_of}
 use Rattle.fol_split.proofs.Pools.{pool_none}
 use Rattle.fol_split.proofs.pool.Pool.new.Goals as goal
 
@@ -9,4 +10,5 @@ invariant_of-result c = (
     order = omega (arith, c.in_ok-with_capacity.ensures.exact);
     found = omega (arith, c.in_ok-with_capacity-2.ensures.exact);
   },
+  ap (λ m. all_of m.runs) c.in_ok-new.ensures ∙ sym c.in_ok-with_capacity.ensures.items,
 )

@@ -1,7 +1,7 @@
 use Rattle.std.proofs.Common.{◌≡◌, ◌≤◌, ◌++◌, drop}
 use Rattle.std.specs.Vec.{vec_capacity}
 use Rattle.fol_split.specs.Runs.{sections_at}
-use Rattle.fol_split.proofs.runs.Runs.append_class.Given as goal
+use Rattle.fol_split.proofs.runs.Runs.append_each.Given as goal
 
 abbrev pub invariant-loop-k : goal.invariant-loop-k
 invariant-loop-k l = record {
