@@ -210,10 +210,7 @@ fn lay_block_in(room: &mut RegionData, at: BlockPos, id: u16) -> Result<(), Allo
     ensures err { OnErr result (SameThings room.old room.new) }
     ensures timely { IsTimely room.new }
 {
-    match room_for_thing(room) {
-        Ok(()) => {}
-        Err(_) => return Err(AllocError),
-    }
+    room_for_thing(room)?;
     room.chunks.set(at, id);
     Ok(())
 }
@@ -258,10 +255,7 @@ fn lay_entity_in(room: &mut RegionData, e: Entity) -> Result<(), AllocError>
     ensures err { OnErr result (SameThings room.old room.new) }
     ensures timely { IsTimely room.new }
 {
-    match room_for_thing(room) {
-        Ok(()) => {}
-        Err(_) => return Err(AllocError),
-    }
+    room_for_thing(room)?;
     room.chunks.put_entity(e);
     Ok(())
 }

@@ -1,5 +1,5 @@
 -- Lists of chunks in order.
-use Rattle.std.proofs.Common.{◌≡◌, true, not, ◌&&◌, List, sym, ◌∙◌, ap, inl, inr, filter}
+use Rattle.std.proofs.Common.{◌≡◌, not, ◌&&◌, List, sym, ◌∙◌, ap, inl, inr, filter}
 use Rattle.std.specs.List.{list_any}
 use Rattle.std.specs.List.Sorted.{IsStrictlySortedBy}
 use Rattle.std.specs.Ordering.{eq_by_cmp}

@@ -49,18 +49,9 @@ pub fn list(
         entities: Vec::new(alloc),
         tasks: Vec::new(alloc),
     };
-    match add_tasks(&mut rows.tasks, 0, arrivals) {
-        Ok(()) => {}
-        Err(_) => return Err(AllocError),
-    }
-    match add_spots(&mut rows, spots) {
-        Ok(()) => {}
-        Err(_) => return Err(AllocError),
-    }
-    match add_bags(&mut rows, bags.into_kept()) {
-        Ok(()) => {}
-        Err(_) => return Err(AllocError),
-    }
+    add_tasks(&mut rows.tasks, 0, arrivals)?;
+    add_spots(&mut rows, spots)?;
+    add_bags(&mut rows, bags.into_kept())?;
     Ok(rows)
 }
 
@@ -76,10 +67,7 @@ fn add_spots(rows: &mut Rows, spots: Vec<RegionData>) -> Result<(), AllocError>
     ensures listed { OnOk result (All IsListed spots.items) }
 {
     for spot in spots {
-        match add_body(rows, spot) {
-            Ok(()) => {}
-            Err(_) => return Err(AllocError),
-        }
+        add_body(rows, spot)?;
     }
     Ok(())
 }
@@ -96,10 +84,7 @@ fn add_bags(rows: &mut Rows, bags: Vec<Kept>) -> Result<(), AllocError>
     ensures listed { OnOk result (All (λ b. IsListed b.body) bags.items) }
 {
     for bag in bags {
-        match add_bag(rows, bag) {
-            Ok(()) => {}
-            Err(_) => return Err(AllocError),
-        }
+        add_bag(rows, bag)?;
     }
     Ok(())
 }
@@ -147,10 +132,7 @@ fn add_tasks(rows: &mut Vec<TaskRow>, tick: u64, tasks: Vec<Dated>) -> Result<()
     ensures { OnOk result (rows.new.items ≡ rows.old.items ++ map (row_of tick) tasks.items) }
 {
     for dated in tasks {
-        match rows.push(row(tick, dated)) {
-            Ok(()) => {}
-            Err(_) => return Err(AllocError),
-        }
+        rows.push(row(tick, dated))?;
     }
     Ok(())
 }

@@ -290,18 +290,9 @@ impl Store {
             bags,
             places: _,
         } = self;
-        let mut rows = match rows::list(alloc, arrivals, spots, bags) {
-            Ok(rows) => rows,
-            Err(_) => return Err(AllocError),
-        };
-        match sorting::sort_blocks(&mut rows.blocks) {
-            Ok(()) => {}
-            Err(_) => return Err(AllocError),
-        }
-        match sorting::sort_entities(&mut rows.entities) {
-            Ok(()) => {}
-            Err(_) => return Err(AllocError),
-        }
+        let mut rows = rows::list(alloc, arrivals, spots, bags)?;
+        sorting::sort_blocks(&mut rows.blocks)?;
+        sorting::sort_entities(&mut rows.entities)?;
         sorting::sort_tasks(&mut rows.tasks);
         Ok(rows)
     }

@@ -30,10 +30,7 @@ impl Store {
         ensures spare { self.old.spare ≤ self.new.spare }
         ensures slots { self.old.slots ≤ self.new.slots }
     {
-        match self.hand_out() {
-            Ok(()) => {}
-            Err(_) => return Err(AllocError),
-        }
+        self.hand_out()?;
         self.draw_noted(id as usize)
     }
 
@@ -50,10 +47,7 @@ impl Store {
         ensures others { (u : ℕ) → u ≢ id → bag_of self.new u ≡ bag_of self.old u }
     {
         let touched = self.reopen(id);
-        match self.draw_touched(id, &touched) {
-            Ok(()) => {}
-            Err(_) => return Err(AllocError),
-        }
+        self.draw_touched(id, &touched)?;
         self.finish(id);
         Ok(())
     }
@@ -79,10 +73,7 @@ impl Store {
             → is_recorded (bag_of self.old id).chunks q ≡ true → IsGathered self.new id q) }
     {
         for c in touched {
-            match self.draw_known(id, *c) {
-                Ok(()) => {}
-                Err(_) => return Err(AllocError),
-            }
+            self.draw_known(id, *c)?;
         }
         Ok(())
     }

@@ -25,10 +25,7 @@ impl Store {
             → IsGathered self.new id q) }
     {
         for c in chunks {
-            match self.draw(id, chunks, *c) {
-                Ok(()) => {}
-                Err(_) => return Err(AllocError),
-            }
+            self.draw(id, chunks, *c)?;
         }
         Ok(())
     }
@@ -99,10 +96,7 @@ impl Store {
         ensures draws { Draws id chunks.now self.old self.new }
         ensures home { OnOk result ((place self.new c).bag ≡ Some id) }
     {
-        match self.pull(from, id, chunks, c) {
-            Ok(()) => {}
-            Err(_) => return Err(AllocError),
-        }
+        self.pull(from, id, chunks, c)?;
         self.release(from);
         Ok(())
     }

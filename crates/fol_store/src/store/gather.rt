@@ -34,10 +34,7 @@ impl Store {
         ensures spare { self.old.spare ≤ self.new.spare }
         ensures slots { self.old.slots ≤ self.new.slots }
     {
-        let listed = match Vec::from_slice(self.alloc, chunks) {
-            Ok(list) => list,
-            Err(_) => return Err(AllocError),
-        };
+        let listed = Vec::from_slice(self.alloc, chunks)?;
         self.unsettle(id);
         self.fill(id as usize, chunks, listed)
     }
@@ -61,14 +58,8 @@ impl Store {
         ensures err { OnErr result (Touched (bag_of self.old id) (bag_of self.new id)) }
         ensures others { OthersSpared id chunks.now (bag_of self.old) (bag_of self.new) }
     {
-        match self.prepare(id, chunks, listed) {
-            Ok(()) => {}
-            Err(_) => return Err(AllocError),
-        }
-        match self.draw_all(id, chunks) {
-            Ok(()) => {}
-            Err(_) => return Err(AllocError),
-        }
+        self.prepare(id, chunks, listed)?;
+        self.draw_all(id, chunks)?;
         self.finish(id);
         Ok(())
     }
@@ -90,14 +81,8 @@ impl Store {
         ensures err { OnErr result (bag_of self.new ≡ bag_of self.old) }
         ensures empty { OnOk result (self.new.arrivals ≡ []) }
     {
-        match self.hand_out() {
-            Ok(()) => {}
-            Err(_) => return Err(AllocError),
-        }
-        match self.drop_others(id, chunks) {
-            Ok(()) => {}
-            Err(_) => return Err(AllocError),
-        }
+        self.hand_out()?;
+        self.drop_others(id, chunks)?;
         self.relist(id, chunks, listed);
         Ok(())
     }

@@ -29,18 +29,9 @@ impl Store {
         ensures bags { IfOk result (λ s. bag_of s ≡ λ id. no_bag) }
         ensures next { IfOk result (λ s. next_of s ≡ 1) }
     {
-        let mut store = match Store::bare(alloc) {
-            Ok(store) => store,
-            Err(_) => return Err(AllocError),
-        };
-        match store.lay_blocks(opening.blocks.as_slice()) {
-            Ok(()) => {}
-            Err(_) => return Err(AllocError),
-        }
-        match store.lay_entities(opening.entities.as_slice()) {
-            Ok(()) => {}
-            Err(_) => return Err(AllocError),
-        }
+        let mut store = Store::bare(alloc)?;
+        store.lay_blocks(opening.blocks.as_slice())?;
+        store.lay_entities(opening.entities.as_slice())?;
         Ok(store)
     }
 
@@ -49,10 +40,7 @@ impl Store {
         ensures bare { IfOk result IsBare }
         ensures next { IfOk result (λ s. next_of s ≡ 1) }
     {
-        let bags = match Bags::closed(alloc) {
-            Ok(bags) => bags,
-            Err(_) => return Err(AllocError),
-        };
+        let bags = Bags::closed(alloc)?;
         Ok(Store {
             alloc,
             arrivals: Vec::new(alloc),
@@ -74,10 +62,7 @@ impl Store {
         ensures bags { self.new.bags ≡ self.old.bags }
     {
         for block in blocks {
-            match self.lay_block(block.at, block.id) {
-                Ok(()) => {}
-                Err(_) => return Err(AllocError),
-            }
+            self.lay_block(block.at, block.id)?;
         }
         Ok(())
     }
@@ -134,10 +119,7 @@ impl Store {
         ensures bags { self.new.bags ≡ self.old.bags }
     {
         for entity in entities {
-            match self.lay_entity(*entity) {
-                Ok(()) => {}
-                Err(_) => return Err(AllocError),
-            }
+            self.lay_entity(*entity)?;
         }
         Ok(())
     }

@@ -59,10 +59,7 @@ impl Store {
         ensures places { self.new.places ≡ self.old.places }
     {
         let i = self.spots.len();
-        match spots::add(self.alloc, &mut self.spots) {
-            Ok(()) => {}
-            Err(_) => return Err(AllocError),
-        }
+        spots::add(self.alloc, &mut self.spots)?;
         Ok(i)
     }
 
@@ -82,10 +79,7 @@ impl Store {
             spot: Some(i),
             bag: place.bag,
         };
-        match self.places.set(c, named) {
-            Ok(()) => {}
-            Err(_) => return Err(AllocError),
-        }
+        self.places.set(c, named)?;
         Ok(i)
     }
 
@@ -96,10 +90,7 @@ impl Store {
         ensures empty { OnOk result (self.new.arrivals ≡ []) }
     {
         while !self.arrivals.is_empty() {
-            match self.hand_out_last() {
-                Ok(()) => {}
-                Err(_) => return Err(AllocError),
-            }
+            self.hand_out_last()?;
         }
         Ok(())
     }
@@ -174,14 +165,9 @@ impl Store {
         ensures bags { bag_of self.new ≡ bag_of self.old }
         ensures len { OnOk result (length self.new.arrivals + 1 ≡ length self.old.arrivals) }
     {
-        let i = match self.spot_of(c) {
-            Ok(i) => i,
-            Err(_) => return Err(AllocError),
-        };
-        match self.note(c) {
-            Ok(()) => self.hand_out_to(i, c),
-            Err(_) => Err(AllocError),
-        }
+        let i = self.spot_of(c)?;
+        self.note(c)?;
+        self.hand_out_to(i, c)
     }
 
     /// Notes that tasks may lie in the spot of a chunk, for a listed bag that has the chunk and is not calm.
@@ -234,10 +220,7 @@ impl Store {
         ensures bags { self.new.bags ≡ self.old.bags }
         ensures len { OnOk result (length self.new.arrivals + 1 ≡ length self.old.arrivals) }
     {
-        match spots::make_room(&mut self.spots, i) {
-            Ok(()) => {}
-            Err(_) => return Err(AllocError),
-        }
+        spots::make_room(&mut self.spots, i)?;
         match self.arrivals.pop() {
             Some(dated) => spots::queue(&mut self.spots, i, dated),
             None => unreachable!(),
@@ -313,10 +296,7 @@ impl Store {
         for k in 0..own.len() {
             let c = own[k];
             if !list.has(c) {
-                match self.evict(id, c) {
-                    Ok(()) => {}
-                    Err(_) => return Err(AllocError),
-                }
+                self.evict(id, c)?;
             }
         }
         Ok(())

@@ -1,4 +1,4 @@
-use Rattle.std.proofs.Common.{◌≡◌, ◌∙◌, refl, ap, arith, length}
+use Rattle.std.proofs.Common.{◌∙◌, refl, ap, arith, length}
 use Rattle.fol_store.proofs.Handing.{both, roomier, through}
 use Rattle.fol_store.proofs.store.Store.deliver_more.Goals as goal
 

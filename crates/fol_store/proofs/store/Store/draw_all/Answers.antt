@@ -22,7 +22,7 @@ loop-c-preserved c = record {
             let z : ChunkPos = record { x = pos 0; z = pos 0 } in
             let q : get_or c.args.chunks.now c.loop-c.c-index z ≡ get_or c.args.chunks.now c.loop-c.c-index d = get_or-any c.args.chunks.now c.loop-c.c-index z d c.loop-c-test.true in
             let r : get_or c.args.chunks.now c.loop-c.c-index z ≡ get_or c.args.chunks.now k d = q ∙ ap (λ n. get_or c.args.chunks.now n d) e in
-            subst (IsGathered c.draw.new.self c.args.id) r c.in-Ok.ensures.gathered
+            subst (IsGathered c.draw.new.self c.args.id) r c.in_ok-draw.ensures.gathered
         | inr n ↦ c.draw.ensures.draws.gathered (get_or c.args.chunks.now k d) (c.loop-c.invariant.gathered k d (omega arith))
       ];
 }

@@ -7,4 +7,4 @@ pub returns-clause-draws : goal.returns-clause-draws
 returns-clause-draws c = draws_trans c.args.id c.args.chunks.now _ _ _ c.pull.ensures.draws (c.release.ensures.draws c.args.id c.args.chunks.now)
 
 pub returns-clause-home : goal.returns-clause-home
-returns-clause-home c = ap (λ (p : PlaceRows). (place_at p c.args.c).bag) c.release.ensures.places ∙ c.in-Ok.ensures.home
+returns-clause-home c = ap (λ (p : PlaceRows). (place_at p c.args.c).bag) c.release.ensures.places ∙ c.in_ok-pull.ensures.home

@@ -11,4 +11,4 @@ finish-requires-clause-here c =
     ap (λ (b : Bag). b.here) (c.draw_touched.ensures.draws.own ∙ own) ∙ c.requires.here
 
 pub finish-requires-clause-gathered : goal.finish-requires-clause-gathered
-finish-requires-clause-gathered c = λ q r. c.in-Ok.ensures.gathered q (sym (ap (λ (b : Bag). is_recorded b.chunks q) c.draw_touched.ensures.draws.own) ∙ r)
+finish-requires-clause-gathered c = λ q r. c.in_ok-draw_touched.ensures.gathered q (sym (ap (λ (b : Bag). is_recorded b.chunks q) c.draw_touched.ensures.draws.own) ∙ r)

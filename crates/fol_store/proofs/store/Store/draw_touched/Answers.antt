@@ -25,7 +25,7 @@ loop-c-preserved c = record {
             let r : get_or c.args.touched.now c.loop-c.c-index z ≡ get_or c.args.touched.now k d = q ∙ ap (λ n. get_or c.args.touched.now n d) e in
             let home : (place c.loop-c.self (get_or c.args.touched.now c.loop-c.c-index z)).bag ≡ Some c.args.id =
             ap (λ (p : PlaceRows). (place_at p (get_or c.args.touched.now c.loop-c.c-index z)).bag) c.loop-c.invariant.places ∙ ap (λ y. (place c.args.self.now y).bag) r ∙ h in
-            subst (IsGathered c.draw_known.new.self c.args.id) r (c.in-Ok.ensures.gathered home)
+            subst (IsGathered c.draw_known.new.self c.args.id) r (c.in_ok-draw_known.ensures.gathered home)
         | inr n ↦ c.draw_known.ensures.draws.gathered (get_or c.args.touched.now k d) (c.loop-c.invariant.drawn k d (omega arith) h)
       ];
 }

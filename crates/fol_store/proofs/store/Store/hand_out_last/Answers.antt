@@ -1,4 +1,4 @@
-use Rattle.std.proofs.Common.{◌≡◌, ◌∙◌, refl, ap, arith}
+use Rattle.std.proofs.Common.{◌∙◌, refl, ap}
 use Rattle.fol_bags.specs.Places.{PlaceRows, place_at}
 use Rattle.fol_store.proofs.Handing.{both, through}
 use Rattle.fol_store.proofs.store.Store.hand_out_last.Goals as goal

@@ -10,7 +10,7 @@ use Rattle.std.specs.Prelude.{All}
 use Rattle.fol_data.specs.Rests.{IsInTime}
 use Rattle.fol_store.proofs.store.Store.hand_out_to.Goals as goal
 
-stayed : (c : goal.In-Err) → Changed (the_view c.self.inside) (let t : Stock = record (the_view c.self.inside) { spots = c.make_room.new.spots.items } in t)
+stayed : (c : goal.After-from_residual) → Changed (the_view c.self.inside) (let t : Stock = record (the_view c.self.inside) { spots = c.make_room.new.spots.items } in t)
 stayed c =
     let long : length c.make_room.new.spots.items ≡ length c.self.inside.spots.items = omega arith in
     spot_same (the_view c.self.inside) c.make_room.new.spots.items c.args.i c.make_room.ensures.spots c.make_room.ensures.same c.make_room.ensures.timely long c.self.invariant
@@ -18,8 +18,8 @@ stayed c =
 pub invariant_of-self : goal.invariant_of-self
 invariant_of-self c = (stayed c).sound
 
-pub returns-in-Err-clause-same : goal.returns-in-Err-clause-same
-returns-in-Err-clause-same c = rw (← c.self.view_is) (stayed c).same
+pub returns-in_err-make_room-clause-same : goal.returns-in_err-make_room-clause-same
+returns-in_err-make_room-clause-same c = rw (← c.self.view_is) (stayed c).same
 
 pub queue-requires-clause-fresh : goal.queue-requires-clause-fresh
 queue-requires-clause-fresh c =

@@ -19,9 +19,9 @@ lay_block-requires-clause-above c = block_above c.args.blocks.now c.loop-block.b
 
 pub loop-block-preserved : goal.loop-block-preserved
 loop-block-preserved c = record {
-  blocks = λ q. c.in-Ok.ensures.blocks q ∙ block_more c.args.blocks.now c.loop-block.block-index _ _ q (found c.loop-block.self (of_block q)) c.requires.order c.loop-block-test.true (omega arith) (c.loop-block.invariant.blocks q);
-  entities = λ n. c.in-Ok.ensures.entities n ∙ c.loop-block.invariant.entities n;
-  tasks = λ n. c.in-Ok.ensures.tasks n ∙ c.loop-block.invariant.tasks n;
+  blocks = λ q. c.in_ok-lay_block.ensures.blocks q ∙ block_more c.args.blocks.now c.loop-block.block-index _ _ q (found c.loop-block.self (of_block q)) c.requires.order c.loop-block-test.true (omega arith) (c.loop-block.invariant.blocks q);
+  entities = λ n. c.in_ok-lay_block.ensures.entities n ∙ c.loop-block.invariant.entities n;
+  tasks = λ n. c.in_ok-lay_block.ensures.tasks n ∙ c.loop-block.invariant.tasks n;
   bags = c.lay_block.ensures.bags ∙ c.loop-block.invariant.bags;
 }
 

@@ -16,9 +16,9 @@ lay_entity-requires-clause-fresh c = c.loop-entity.invariant.entities _ ∙ enti
 
 pub loop-entity-preserved : goal.loop-entity-preserved
 loop-entity-preserved c = record {
-  entities = λ n. c.in-Ok.ensures.entities n ∙ entity_more c.args.entities.now c.loop-entity.entity-index _ _ n (found c.loop-entity.self (of_entity n)) c.requires.order c.loop-entity-test.true (omega arith) (c.loop-entity.invariant.entities n);
-  blocks = λ q. c.in-Ok.ensures.blocks q ∙ c.loop-entity.invariant.blocks q;
-  tasks = λ n. c.in-Ok.ensures.tasks n ∙ c.loop-entity.invariant.tasks n;
+  entities = λ n. c.in_ok-lay_entity.ensures.entities n ∙ entity_more c.args.entities.now c.loop-entity.entity-index _ _ n (found c.loop-entity.self (of_entity n)) c.requires.order c.loop-entity-test.true (omega arith) (c.loop-entity.invariant.entities n);
+  blocks = λ q. c.in_ok-lay_entity.ensures.blocks q ∙ c.loop-entity.invariant.blocks q;
+  tasks = λ n. c.in_ok-lay_entity.ensures.tasks n ∙ c.loop-entity.invariant.tasks n;
   bags = c.lay_entity.ensures.bags ∙ c.loop-entity.invariant.bags;
 }
 

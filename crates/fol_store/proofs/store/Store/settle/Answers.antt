@@ -1,7 +1,7 @@
 use Rattle.std.proofs.Common.{ℕ, true, false, ◌∙◌, ap}
 use Rattle.fol_store.specs.Bag.{Bag}
 use Rattle.fol_store.specs.Stock.{next_of}
-use Rattle.fol_keyed.proofs.Answers.{on_ok, on_err}
+use Rattle.fol_keyed.proofs.Answers.{always_err, on_ok, on_err}
 use Rattle.fol_store.proofs.Totals.{same_flat, same_jobs}
 use Rattle.fol_store.proofs.Noting.{touched_same, touched_unlisted}
 use Rattle.fol_store.proofs.store.Store.settle.Goals as goal
@@ -12,21 +12,21 @@ draw_noted-requires-clause-here c = ap (λ (f : ℕ → Bag). (f c.args.id).here
 pub draw_noted-requires-clause-listed : goal.draw_noted-requires-clause-listed
 draw_noted-requires-clause-listed c = ap (λ (f : ℕ → Bag). (f c.args.id).listed) c.hand_out.ensures.bags ∙ c.requires.listed
 
-pub returns-in-Err-clause-err : goal.returns-in-Err-clause-err
-returns-in-Err-clause-err c = touched_same _ _ (ap (λ (f : ℕ → Bag). f c.args.id) c.hand_out.ensures.bags)
+pub returns-in_err-hand_out-clause-err : goal.returns-in_err-hand_out-clause-err
+returns-in_err-hand_out-clause-err c = always_err c.from_residual.result _ (touched_same _ _ (ap (λ (f : ℕ → Bag). f c.args.id) c.hand_out.ensures.bags))
 
-pub returns-in-Err-clause-others : goal.returns-in-Err-clause-others
-returns-in-Err-clause-others c = λ u n. ap (λ (f : ℕ → Bag). f u) c.hand_out.ensures.bags
+pub returns-in_err-hand_out-clause-others : goal.returns-in_err-hand_out-clause-others
+returns-in_err-hand_out-clause-others c = λ u n. ap (λ (f : ℕ → Bag). f u) c.hand_out.ensures.bags
 
-pub returns-in-Err-clause-next : goal.returns-in-Err-clause-next
+pub returns-in_err-hand_out-clause-next : goal.returns-in_err-hand_out-clause-next
 unfolding next_of
-returns-in-Err-clause-next c = c.hand_out.ensures.same.bags
+returns-in_err-hand_out-clause-next c = c.hand_out.ensures.same.bags
 
-pub returns-in-Err-clause-contents : goal.returns-in-Err-clause-contents
-returns-in-Err-clause-contents c = same_flat _ _ c.hand_out.ensures.same.found
+pub returns-in_err-hand_out-clause-contents : goal.returns-in_err-hand_out-clause-contents
+returns-in_err-hand_out-clause-contents c = same_flat _ _ c.hand_out.ensures.same.found
 
-pub returns-in-Err-clause-tasks : goal.returns-in-Err-clause-tasks
-returns-in-Err-clause-tasks c = same_jobs _ _ c.hand_out.ensures.same.found
+pub returns-in_err-hand_out-clause-tasks : goal.returns-in_err-hand_out-clause-tasks
+returns-in_err-hand_out-clause-tasks c = same_jobs _ _ c.hand_out.ensures.same.found
 
 pub returns-clause-whole : goal.returns-clause-whole
 returns-clause-whole c = on_ok c.draw_noted.result _ _ c.draw_noted.ensures.whole
