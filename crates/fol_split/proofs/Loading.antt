@@ -1,13 +1,9 @@
 -- The runs of the sections of a list, from the front on.
 use Rattle.std.proofs.Common.{◌≡◌, ℕ, ◌+◌, ◌-◌, ◌≤◌, ◌<◌, sym, ◌∙◌, ap, arith, List, ◌∷◌, ◌++◌, length, get_or, take, drop, length-append}
-use Rattle.std.specs.Prelude.{IsTrue}
-use Rattle.std.specs.List.{All}
 use Rattle.std.specs.List.Sorted.{IsStrictlySortedBy}
 use Rattle.std.proofs.Math.Seq.{take-add}
 use Rattle.std.proofs.lemmas.List.{take-append-drop, take_rest, drop_more, length-take}
-use Rattle.std.proofs.lemmas.List.Elements.{All-take, All-drop}
 use Rattle.fol_model.specs.declared.places.SectionPos.{SectionPos}
-use Rattle.fol_model.specs.Geometry.{is_section}
 use Rattle.fol_model.specs.Universe.{section_cmp}
 use Rattle.fol_split.specs.declared.runs.Run.{Run}
 use Rattle.fol_split.specs.Runs.{sections_of}
@@ -24,9 +20,6 @@ module _ (order : List SectionPos) (done : ℕ) (d : SectionPos) (run : Run) (l 
 
   pub front_fits : done + length (sections_of run) ≤ length order
   front_fits = omega (arith, ap length front_more, length-append (take done order) (sections_of run), length-take done order, length-take (done + length (sections_of run)) order)
-
-  pub run_in_range : All (λ (s : SectionPos). IsTrue (is_section s)) order → All (λ (s : SectionPos). IsTrue (is_section s)) (sections_of run)
-  run_in_range all = rw run-next at (All-take (λ (s : SectionPos). IsTrue (is_section s)) (length (sections_of run)) (drop done order) (All-drop (λ (s : SectionPos). IsTrue (is_section s)) done order all))
 
   pub front_in_order : IsStrictlySortedBy section_cmp order → IsStrictlySortedBy section_cmp (take done order ++ sections_of run)
   front_in_order sorted =

@@ -39,9 +39,9 @@ impl Run {
     }
 
     /// The run with one section more behind it.
-    fn with(self, s: SectionPos) -> Run
-        requires { IsTrue (is_section s) }
-        ensures { result ≡ record { z = self.z; from = self.from; to = s.x +ℤ pos 1 } }
+    fn with(self, s: &SectionPos) -> Run
+        requires { IsTrue (is_section s.now) }
+        ensures { result ≡ record { z = self.z; from = self.from; to = s.now.x +ℤ pos 1 } }
     {
         Run {
             z: self.z,
@@ -92,8 +92,8 @@ impl Run {
     }
 
     /// Whether a section stands right behind the run.
-    fn is_before(self, s: SectionPos) -> bool
-        ensures { IsTrue result ↔ ((s.z ≡ self.z) × (s.x ≡ self.to)) }
+    fn is_before(self, s: &SectionPos) -> bool
+        ensures { IsTrue result ↔ ((s.now.z ≡ self.z) × (s.now.x ≡ self.to)) }
     {
         s.z == self.z && s.x == self.to
     }
@@ -428,10 +428,10 @@ fn first_run(first: SectionPos, rest: &[SectionPos]) -> Run
 {
     let mut run = Run::of(first);
     for s in rest {
-        if !run.is_before(*s) {
+        if !run.is_before(s) {
             return run;
         }
-        run = run.with(*s);
+        run = run.with(s);
     }
     run
 }
